@@ -1,0 +1,49 @@
+-- What a field that was read says of its bytes, and laws of `holds`. Assumes nothing.
+use mathlib.Core.Path.{_≡_, refl}
+use mathlib.Core.Bool.{Bool, true, false, cond}
+use mathlib.Core.List.{List}
+use Prim.Native.Nat.{ℕ, _+_, _≤_, _<_}
+use native.Mathlib.Omega.{arith}
+use lib.ListN.{length, getD}
+use Rattle.fields.specs.Digits.{number, numeric}
+use Rattle.fields.specs.Put.{part, sameList, holds}
+use Rattle.fields.specs.Field.{fieldOf}
+use Rattle.fields.specs.declared.Field.{Field}
+use Rattle.fields.specs.declared.Field.the-variants.{Number, NotNumeric}
+use Rattle.fields.proofs.PutLaws.{part-whole}
+use Rattle.fields.proofs.SameLaws.{same-parts, differ-parts}
+
+-- a field that holds a number is numeric, and that is its number
+pub field-is : (xs : List ℕ) (n : ℕ) → fieldOf xs ≡ Number n → (numeric xs ≡ true) × (n ≡ number xs)
+unfolding fieldOf
+field-is xs n e = go (numeric xs) refl e
+  where
+    go : (b : Bool) → numeric xs ≡ b → cond b (Number (number xs)) NotNumeric ≡ Number n → (numeric xs ≡ true) × (n ≡ number xs)
+    go true h k = (h, cc)
+    go false h k = let z : _≡_ {A = ℕ} 0 1 = cc in absurd (omega arith)
+
+pub field-isnt : (xs : List ℕ) → fieldOf xs ≡ NotNumeric → numeric xs ≡ false
+unfolding fieldOf
+field-isnt xs e = go (numeric xs) refl e
+  where
+    go : (b : Bool) → numeric xs ≡ b → cond b (Number (number xs)) NotNumeric ≡ NotNumeric → numeric xs ≡ false
+    go true h k = let z : _≡_ {A = ℕ} 0 1 = cc in absurd (omega arith)
+    go false h k = h
+
+-- a part that is compared with a list of its length
+pub holds-part : (xs ys : List ℕ) (i n : ℕ) → length ys ≡ n → sameList (part xs i n) ys ≡ holds xs i ys
+unfolding holds
+holds-part xs ys i n e = rw e
+
+-- a list holds another at an index, or not, by their elements
+module _ (xs ys : List ℕ) (i : ℕ) where
+  whole : part ys 0 (length ys) ≡ ys
+  whole = part-whole ys (length ys) refl
+
+  pub holds-same : i + length ys ≤ length xs → ((k : ℕ) → k < length ys → getD xs (i + k) 0 ≡ getD ys (0 + k) 0) → holds xs i ys ≡ true
+  unfolding holds
+  holds-same h e = rw whole at (same-parts xs ys i 0 (length ys) h (omega arith) e)
+
+  pub holds-differ : (k : ℕ) → k < length ys → (getD xs (i + k) 0 ≡ getD ys (0 + k) 0 → ⊥) → holds xs i ys ≡ false
+  unfolding holds
+  holds-differ k h d = rw whole at (differ-parts xs ys i 0 (length ys) k h d)

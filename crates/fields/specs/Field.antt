@@ -1,0 +1,10 @@
+-- What a field holds: its number where it holds digits only. Assumes nothing.
+use Prim.Native.Nat.{ℕ}
+use mathlib.Core.Bool.{cond}
+use mathlib.Core.List.{List}
+use Rattle.fields.specs.declared.Field.{Field}
+use Rattle.fields.specs.declared.Field.the-variants.{Number, NotNumeric}
+use Rattle.fields.specs.Digits.{number, numeric}
+
+unfoldable pub fieldOf : List ℕ → Field
+fieldOf xs = cond (numeric xs) (Number (number xs)) NotNumeric

@@ -1,0 +1,5 @@
+-- What the contracts of this crate, and of those above it, cite.
+pub mod Text
+pub mod Digits
+pub mod Put
+pub mod Field

@@ -1,0 +1,3 @@
+-- "Units and dates" of document 01.
+pub mod Units
+pub mod Calendar
