@@ -1,6 +1,6 @@
 -- Laws of `digits`, over the width. Assumes nothing.
 use mathlib.Core.Path.{_≡_, refl, sym, ap, ap₂, _∙_, subst}
-use mathlib.Core.Bool.{Bool, true, false, _&&_, false≢true}
+use mathlib.Core.Bool.{Bool, true, false, _&&_}
 use mathlib.Core.List.{List, [], _∷_, _++_}
 use Prim.Native.Nat.{ℕ, zero, suc, _+_, _-_, _*_, _/_, _%_, _^_, _≤_, _<_}
 use native.Mathlib.Nat.{mod-one, pow-suc, pow-succ', mod-lt, mod-eq-of-lt, mul-add-div-right, mul-add-mod-self-right, mul-assoc, mul-comm, not-suc-le-zero, le-of-suc-le-suc, div-div-eq-div-mul}
@@ -9,6 +9,7 @@ use lib.ListN.{length, getD, set, length-append}
 use Rattle.fields.specs.Put.{put}
 use Rattle.fields.specs.Field.{fieldOf}
 use Rattle.fields.specs.declared.Field.the-variants.{Number, NotNumeric}
+use Rattle.fields.proofs.BoolLaws.{and-both}
 use Rattle.fields.proofs.PutLaws.{put-cons}
 use lib.Arith.{mod-mul, digits-lt, digits-div}
 use lib.Dec.{leb, lit<}
@@ -40,10 +41,6 @@ number-digits-mod (suc w) n =
 
 pub number-digits : (w n : ℕ) → n < 10 ^ w → number (digits w n) ≡ n
 number-digits w n h = number-digits-mod w n ∙ mod-eq-of-lt h
-
-pub and-both : (a b : Bool) → (a && b) ≡ true → (a ≡ true) × (b ≡ true)
-and-both true b h = (refl, h)
-and-both false b h = absurd (false≢true h)
 
 pub isDigit-range : (x : ℕ) → isDigit x ≡ true → (48 ≤ x) × (x ≤ 57)
 unfolding isDigit

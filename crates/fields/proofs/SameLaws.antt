@@ -12,7 +12,7 @@ use borrow.Author.Tests.{eq-eqb, ne-eqb, eqb-true}
 use Rattle.fields.specs.Put.{sameList}
 use Rattle.fields.specs.Put.{part}
 use Rattle.fields.proofs.PutLaws.{length-part}
-use Rattle.fields.proofs.DigitLaws.{and-both}
+use Rattle.fields.proofs.BoolLaws.{and-both}
 
 pub same-refl : (xs : List ℕ) → sameList xs xs ≡ true
 unfolding sameList

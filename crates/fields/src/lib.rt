@@ -2,7 +2,7 @@
 ghost use mathlib.Core.Path.{_≡_};
 ghost use Prim.Native.Nat.{_+_, _≤_};
 ghost use lib.ListN.{length};
-ghost use Rattle.fields.specs.Digits.{digits};
+ghost use Rattle.fields.specs.Digits.{digits, isDigit};
 ghost use Rattle.fields.specs.Put.{put, part, filled, sameList, holds};
 ghost use Rattle.fields.specs.Field.{fieldOf};
 
@@ -51,6 +51,13 @@ pub fn put_fill(out: &mut [u8], at: usize, width: usize, b: u8)
         out[at + i] = b;
         i += 1;
     }
+}
+
+// Whether a code is that of a digit.
+pub fn is_digit(x: u8) -> bool
+    ensures { λ r. ⌜ r ≡ isDigit x ⌝ }
+{
+    (48 <= x) & (x <= 57)
 }
 
 // What a field holds: a number, where it holds digits only.

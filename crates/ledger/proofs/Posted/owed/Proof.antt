@@ -1,0 +1,28 @@
+-- `ledger::Posted::owed` meets its contract: the value is told to be none.
+use borrow.Author.Needs.{needs}
+use Rattle.ledger.proofs.Posted.owed.Statement.{statement}
+use Rattle.ledger.proofs.Posted.owed.Tie as tie
+use Rattle.ledger.proofs.Posted.owed.Reads as reads
+use Rattle.ledger.proofs.Posted.owed.Lts as lts
+
+enum-told : tie.Need-enum-told
+enum-told c = search needs
+
+enum-known-self : tie.Need-enum-known-self
+enum-known-self c = search needs
+
+enum-known-self-2 : tie.Need-enum-known-self-2
+enum-known-self-2 c = search needs
+
+returns : tie.Need-returns
+returns c = rw (c .enum-told .given .1)
+
+returns-2 : tie.Need-returns-2
+returns-2 c = search needs
+
+returns-3 : tie.Need-returns-3
+returns-3 c = search needs
+
+pub owed-spec : {M : Type 1} → statement M
+owed-spec =
+    tie.close (tie.spec enum-told enum-known-self enum-known-self-2 returns returns-2 returns-3)

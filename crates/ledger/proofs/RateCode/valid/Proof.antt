@@ -1,0 +1,53 @@
+-- `ledger::RateCode::valid` meets its contract: the strict tests are those of `isRateCode`.
+use borrow.Author.Needs.{needs}
+use mathlib.Core.Bool.{and-true}
+use Rattle.ledger.specs.Bills.{isRateCode}
+use Rattle.ledger.proofs.RateCode.valid.Statement.{statement}
+use Rattle.ledger.proofs.RateCode.valid.Tie as tie
+use Rattle.ledger.proofs.RateCode.valid.Reads as reads
+use Rattle.ledger.proofs.RateCode.valid.Lts as lts
+use Rattle.fields.proofs.is_digit.Reads as is-digit-reads
+use Rattle.ledger.proofs.sound.is_letter.Reads as is-letter-reads
+
+is-letter-requires : tie.Need-is-letter-requires
+is-letter-requires c κs = search needs
+
+is-digit-requires : tie.Need-is-digit-requires
+is-digit-requires c κs = search needs
+
+is-letter-requires-2 : tie.Need-is-letter-requires-2
+is-letter-requires-2 c κs = search needs
+
+is-digit-requires-2 : tie.Need-is-digit-requires-2
+is-digit-requires-2 c κs = search needs
+
+is-digit-requires-3 : tie.Need-is-digit-requires-3
+is-digit-requires-3 c κs = search needs
+
+is-digit-requires-4 : tie.Need-is-digit-requires-4
+is-digit-requires-4 c κs = search needs
+
+returns : tie.Need-returns
+unfolding isRateCode
+returns c =
+    rw (
+      c .before .before .before .before .before .is-letter .ensures,
+      c .before .before .before .before .is-digit .ensures,
+      c .before .before .before .is-letter2 .ensures,
+      c .before .before .is-digit2 .ensures,
+      c .before .is-digit3 .ensures,
+      c .is-digit4 .ensures,
+      and-true,
+    )
+
+pub valid-spec : {M : Type 1} → statement M
+valid-spec =
+    tie.close
+    (tie.spec
+    is-letter-requires
+    is-digit-requires
+    is-letter-requires-2
+    is-digit-requires-2
+    is-digit-requires-3
+    is-digit-requires-4
+    returns)

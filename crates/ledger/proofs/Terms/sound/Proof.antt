@@ -1,0 +1,52 @@
+-- `ledger::Terms::sound` meets its contract: the strict tests are those of `termsTests`, joined from the left.
+use borrow.Author.Needs.{needs}
+use lib.ListN.{drop}
+use Rattle.fields.specs.Digits.{fits}
+use Rattle.ledger.specs.Sound.{termsTests}
+use Rattle.ledger.proofs.ListLaws.{all-joined}
+use Rattle.ledger.proofs.Terms.sound.Statement.{statement}
+use Rattle.ledger.proofs.Terms.sound.Tie as tie
+use Rattle.ledger.proofs.Terms.sound.Reads as reads
+use Rattle.ledger.proofs.Terms.sound.Lts as lts
+use Rattle.ledger.proofs.RateCode.valid.Reads as RateCode-valid-reads
+use Rattle.units.proofs.Ccf.fits.Reads as fits-reads
+use Rattle.units.proofs.Date.valid.Reads as Date-valid-reads
+
+valid-requires : tie.Need-valid-requires
+valid-requires c κs = search needs
+
+fits-requires : tie.Need-fits-requires
+fits-requires c κs = search needs
+
+valid-requires-2 : tie.Need-valid-requires-2
+valid-requires-2 c κs = search needs
+
+valid-requires-3 : tie.Need-valid-requires-3
+valid-requires-3 c κs = search needs
+
+valid-requires-4 : tie.Need-valid-requires-4
+valid-requires-4 c κs = search needs
+
+returns : tie.Need-returns
+unfolding termsTests
+returns c =
+    let t = c .before .before .before .before .before .before .before .before .before .before .before .before .before .before .before .args .self in
+    rw (
+      c .before .before .before .before .before .before .before .before .before .valid .ensures,
+      c .before .before .before .fits2 .ensures,
+      c .before .before .valid2 .ensures,
+      c .before .valid3 .ensures,
+      c .valid4 .ensures,
+    )
+    (all-joined (fits 12 (t .identity .account)) (drop 1 (termsTests t)))
+
+pub sound-spec : {M : Type 1} → statement M
+sound-spec =
+    tie.close
+    (tie.spec
+    valid-requires
+    fits-requires
+    valid-requires-2
+    valid-requires-3
+    valid-requires-4
+    returns)

@@ -1,0 +1,160 @@
+-- A bill: what it holds, what its amounts count for, its state, and how it changes. Assumes nothing.
+use Prim.Native.Nat.{ℕ, _+_}
+use mathlib.Core.Bool.{Bool, true, false, cond, not, _&&_, _||_}
+use mathlib.Core.List.{List, [], _∷_}
+use lib.Dec.{leb, eqb}
+use lib.ListN.{length, getD}
+use Rattle.fields.specs.Digits.{isDigit}
+use Rattle.units.specs.declared.Cents.{Cents}
+use Rattle.units.specs.declared.Ccf.{Ccf}
+use Rattle.units.specs.declared.Date.{Date}
+use Rattle.ledger.specs.declared.Identity.{Identity}
+use Rattle.ledger.specs.declared.RateCode.{RateCode}
+use Rattle.ledger.specs.declared.Product.{Product}
+use Rattle.ledger.specs.declared.Product.the-variants as product
+use Rattle.ledger.specs.declared.Posted.{Posted}
+use Rattle.ledger.specs.declared.Posted.the-variants as posted
+use Rattle.ledger.specs.declared.Latest.{Latest}
+use Rattle.ledger.specs.declared.Terms.{Terms}
+use Rattle.ledger.specs.declared.Bill.{Bill}
+use Rattle.ledger.specs.declared.State.{State}
+use Rattle.ledger.specs.declared.State.the-variants.{Open, Issued, Cancelled}
+
+-- ---- what a bill holds
+-- "A bill is identified by Customer Account Number and Bill Key": the bill has this identity
+abbrev pub isOf : Identity → Terms → Bool
+isOf id t = eqb (t .identity .account) (id .account) && eqb (t .identity .key) (id .key)
+
+abbrev pub isLetter : ℕ → Bool
+isLetter x = leb 65 x && leb x 90
+
+-- "its rate code (two of A-Z or 0-9, then C, then two digits)", as bytes
+unfoldable pub isRateCode : List ℕ → Bool
+isRateCode r =
+    eqb (length r) 5
+    && (isLetter (getD r 0 0) || isDigit (getD r 0 0))
+    && (isLetter (getD r 1 0) || isDigit (getD r 1 0))
+    && eqb (getD r 2 0) 67
+    && isDigit (getD r 3 0)
+    && isDigit (getD r 4 0)
+
+-- the bytes of a rate code
+abbrev pub codeBytes : RateCode → List ℕ
+codeBytes c = c .first ∷ c .second ∷ 67 ∷ c .tens ∷ c .ones ∷ []
+
+abbrev pub isPrepay : Product → Bool
+isPrepay product.BillReady = false
+isPrepay product.Prepay = true
+
+-- ---- its state
+-- "open while today is at or before the Scheduled Date", if it is not cancelled
+abbrev pub isOpen : Date → Terms → Bool
+isOpen today t = not (t .cancelled) && leb (today .0) (t .latest .scheduled .0)
+
+-- "It is cancelled if marked; else open while today is at or before the Scheduled Date; else issued."
+unfoldable pub stateOf : Date → Terms → State
+stateOf today t = cond (t .cancelled) Cancelled (cond (isOpen today t) Open Issued)
+
+-- ---- its posted amounts
+abbrev pub cents : ℕ → Cents
+cents n = record { 0 = n }
+
+-- "None counts as zeros; for Bill Ready applied is 0 and owed is the charge."
+abbrev pub chargeOf : Posted → Cents
+chargeOf posted.None = cents 0
+chargeOf (posted.BillReady charge) = charge
+chargeOf (posted.Prepay charge applied owed) = charge
+
+abbrev pub appliedOf : Posted → Cents
+appliedOf posted.None = cents 0
+appliedOf (posted.BillReady charge) = cents 0
+appliedOf (posted.Prepay charge applied owed) = applied
+
+abbrev pub owedOf : Posted → Cents
+owedOf posted.None = cents 0
+owedOf (posted.BillReady charge) = charge
+owedOf (posted.Prepay charge applied owed) = owed
+
+-- ---- how it changes
+-- "A new identity is added with sequence and count 1."
+abbrev pub firstBill : Identity → RateCode → Product → Latest → Bill
+firstBill id code p latest =
+    record {
+      terms = record { identity = id; code = code; product = p; sequence = 1; requests = 1; cancelled = false; latest = latest };
+      posted = posted.None;
+    }
+
+-- "A known one takes the new values, sequence and count each rising by 1; posted amounts stay."
+abbrev pub renewed : Latest → Bill → Bill
+renewed latest b =
+    record {
+      terms =
+          record {
+            identity = b .terms .identity;
+            code = b .terms .code;
+            product = b .terms .product;
+            sequence = b .terms .sequence + 1;
+            requests = b .terms .requests + 1;
+            cancelled = b .terms .cancelled;
+            latest = latest;
+          };
+      posted = b .posted;
+    }
+
+-- "The group's amounts replace the posted ones; a SUP also raises the sequence by 1"
+abbrev pub posting : Posted → Bool → Bill → Bill
+posting amounts sup b =
+    record {
+      terms =
+          record {
+            identity = b .terms .identity;
+            code = b .terms .code;
+            product = b .terms .product;
+            sequence = cond sup (b .terms .sequence + 1) (b .terms .sequence);
+            requests = b .terms .requests;
+            cancelled = b .terms .cancelled;
+            latest = b .terms .latest;
+          };
+      posted = amounts;
+    }
+
+-- Cancel: "marks the bill, its posted amounts become none"
+abbrev pub cancelledBill : Bill → Bill
+cancelledBill b =
+    record {
+      terms =
+          record {
+            identity = b .terms .identity;
+            code = b .terms .code;
+            product = b .terms .product;
+            sequence = b .terms .sequence;
+            requests = b .terms .requests;
+            cancelled = true;
+            latest = b .terms .latest;
+          };
+      posted = posted.None;
+    }
+
+-- what stands in a place that no bill was put in yet
+abbrev pub blankBill : Bill
+blankBill =
+    record {
+      terms =
+          record {
+            identity = record { account = 0; key = 0 };
+            code = record { first = 0; second = 0; tens = 0; ones = 0 };
+            product = product.BillReady;
+            sequence = 0;
+            requests = 0;
+            cancelled = false;
+            latest =
+                record {
+                  tracking = 0;
+                  consumption = record { 0 = 0 };
+                  billing = record { 0 = 0 };
+                  from = record { 0 = 0 };
+                  scheduled = record { 0 = 0 };
+                };
+          };
+      posted = posted.None;
+    }

@@ -1,0 +1,78 @@
+-- The ledger as a book: "today, the next Tracking ID, the next Confirmation Number and up to 128 bills in order of first request".
+-- Assumes nothing.
+use Prim.Native.Nat.{ℕ, _+_}
+use mathlib.Core.Bool.{Bool}
+use mathlib.Core.List.{List}
+use lib.ListN.{take, set, replicate}
+use Rattle.units.specs.declared.Date.{Date}
+use Rattle.units.specs.Units.{fitsCents}
+use Rattle.ledger.specs.declared.Identity.{Identity}
+use Rattle.ledger.specs.declared.Bill.{Bill}
+use Rattle.ledger.specs.declared.Ledger.{Ledger}
+use Rattle.ledger.specs.declared.Found.{Found}
+use Rattle.ledger.specs.Lists.{sum, find}
+use Rattle.ledger.specs.Bills.{isOf, chargeOf, blankBill}
+
+-- what document 01 calls a ledger
+pub record Book : Type 0 where
+  pub today : Date
+  pub tracking : ℕ
+  pub confirmation : ℕ
+  pub bills : List Bill
+
+-- the bills that the struct holds: the first `count` of its places
+abbrev pub live : Ledger → List Bill
+live l = take (l .count) (l .bills)
+
+-- the book that the struct holds
+abbrev pub book : Ledger → Book
+book l = record { today = l .today; tracking = l .«next_tracking»; confirmation = l .«next_confirmation»; bills = live l }
+
+-- the place of the bill with this identity
+abbrev pub placeOf : Identity → List Bill → Found
+placeOf id bs = find (λ (b : Bill). isOf id (b .terms)) 0 bs
+
+-- the charge that a bill counts for, and whether it is in its width
+abbrev pub billCharge : Bill → ℕ
+billCharge b = chargeOf (b .posted) .0
+
+abbrev pub smallCharge : Bill → Bool
+smallCharge b = fitsCents (chargeOf (b .posted))
+
+-- "total sums the charges"
+abbrev pub totalOf : List Bill → ℕ
+totalOf bs = sum billCharge bs
+
+-- ---- the struct after a change
+-- with no bills
+abbrev pub emptyLedger : Date → ℕ → ℕ → Ledger
+emptyLedger today tracking confirmation =
+    record {
+      today = today;
+      «next_tracking» = tracking;
+      «next_confirmation» = confirmation;
+      count = 0;
+      bills = replicate 128 blankBill;
+    }
+
+-- with the bill at place i replaced
+abbrev pub replaced : Ledger → ℕ → Bill → Ledger
+replaced l i b =
+    record {
+      today = l .today;
+      «next_tracking» = l .«next_tracking»;
+      «next_confirmation» = l .«next_confirmation»;
+      count = l .count;
+      bills = set (l .bills) i b;
+    }
+
+-- with one bill more
+abbrev pub appended : Ledger → Bill → Ledger
+appended l b =
+    record {
+      today = l .today;
+      «next_tracking» = l .«next_tracking»;
+      «next_confirmation» = l .«next_confirmation»;
+      count = l .count + 1;
+      bills = set (l .bills) (l .count) b;
+    }

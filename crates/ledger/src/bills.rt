@@ -1,0 +1,188 @@
+// One bill: what its amounts count for, its state, and how a request, a posting and a cancel change it.
+ghost use mathlib.Core.Path.{_≡_};
+ghost use Prim.Native.Nat.{_<_, _≤_};
+ghost use Rattle.ledger.specs.Bills.{isPrepay, chargeOf, appliedOf, owedOf, isOf, isOpen, stateOf, blankBill, firstBill, renewed, posting, cancelledBill};
+use crate::Bill;
+use crate::Identity;
+use crate::Latest;
+use crate::Posted;
+use crate::Product;
+use crate::RateCode;
+use crate::State;
+use crate::Terms;
+use units::Ccf;
+use units::Cents;
+use units::Date;
+
+impl Product {
+    pub fn is_prepay(self) -> bool
+        ensures { λ r. ⌜ r ≡ isPrepay self ⌝ }
+    {
+        match self {
+            Product::BillReady => false,
+            Product::Prepay => true,
+        }
+    }
+}
+
+impl Posted {
+    pub fn charge(self) -> Cents
+        ensures { λ r. ⌜ r ≡ chargeOf self ⌝ }
+    {
+        match self {
+            Posted::None => Cents(0),
+            Posted::BillReady(charge) => charge,
+            Posted::Prepay {
+                charge,
+                applied: _,
+                owed: _,
+            } => charge,
+        }
+    }
+
+    pub fn applied(self) -> Cents
+        ensures { λ r. ⌜ r ≡ appliedOf self ⌝ }
+    {
+        match self {
+            Posted::None => Cents(0),
+            Posted::BillReady(_) => Cents(0),
+            Posted::Prepay {
+                charge: _,
+                applied,
+                owed: _,
+            } => applied,
+        }
+    }
+
+    pub fn owed(self) -> Cents
+        ensures { λ r. ⌜ r ≡ owedOf self ⌝ }
+    {
+        match self {
+            Posted::None => Cents(0),
+            Posted::BillReady(charge) => charge,
+            Posted::Prepay {
+                charge: _,
+                applied: _,
+                owed,
+            } => owed,
+        }
+    }
+}
+
+impl Terms {
+    pub fn is_of(self, id: Identity) -> bool
+        ensures { λ r. ⌜ r ≡ isOf id self ⌝ }
+    {
+        (self.identity.account == id.account) & (self.identity.key == id.key)
+    }
+
+    pub fn is_open(self, today: Date) -> bool
+        ensures { λ r. ⌜ r ≡ isOpen today self ⌝ }
+    {
+        !self.cancelled & today.at_most(self.latest.scheduled)
+    }
+
+    pub fn state(self, today: Date) -> State
+        ensures { λ r. ⌜ r ≡ stateOf today self ⌝ }
+    {
+        let cancelled = self.cancelled;
+        if cancelled {
+            return State::Cancelled;
+        }
+        if self.is_open(today) {
+            return State::Open;
+        }
+        State::Issued
+    }
+}
+
+impl Bill {
+    // What stands in a place that no bill was put in yet.
+    pub fn blank() -> Bill
+        ensures { λ r. ⌜ r ≡ blankBill ⌝ }
+    {
+        let zero = Date(0);
+        Bill {
+            terms: Terms {
+                identity: Identity { account: 0, key: 0 },
+                code: RateCode {
+                    first: 0,
+                    second: 0,
+                    tens: 0,
+                    ones: 0,
+                },
+                product: Product::BillReady,
+                sequence: 0,
+                requests: 0,
+                cancelled: false,
+                latest: Latest {
+                    tracking: 0,
+                    consumption: Ccf(0),
+                    billing: zero,
+                    from: zero,
+                    scheduled: zero,
+                },
+            },
+            posted: Posted::None,
+        }
+    }
+
+    // The bill of a new identity.
+    pub fn first(identity: Identity, code: RateCode, product: Product, latest: Latest) -> Bill
+        ensures { λ r. ⌜ r ≡ firstBill identity code product latest ⌝ }
+    {
+        Bill {
+            terms: Terms {
+                identity,
+                code,
+                product,
+                sequence: 1,
+                requests: 1,
+                cancelled: false,
+                latest,
+            },
+            posted: Posted::None,
+        }
+    }
+
+    // The bill after another request.
+    pub fn request(mut self, latest: Latest) -> Bill
+        requires { ⌜ (self .terms .requests ≤ self .terms .sequence) × (self .terms .sequence < 999) ⌝ }
+        ensures { λ r. ⌜ r ≡ renewed latest self ⌝ }
+    {
+        let mut terms = self.terms;
+        terms.sequence = terms.sequence + 1;
+        terms.requests = terms.requests + 1;
+        terms.latest = latest;
+        self.terms = terms;
+        self
+    }
+
+    // The bill with these amounts in the place of the posted ones; a SUP raises the sequence too.
+    pub fn post(mut self, amounts: Posted, sup: bool) -> Bill
+        requires { ⌜ self .terms .sequence ≤ 999 ⌝ }
+        ensures { λ r. ⌜ r ≡ posting amounts sup self ⌝ }
+    {
+        if sup {
+            let sequence = self.terms.sequence + 1;
+            self.terms.sequence = sequence;
+        }
+        let terms = self.terms;
+        Bill {
+            terms,
+            posted: amounts,
+        }
+    }
+
+    // The bill marked as cancelled, with no posted amounts.
+    pub fn cancel(mut self) -> Bill
+        ensures { λ r. ⌜ r ≡ cancelledBill self ⌝ }
+    {
+        self.terms.cancelled = true;
+        let terms = self.terms;
+        Bill {
+            terms,
+            posted: Posted::None,
+        }
+    }
+}

@@ -1,0 +1,91 @@
+// The ledger: its bills found, replaced, added and summed, and the signed change of its total.
+ghost use mathlib.Core.Path.{_≡_};
+ghost use mathlib.Core.Bool.{true};
+ghost use Prim.Native.Nat.{_<_, _≤_, _^_};
+ghost use lib.IntN.{pos, _-ℤ_};
+ghost use Rattle.ledger.specs.Lists.{every};
+ghost use Rattle.ledger.specs.Books.{emptyLedger, live, placeOf, replaced, appended, smallCharge, totalOf};
+use crate::Bill;
+use crate::Found;
+use crate::Identity;
+use crate::Ledger;
+use units::Cents;
+use units::Date;
+
+impl Ledger {
+    // A ledger with no bills.
+    pub fn empty(today: Date, tracking: u64, confirmation: u64) -> Ledger
+        ensures { λ r. ⌜ r ≡ emptyLedger today tracking confirmation ⌝ }
+    {
+        let blank = Bill::blank();
+        Ledger {
+            today: today,
+            next_tracking: tracking,
+            next_confirmation: confirmation,
+            count: 0,
+            bills: [blank; 128],
+        }
+    }
+
+    // The place of the bill with this identity.
+    pub fn find(self, id: Identity) -> Found
+        requires { ⌜ self .count ≤ 128 ⌝ }
+        ensures { λ r. ⌜ r ≡ placeOf id (live self) ⌝ }
+    {
+        let n = self.count;
+        let mut i = 0;
+        while i < n {
+            let b = self.bills[i];
+            if b.terms.is_of(id) {
+                return Found::At(i);
+            }
+            i += 1;
+        }
+        Found::Nothing
+    }
+
+    // The ledger with the bill at a place replaced.
+    pub fn replace(mut self, i: usize, b: Bill) -> Ledger
+        requires { ⌜ i < 128 ⌝ }
+        ensures { λ r. ⌜ r ≡ replaced self i b ⌝ }
+    {
+        self.bills[i] = b;
+        self
+    }
+
+    // The ledger with one bill more.
+    pub fn append(mut self, b: Bill) -> Ledger
+        requires { ⌜ self .count < 128 ⌝ }
+        ensures { λ r. ⌜ r ≡ appended self b ⌝ }
+    {
+        let at = self.count;
+        self.bills[at] = b;
+        self.count = at + 1;
+        self
+    }
+
+    // The sum of the posted charges.
+    pub fn total(self) -> Cents
+        requires { ⌜ (self .count ≤ 128) × (every smallCharge (live self) ≡ true) ⌝ }
+        ensures { λ r. ⌜ r .0 ≡ totalOf (live self) ⌝ }
+    {
+        let n = self.count;
+        let mut sum = Cents(0);
+        let mut i = 0;
+        while i < n {
+            let b = self.bills[i];
+            let p = b.posted;
+            sum = sum.plus(p.charge());
+            i += 1;
+        }
+        sum
+    }
+}
+
+// The signed change of a total.
+pub fn signed_change(new: Cents, old: Cents) -> i64
+    requires { ⌜ (new .0 < 2 ^ 63) × (old .0 < 2 ^ 63) ⌝ }
+    ensures { λ r. ⌜ r ≡ pos (new .0) -ℤ pos (old .0) ⌝ }
+{
+    (new.0 as i64) - (old.0 as i64)
+}

@@ -1,0 +1,86 @@
+// The ledger and its bills, by value: the types. What is done with a bill stands in bills.rt, with the ledger in
+// books.rt, and when a ledger is sound in sound.rt.
+pub mod bills;
+pub mod books;
+pub mod sound;
+
+use units::Ccf;
+use units::Cents;
+use units::Date;
+
+// What identifies a bill: Customer Account Number (12 digits) and Bill Key (4).
+pub struct Identity {
+    pub account: u64,
+    pub key: u64,
+}
+
+// Two of A-Z or 0-9, then C, then two digits: the C is not held.
+pub struct RateCode {
+    pub first: u8,
+    pub second: u8,
+    pub tens: u8,
+    pub ones: u8,
+}
+
+pub enum Product {
+    BillReady,
+    Prepay,
+}
+
+// A bill's posted amounts.
+pub enum Posted {
+    None,
+    BillReady(Cents),
+    Prepay {
+        charge: Cents,
+        applied: Cents,
+        owed: Cents,
+    },
+}
+
+// What a bill has from its latest request.
+pub struct Latest {
+    pub tracking: u64,
+    pub consumption: Ccf,
+    pub billing: Date,
+    pub from: Date,
+    pub scheduled: Date,
+}
+
+// A bill but for its posted amounts: what the rules read of it.
+pub struct Terms {
+    pub identity: Identity,
+    pub code: RateCode,
+    pub product: Product,
+    pub sequence: u64,
+    pub requests: u64,
+    pub cancelled: bool,
+    pub latest: Latest,
+}
+
+pub struct Bill {
+    pub terms: Terms,
+    pub posted: Posted,
+}
+
+// The bills held are the first `count`, in order of first request; the others play no part.
+pub struct Ledger {
+    pub today: Date,
+    pub next_tracking: u64,
+    pub next_confirmation: u64,
+    pub count: usize,
+    pub bills: [Bill; 128],
+}
+
+// Where a bill stands in its life.
+pub enum State {
+    Open,
+    Issued,
+    Cancelled,
+}
+
+// The place of a bill, from 0.
+pub enum Found {
+    At(usize),
+    Nothing,
+}

@@ -1,0 +1,133 @@
+// When a ledger is sound. The tests are strict (`&`), in the order of the definition.
+ghost use mathlib.Core.Path.{_≡_};
+ghost use Rattle.ledger.specs.Bills.{isLetter, isRateCode, codeBytes};
+ghost use Rattle.ledger.specs.Sound.{isNext, soundTerms, balanced, soundAmounts, soundBill, soundLedger};
+use crate::Bill;
+use crate::Ledger;
+use crate::Posted;
+use crate::RateCode;
+use crate::Terms;
+use units::Cents;
+
+fn is_letter(x: u8) -> bool
+    ensures { λ r. ⌜ r ≡ isLetter x ⌝ }
+{
+    (65 <= x) & (x <= 90)
+}
+
+impl RateCode {
+    // Two letters or digits, and two digits.
+    pub fn valid(self) -> bool
+        ensures { λ r. ⌜ r ≡ isRateCode (codeBytes self) ⌝ }
+    {
+        (is_letter(self.first) | fields::is_digit(self.first))
+            & (is_letter(self.second) | fields::is_digit(self.second))
+            & fields::is_digit(self.tens)
+            & fields::is_digit(self.ones)
+    }
+}
+
+// Whether n is a next number, or the one past the last.
+pub fn is_next(n: u64) -> bool
+    ensures { λ r. ⌜ r ≡ isNext n ⌝ }
+{
+    (1 <= n) & (n <= 1000000000)
+}
+
+impl Terms {
+    // Whether every field but the posted amounts is in its width and range.
+    pub fn sound(self) -> bool
+        ensures { λ r. ⌜ r ≡ soundTerms self ⌝ }
+    {
+        let id = self.identity;
+        let code = self.code;
+        let latest = self.latest;
+        (id.account < 1000000000000)
+            & (id.key < 10000)
+            & code.valid()
+            & (1 <= self.requests)
+            & (self.requests <= self.sequence)
+            & (self.sequence <= 999)
+            & (1 <= latest.tracking)
+            & (latest.tracking <= 999999999)
+            & latest.consumption.fits()
+            & latest.billing.valid()
+            & latest.from.valid()
+            & latest.scheduled.valid()
+    }
+}
+
+// Whether three amounts are in their width, and applied plus owed is the charge.
+fn is_balanced(charge: Cents, applied: Cents, owed: Cents) -> bool
+    ensures { λ r. ⌜ r ≡ balanced charge applied owed ⌝ }
+{
+    if charge.fits() & applied.fits() & owed.fits() {
+        return applied.plus(owed).same(charge);
+    }
+    false
+}
+
+impl Posted {
+    // Whether the amounts fit the bill that they are posted to.
+    pub fn sound(self, t: Terms) -> bool
+        ensures { λ r. ⌜ r ≡ soundAmounts t self ⌝ }
+    {
+        let product = t.product;
+        let cancelled = t.cancelled;
+        match self {
+            Posted::None => true,
+            Posted::BillReady(charge) => !cancelled & !product.is_prepay() & charge.fits(),
+            Posted::Prepay {
+                charge,
+                applied,
+                owed,
+            } => !cancelled & product.is_prepay() & is_balanced(charge, applied, owed),
+        }
+    }
+}
+
+impl Bill {
+    pub fn sound(self) -> bool
+        ensures { λ r. ⌜ r ≡ soundBill self ⌝ }
+    {
+        let terms = self.terms;
+        let posted = self.posted;
+        terms.sound() & posted.sound(terms)
+    }
+}
+
+impl Ledger {
+    // Whether the ledger is sound: cause 2 where it is not.
+    pub fn sound(self) -> bool
+        ensures { λ r. ⌜ r ≡ soundLedger self ⌝ }
+    {
+        let n = self.count;
+        let today = self.today;
+        let head = today.valid()
+            & is_next(self.next_tracking)
+            & is_next(self.next_confirmation)
+            & (n <= 128);
+        if !head {
+            return false;
+        }
+        let mut i = 0;
+        'bills: while i < n {
+            let b = self.bills[i];
+            if !b.sound() {
+                return false;
+            }
+            let terms = b.terms;
+            let id = terms.identity;
+            let mut j = i + 1;
+            'others: while j < n {
+                let o = self.bills[j];
+                if o.terms.is_of(id) {
+                    return false;
+                }
+                j += 1;
+            }
+            i += 1;
+        }
+        true
+    }
+}
