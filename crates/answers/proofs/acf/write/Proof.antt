@@ -1,0 +1,92 @@
+-- `answers::acf::write` meets its contract: six writes, one after the other.
+use borrow.Author.Needs.{needs}
+use native.Mathlib.Omega.{arith}
+use Rattle.fields.proofs.PutLaws.{first, next}
+use mathlib.Core.Path.{refl}
+use Rattle.fields.proofs.DigitLaws.{length-digits}
+use Rattle.answers.specs.Answers.{acf}
+use Rattle.notices.proofs.NoticeLaws.{length-ending}
+use Rattle.answers.proofs.AnswerLaws.{length-acf-lead, length-balance}
+use Rattle.answers.proofs.acf.write.Statement.{statement}
+use Rattle.answers.proofs.acf.write.Tie as tie
+
+is-prepay-requires : tie.Need-is-prepay-requires
+is-prepay-requires c κs = search needs
+
+is-sup-requires : tie.Need-is-sup-requires
+is-sup-requires c κs = search needs
+
+scheduled-of-requires : tie.Need-scheduled-of-requires
+scheduled-of-requires c κs = search needs
+
+put-lead-requires : tie.Need-put-lead-requires
+put-lead-requires c κs = search needs
+
+add-put-digits : tie.Need-add-put-digits
+add-put-digits c = search needs
+
+put-digits-requires : tie.Need-put-digits-requires
+put-digits-requires c κs = search needs
+
+add-put-digits-2 : tie.Need-add-put-digits-2
+add-put-digits-2 c = search needs
+
+put-digits-requires-2 : tie.Need-put-digits-requires-2
+put-digits-requires-2 c κs = search needs
+
+add-put-bytes : tie.Need-add-put-bytes
+add-put-bytes c = search needs
+
+slice-aggregate-put-bytes : tie.Need-slice-aggregate-put-bytes
+slice-aggregate-put-bytes c = search needs
+
+put-bytes-requires : tie.Need-put-bytes-requires
+put-bytes-requires c κs = search needs
+
+add-put-balance : tie.Need-add-put-balance
+add-put-balance c = search needs
+
+put-balance-requires : tie.Need-put-balance-requires
+put-balance-requires c κs = search needs
+
+add-put-end : tie.Need-add-put-end
+add-put-end c = search needs
+
+put-end-requires : tie.Need-put-end-requires
+put-end-requires c κs = search needs
+
+same-length : tie.Need-same-length
+same-length c = search needs
+
+returns : tie.Need-returns
+unfolding acf
+returns c =
+    let a = c .before .before .before .before .before .before .before .before .before .before .before .before .before .before .before .before .before .before .before .before .before .before .before .before .before .before .before .before .before .before .before .before .args in
+    let w1 = first (a .out .now) (a .at) _ (omega (arith, c .before .before .before .before .before .before .before .before .before .before .before .before .before .before .before .before .before .before .before .before .before .before .before .before .before .before .before .before .before .before .before .before .pre)) (c .before .before .before .before .before .before .before .before .before .before .before .before .before .before .before .before .before .before .before .before .before .before .before .put-lead .ensures) (length-acf-lead (a .h .now) (c .before .before .before .before .before .before .before .before .before .before .before .before .before .before .before .before .before .before .before .before .before .before .before .before .before .before .before .before .before .before .before .before .pre .1) (a .a)) in
+    let w2 = next w1 _ (c .before .before .before .before .before .before .before .before .before .before .before .before .before .before .before .before .before .before .before .put-digits .ensures) (length-digits 9 _) in
+    let w3 = next w2 _ (rw (c .before .before .before .before .before .before .before .before .before .before .before .before .before .before .before .before .before .before .before .before .before .before .before .before .before .scheduled-of .ensures, c .before .before .before .before .before .before .before .before .before .before .before .before .before .before .before .before .before .before .before .before .before .before .before .before .before .before .is-sup .ensures) at (c .before .before .before .before .before .before .before .before .before .before .before .before .before .before .before .put-digits2 .ensures)) (length-digits 8 _) in
+    let w4 = next w3 _ (c .before .before .before .before .before .before .before .before .before .before .put-bytes .ensures) refl in
+    let w5 = next w4 _ (rw (c .before .before .before .before .before .before .before .before .before .before .before .before .before .before .before .before .before .before .before .before .before .before .before .before .before .before .before .before .is-prepay .ensures) at (c .before .before .before .before .before .before .put-balance .ensures)) (length-balance (a .h .now) (c .before .before .before .before .before .before .before .before .before .before .before .before .before .before .before .before .before .before .before .before .before .before .before .before .before .before .before .before .before .before .before .before .pre .1) (a .a)) in
+    next w5 _ (c .before .before .put-end .ensures) (length-ending 247) .same
+
+pub write-spec : {M : Type 1} → statement M
+write-spec =
+    tie.close
+    (tie.spec
+    is-prepay-requires
+    is-sup-requires
+    scheduled-of-requires
+    put-lead-requires
+    add-put-digits
+    put-digits-requires
+    add-put-digits-2
+    put-digits-requires-2
+    add-put-bytes
+    slice-aggregate-put-bytes
+    put-bytes-requires
+    add-put-balance
+    put-balance-requires
+    add-put-end
+    put-end-requires
+    same-length
+    returns)

@@ -1,0 +1,89 @@
+-- `answers::rej::put_detail` meets its contract: seven writes, one after the other.
+use borrow.Author.Needs.{needs}
+use native.Mathlib.Omega.{arith}
+use Rattle.fields.proofs.PutLaws.{first, next}
+use mathlib.Core.Path.{refl}
+use Rattle.fields.proofs.DigitLaws.{length-digits}
+use Rattle.answers.specs.Answers.{rejDetail}
+use Rattle.notices.proofs.NoticeLaws.{length-ending}
+use Rattle.answers.proofs.AnswerLaws.{length-within, length-rej-lead, length-from}
+use Rattle.answers.proofs.rej.put_detail.Statement.{statement}
+use Rattle.answers.proofs.rej.put_detail.Tie as tie
+
+put-lead-requires : tie.Need-put-lead-requires
+put-lead-requires c κs = search needs
+
+add-put-part : tie.Need-add-put-part
+add-put-part c = search needs
+
+put-part-requires : tie.Need-put-part-requires
+put-part-requires c κs = search needs
+
+add-put-from : tie.Need-add-put-from
+add-put-from c = search needs
+
+put-from-requires : tie.Need-put-from-requires
+put-from-requires c κs = search needs
+
+add-put-part-2 : tie.Need-add-put-part-2
+add-put-part-2 c = search needs
+
+put-part-requires-2 : tie.Need-put-part-requires-2
+put-part-requires-2 c κs = search needs
+
+add-put-bytes : tie.Need-add-put-bytes
+add-put-bytes c = search needs
+
+slice-aggregate-put-bytes : tie.Need-slice-aggregate-put-bytes
+slice-aggregate-put-bytes c = search needs
+
+put-bytes-requires : tie.Need-put-bytes-requires
+put-bytes-requires c κs = search needs
+
+add-put-digits : tie.Need-add-put-digits
+add-put-digits c = search needs
+
+put-digits-requires : tie.Need-put-digits-requires
+put-digits-requires c κs = search needs
+
+add-put-end : tie.Need-add-put-end
+add-put-end c = omega (arith, c .before .before .before .before .before .before .before .before .before .before .before .before .before .before .before .before .before .before .before .before .before .before .before .before .before .before .before .before .pre, c .before .before .before .before .before .before .before .before .before .before .before .before .before .before .before .before .before .before .before .before .before .before .before .before .before .before .before .before .good)
+
+put-end-requires : tie.Need-put-end-requires
+put-end-requires c κs = search needs
+
+same-length : tie.Need-same-length
+same-length c = search needs
+
+returns : tie.Need-returns
+unfolding rejDetail
+returns c =
+    let a = c .before .before .before .before .before .before .before .before .before .before .before .before .before .before .before .before .before .before .before .before .before .before .before .before .before .before .before .before .before .before .before .args in
+    let w1 = first (a .out .now) (a .at) _ (omega (arith, c .before .before .before .before .before .before .before .before .before .before .before .before .before .before .before .before .before .before .before .before .before .before .before .before .before .before .before .before .before .before .before .pre)) (c .before .before .before .before .before .before .before .before .before .before .before .before .before .before .before .before .before .before .before .before .before .before .before .before .before .before .before .put-lead .ensures) (length-rej-lead (a .d .now) (c .before .before .before .before .before .before .before .before .before .before .before .before .before .before .before .before .before .before .before .before .before .before .before .before .before .before .before .before .before .before .before .pre .1) _) in
+    let w2 = next w1 _ (c .before .before .before .before .before .before .before .before .before .before .before .before .before .before .before .before .before .before .before .before .before .before .before .put-part .ensures) (length-within (a .d .now) (c .before .before .before .before .before .before .before .before .before .before .before .before .before .before .before .before .before .before .before .before .before .before .before .before .before .before .before .before .before .before .before .pre .1) 41 38 (omega arith)) in
+    let w3 = next w2 _ (c .before .before .before .before .before .before .before .before .before .before .before .before .before .before .before .before .before .before .before .put-from .ensures) (length-from (a .d .now) (c .before .before .before .before .before .before .before .before .before .before .before .before .before .before .before .before .before .before .before .before .before .before .before .before .before .before .before .before .before .before .before .pre .1) _) in
+    let w4 = next w3 _ (c .before .before .before .before .before .before .before .before .before .before .before .before .before .before .before .put-part2 .ensures) (length-within (a .d .now) (c .before .before .before .before .before .before .before .before .before .before .before .before .before .before .before .before .before .before .before .before .before .before .before .before .before .before .before .before .before .before .before .pre .1) 87 172 (omega arith)) in
+    let w5 = next w4 _ (c .before .before .before .before .before .before .before .before .before .before .put-bytes .ensures) refl in
+    let w6 = next w5 _ (c .before .before .before .before .before .before .put-digits .ensures) (length-digits 2 _) in
+    next w6 _ (c .before .before .put-end .ensures) (length-ending 57) .same
+
+pub put-detail-spec : {M : Type 1} → statement M
+put-detail-spec =
+    tie.close
+    (tie.spec
+    put-lead-requires
+    add-put-part
+    put-part-requires
+    add-put-from
+    put-from-requires
+    add-put-part-2
+    put-part-requires-2
+    add-put-bytes
+    slice-aggregate-put-bytes
+    put-bytes-requires
+    add-put-digits
+    put-digits-requires
+    add-put-end
+    put-end-requires
+    same-length
+    returns)

@@ -1,0 +1,2 @@
+-- The answers to a group.
+pub mod Answers

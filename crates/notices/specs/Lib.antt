@@ -1,0 +1,3 @@
+-- The layout of the records, and the notices.
+pub mod Layout
+pub mod Notices
