@@ -1,37 +1,16 @@
--- Laws of the records of a file, and of a REJ's details. Assumes nothing.
+-- Laws of a REJ's details. Assumes nothing.
 use mathlib.Core.Path.{_≡_, refl, sym, ap, _∙_}
 use mathlib.Core.Bool.{Bool}
 use mathlib.Core.List.{List, [], _∷_, _++_, append-assoc, append-nil}
-use Prim.Native.Nat.{ℕ, zero, suc, _+_, _-_, _*_, _≤_}
+use Prim.Native.Nat.{ℕ, zero, suc, _+_, _*_, _≤_}
 use native.Mathlib.Omega.{arith}
-use native.Mathlib.Nat.{add-zero}
 use native.Mathlib.Numerals.{add-one}
-use lib.ListN.{length, take, drop, length-append}
-use Rattle.fields.specs.Put.{part}
-use Rattle.fields.proofs.PutLaws.{length-part}
+use lib.ListN.{length, length-append}
 use Rattle.answers.specs.declared.rej.Rej.{Rej}
 use Rattle.notices.specs.Layout.{recordAt, recordsFrom, isSup}
+use Rattle.notices.proofs.LayoutLaws.{long-record, records-snoc}
 use Rattle.answers.specs.Answers.{rejHeader, rejDetail, rejDetails, rej}
 use Rattle.answers.proofs.AnswerLaws.{length-rej-header, length-rej-detail}
-
--- what a function lends that takes a record's bytes out of the file
-pub lent-record : (s : List ℕ) (i : ℕ) → take (i * 321 + 321 - i * 321) (drop (i * 321) s) ≡ recordAt s i
-unfolding part
-lent-record s i =
-    let e : i * 321 + 321 - i * 321 ≡ 321 = omega arith in
-    ap (λ (k : ℕ). take k (drop (i * 321) s)) e
-
-pub long-record : (s : List ℕ) (i : ℕ) → i * 321 + 321 ≤ length s → length (recordAt s i) ≡ 321
-long-record s i h = length-part s (i * 321) 321 h
-
--- one record more
-records-snoc : (s : List ℕ) (i k : ℕ) → recordsFrom s i (suc k) ≡ recordsFrom s i k ++ (recordAt s (i + k) ∷ [])
-unfolding recordsFrom
-records-snoc s i zero = ap (λ (j : ℕ). recordAt s j ∷ []) (sym (add-zero i))
-records-snoc s i (suc k) =
-    let e : i + 1 + k ≡ i + suc k = omega arith in
-    ap (λ (rs : List (List ℕ)). recordAt s i ∷ rs)
-    (records-snoc s (i + 1) k ∙ ap (λ (j : ℕ). recordsFrom s (i + 1) k ++ (recordAt s j ∷ [])) e)
 
 module _ (sup : Bool) (x : Rej) where
   details-snoc : (ds : List (List ℕ)) (d : List ℕ) → rejDetails sup (ds ++ (d ∷ [])) x ≡ rejDetails sup ds x ++ rejDetail sup d x

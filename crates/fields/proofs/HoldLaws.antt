@@ -1,17 +1,20 @@
 -- What a field that was read says of its bytes, and laws of `holds`. Assumes nothing.
-use mathlib.Core.Path.{_≡_, refl}
+use mathlib.Core.Path.{_≡_, refl, sym, ap, ap₂, _∙_, subst}
 use mathlib.Core.Bool.{Bool, true, false, cond}
 use mathlib.Core.List.{List}
-use Prim.Native.Nat.{ℕ, _+_, _≤_, _<_}
+use Prim.Native.Nat.{ℕ, _+_, _≤_, _<_, _^_}
 use native.Mathlib.Omega.{arith}
 use lib.ListN.{length, getD}
-use Rattle.fields.specs.Digits.{number, numeric}
+use lib.Dec.{eqb}
+use borrow.Author.Tests.{eqb-true, eqb-false}
+use Rattle.fields.specs.Digits.{digits, number, numeric}
 use Rattle.fields.specs.Put.{part, sameList, holds}
-use Rattle.fields.specs.Field.{fieldOf}
+use Rattle.fields.specs.Field.{fieldOf, value}
 use Rattle.fields.specs.declared.Field.{Field}
 use Rattle.fields.specs.declared.Field.the-variants.{Number, NotNumeric}
-use Rattle.fields.proofs.PutLaws.{part-whole}
-use Rattle.fields.proofs.SameLaws.{same-parts, differ-parts}
+use Rattle.fields.proofs.PutLaws.{length-part, part-whole}
+use Rattle.fields.proofs.DigitLaws.{number-lt, digits-number}
+use Rattle.fields.proofs.SameLaws.{same-refl, same-false, same-parts, differ-parts}
 
 -- a field that holds a number is numeric, and that is its number
 pub field-is : (xs : List ℕ) (n : ℕ) → fieldOf xs ≡ Number n → (numeric xs ≡ true) × (n ≡ number xs)
@@ -32,7 +35,6 @@ field-isnt xs e = go (numeric xs) refl e
 
 -- a part that is compared with a list of its length
 pub holds-part : (xs ys : List ℕ) (i n : ℕ) → length ys ≡ n → sameList (part xs i n) ys ≡ holds xs i ys
-unfolding holds
 holds-part xs ys i n e = rw e
 
 -- a list holds another at an index, or not, by their elements
@@ -41,9 +43,27 @@ module _ (xs ys : List ℕ) (i : ℕ) where
   whole = part-whole ys (length ys) refl
 
   pub holds-same : i + length ys ≤ length xs → ((k : ℕ) → k < length ys → getD xs (i + k) 0 ≡ getD ys (0 + k) 0) → holds xs i ys ≡ true
-  unfolding holds
   holds-same h e = rw whole at (same-parts xs ys i 0 (length ys) h (omega arith) e)
 
   pub holds-differ : (k : ℕ) → k < length ys → (getD xs (i + k) 0 ≡ getD ys (0 + k) 0 → ⊥) → holds xs i ys ≡ false
-  unfolding holds
   holds-differ k h d = rw whole at (differ-parts xs ys i 0 (length ys) k h d)
+
+-- a number read of w bytes is below 10 ^ w
+pub field-below : (r : List ℕ) (at w n : ℕ) → at + w ≤ length r → fieldOf (part r at w) ≡ Number n → n < 10 ^ w
+field-below r at w n h e =
+    let f = field-is (part r at w) n e in
+    rw (f .1) (subst (λ (k : ℕ). number (part r at w) < 10 ^ k) (length-part r at w h) (number-lt (part r at w) (f .0)))
+
+pub value-number : (xs : List ℕ) → numeric xs ≡ true → value (fieldOf xs) ≡ number xs
+unfolding fieldOf
+value-number xs p = rw p
+
+-- two numeric lists of one length are equal where their numbers are
+pub same-number : (xs ys : List ℕ) → numeric xs ≡ true → numeric ys ≡ true → length xs ≡ length ys → sameList xs ys ≡ eqb (number xs) (number ys)
+same-number xs ys p q e = go (eqb (number xs) (number ys)) refl
+  where
+    go : (t : Bool) → eqb (number xs) (number ys) ≡ t → sameList xs ys ≡ t
+    go true h =
+        let z : xs ≡ ys = sym (digits-number xs p) ∙ ap₂ digits e (eqb-true (number xs) (number ys) h) ∙ digits-number ys q in
+        ap (sameList xs) (sym z) ∙ same-refl xs
+    go false h = same-false xs ys (λ z. eqb-false (number xs) (number ys) h (ap number z))

@@ -29,5 +29,5 @@ sameList (x ∷ xs) [] = false
 sameList (x ∷ xs) (y ∷ ys) = eqb x y && sameList xs ys
 
 -- xs holds ys from index at on
-unfoldable pub holds : List ℕ → ℕ → List ℕ → Bool
+abbrev pub holds : List ℕ → ℕ → List ℕ → Bool
 holds xs at ys = sameList (part xs at (length ys)) ys

@@ -2,7 +2,7 @@
 ghost use mathlib.Core.Path.{_≡_};
 ghost use Prim.Native.Nat.{_+_, _≤_};
 ghost use lib.ListN.{length};
-ghost use Rattle.fields.specs.Digits.{digits, isDigit};
+ghost use Rattle.fields.specs.Digits.{digits, isDigit, numeric};
 ghost use Rattle.fields.specs.Put.{put, part, filled, sameList, holds};
 ghost use Rattle.fields.specs.Field.{fieldOf};
 
@@ -93,6 +93,17 @@ pub fn read_field(s: &[u8], at: usize, width: usize) -> Field
     ensures { λ r. ⌜ r ≡ fieldOf (part (now (s .entry)) at width) ⌝ }
 {
     read_digits(&s[at..at + width])
+}
+
+// Whether the `width` bytes of s from index `at` on are digits only.
+pub fn is_numeric(s: &[u8], at: usize, width: usize) -> bool
+    requires { ⌜ (at + width ≤ length (now s)) × (width ≤ 19) ⌝ }
+    ensures { λ r. ⌜ r ≡ numeric (part (now (s .entry)) at width) ⌝ }
+{
+    let Field::Number(_) = read_field(s, at, width) else {
+        return false;
+    };
+    true
 }
 
 // Whether n bytes of a from index i on are those of b from index j on.

@@ -21,6 +21,11 @@ module _ {A : Type 0} where
   has p [] = false
   has p (x ∷ xs) = p x || has p xs
 
+  -- how many elements pass the test
+  abbrev pub count : (A → Bool) → List A → ℕ
+  count p [] = 0
+  count p (x ∷ xs) = cond (p x) (suc (count p xs)) (count p xs)
+
   -- the sum of f over the elements
   abbrev pub sum : (A → ℕ) → List A → ℕ
   sum f [] = 0

@@ -3,7 +3,7 @@ use Prim.Native.Nat.{ℕ, zero, suc, _+_, _*_}
 use mathlib.Core.Bool.{Bool}
 use mathlib.Core.List.{List, [], _∷_}
 use Rattle.fields.specs.Text.{text}
-use Rattle.fields.specs.Put.{part, positions, holds}
+use Rattle.fields.specs.Put.{part, positions, sameList}
 
 -- "Records are 320 bytes .. and then byte 13": record i of a file, and k records from record i on
 abbrev pub recordAt : List ℕ → ℕ → List ℕ
@@ -66,6 +66,16 @@ chargeIn d = positions d 67 79
 abbrev pub fromIn : List ℕ → List ℕ
 fromIn d = positions d 80 87
 
+-- of the tier that starts at position a
+abbrev pub tierRateIn : List ℕ → ℕ → List ℕ
+tierRateIn d a = positions d a (a + 6)
+
+abbrev pub tierConsumptionIn : List ℕ → ℕ → List ℕ
+tierConsumptionIn d a = positions d (a + 7) (a + 16)
+
+abbrev pub tierChargeIn : List ℕ → ℕ → List ℕ
+tierChargeIn d a = positions d (a + 17) (a + 29)
+
 abbrev pub appliedIn : List ℕ → List ℕ
 appliedIn d = positions d 234 246
 
@@ -73,5 +83,8 @@ abbrev pub owedIn : List ℕ → List ℕ
 owedIn d = positions d 247 259
 
 -- ---- the Notification Code of a supplier's header
+abbrev pub isRsp : List ℕ → Bool
+isRsp h = sameList (noticeIn h) (text "RSP")
+
 abbrev pub isSup : List ℕ → Bool
-isSup h = holds h 30 (text "SUP")
+isSup h = sameList (noticeIn h) (text "SUP")

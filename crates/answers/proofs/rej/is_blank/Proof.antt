@@ -18,7 +18,7 @@ is-text-requires-2 : tie.Need-is-text-requires-2
 is-text-requires-2 c κs = search needs
 
 returns : tie.Need-returns
-unfolding isBlank holds part filled
+unfolding isBlank part filled
 returns c = rw (c .before .before .is-text .ensures, c .is-text2 .ensures)
 
 pub is-blank-spec : {M : Type 1} → statement M

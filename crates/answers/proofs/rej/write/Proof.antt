@@ -12,7 +12,8 @@ use Rattle.answers.specs.declared.rej.Rej.{Rej}
 use Rattle.notices.specs.Layout.{recordAt, recordsFrom, isSup}
 use Rattle.answers.specs.Answers.{rejHeader, rejDetails, rej}
 use Rattle.answers.proofs.AnswerLaws.{length-rej-header}
-use Rattle.answers.proofs.RecordLaws.{lent-record, long-record, details-none, details-more, long-detail}
+use Rattle.notices.proofs.LayoutLaws.{lent-record, long-record}
+use Rattle.answers.proofs.RecordLaws.{details-none, details-more, long-detail}
 use Rattle.answers.proofs.rej.write.Statement.{statement}
 use Rattle.answers.proofs.rej.write.Tie as tie
 

@@ -1,0 +1,4 @@
+-- Laws that belong to no one function.
+pub mod FileLaws
+pub mod WalkLaws
+pub mod FormLaws

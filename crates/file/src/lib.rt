@@ -1,0 +1,179 @@
+// The supplier file: its check, its groups, and lines 1 and 2.
+ghost use mathlib.Core.Path.{_≡_};
+ghost use Prim.Native.Nat.{_+_, _*_, _≤_, _<_};
+ghost use lib.ListN.{length, take};
+ghost use Rattle.ledger.specs.Lists.{every, count};
+ghost use Rattle.notices.specs.Layout.{recordAt, recordsFrom, isSup};
+ghost use Rattle.file.specs.File.{printable, isHeader, goodRecord, goodFile, leading, groups, asksId, unfit, formOf};
+ghost use Rattle.file.specs.Walk.{after, groupAt, pairForm};
+
+// What lines 1 and 2 say of a group: BR17, BR19, or its Notification Code.
+pub enum Form {
+    Broken,
+    Unknown,
+    Response,
+    Supplement,
+}
+
+// Whether the first n bytes of r are codes from 32 to 126. (No early exit: the loop is vectorised.)
+fn all_printable(r: &[u8], n: usize) -> bool
+    requires { ⌜ n ≤ length (now r) ⌝ }
+    ensures { λ b. ⌜ b ≡ every printable (take n (now (r .entry))) ⌝ }
+{
+    let mut good = true;
+    let mut i = 0;
+    while i < n {
+        let x = r[i];
+        good = good & ((32 <= x) & (x <= 126));
+        i += 1;
+    }
+    good
+}
+
+// Whether a record is of type 01.
+fn is_header(r: &[u8]) -> bool
+    requires { ⌜ 321 ≤ length (now r) ⌝ }
+    ensures { λ b. ⌜ b ≡ isHeader (now (r .entry)) ⌝ }
+{
+    fields::is_text(r, 28, b"01")
+}
+
+// Whether a record is as document 01 asks.
+fn good_record(r: &[u8]) -> bool
+    requires { ⌜ 321 ≤ length (now r) ⌝ }
+    ensures { λ b. ⌜ b ≡ goodRecord (now (r .entry)) ⌝ }
+{
+    let last = r[320];
+    all_printable(r, 320) & (last == 13) & (is_header(r) | fields::is_text(r, 28, b"02"))
+}
+
+// Whether record i is a header.
+pub fn header_at(s: &[u8], i: usize) -> bool
+    requires { ⌜ i * 321 + 321 ≤ length (now s) ⌝ }
+    ensures { λ b. ⌜ b ≡ isHeader (recordAt (now (s .entry)) i) ⌝ }
+{
+    let a = i * 321;
+    let e = a + 321;
+    is_header(&s[a..e])
+}
+
+// Whether record i has the Notification Code SUP.
+pub fn sup_at(s: &[u8], i: usize) -> bool
+    requires { ⌜ i * 321 + 321 ≤ length (now s) ⌝ }
+    ensures { λ b. ⌜ b ≡ isSup (recordAt (now (s .entry)) i) ⌝ }
+{
+    let a = i * 321;
+    let e = a + 321;
+    notices::layout::is_sup(&s[a..e])
+}
+
+// The check of a whole file: cause 11 where it is false.
+pub fn good_file(s: &[u8]) -> bool
+    ensures { λ b. ⌜ b ≡ goodFile (now (s .entry)) ⌝ }
+{
+    let len = s.len();
+    if len % 321 != 0 {
+        return false;
+    }
+    if 64200 < len {
+        return false;
+    }
+    let n = len / 321;
+    let mut i = 0;
+    while i < n {
+        let a = i * 321;
+        let e = a + 321;
+        if good_record(&s[a..e]) {
+            i += 1;
+        } else {
+            return false;
+        }
+    }
+    if n == 0 {
+        return true;
+    }
+    header_at(s, 0)
+}
+
+// How many details the group has whose header is record i, in a file of n records.
+pub fn detail_count(s: &[u8], i: usize, n: usize) -> usize
+    requires { ⌜ (i < n) × (n * 321 ≤ length (now s)) ⌝ }
+    ensures { λ r. ⌜ r ≡ leading (after (now (s .entry)) i n) ⌝ }
+{
+    let mut j = i + 1;
+    while j < n {
+        if header_at(s, j) {
+            return j - (i + 1);
+        }
+        j += 1;
+    }
+    n - (i + 1)
+}
+
+// How many groups there are, and how many ask for a Tracking ID: what cause 12 counts.
+pub struct Counts {
+    pub groups: usize,
+    pub ids: usize,
+}
+
+pub fn count_groups(s: &[u8], n: usize) -> Counts
+    requires { ⌜ n * 321 ≤ length (now s) ⌝ }
+    ensures { λ r. ⌜ (r .groups ≡ length (groups (recordsFrom (now (s .entry)) 0 n))) × (r .ids ≡ count asksId (groups (recordsFrom (now (s .entry)) 0 n))) ⌝ }
+{
+    let mut g = 0;
+    let mut k = 0;
+    for i in 0..n {
+        if header_at(s, i) {
+            g += 1;
+            if sup_at(s, i) {
+                k += 1;
+            }
+        }
+    }
+    Counts { groups: g, ids: k }
+}
+
+// Line 1 for a header and its only detail.
+fn unfit_pair(h: &[u8], d: &[u8]) -> bool
+    requires { ⌜ (321 ≤ length (now h)) × (321 ≤ length (now d)) ⌝ }
+    ensures { λ b. ⌜ b ≡ unfit (now (h .entry)) (now (d .entry)) ⌝ }
+{
+    !fields::is_text(h, 58, b"01")
+        | !fields::is_text(h, 0, b"34")
+        | !fields::same_part(h, 0, d, 0, 28)
+        | !fields::same_part(h, 30, d, 30, 3)
+        | !fields::is_numeric(h, 7, 12)
+        | !fields::is_numeric(d, 41, 4)
+}
+
+// Lines 1 and 2 for a header and its only detail.
+fn pair_form(h: &[u8], d: &[u8]) -> Form
+    requires { ⌜ (321 ≤ length (now h)) × (321 ≤ length (now d)) ⌝ }
+    ensures { λ r. ⌜ r ≡ pairForm (now (h .entry)) (now (d .entry)) ⌝ }
+{
+    if unfit_pair(h, d) {
+        return Form::Broken;
+    }
+    if notices::layout::is_rsp(h) {
+        return Form::Response;
+    }
+    if notices::layout::is_sup(h) {
+        return Form::Supplement;
+    }
+    Form::Unknown
+}
+
+// Lines 1 and 2 for the group whose header is record i.
+pub fn form_at(s: &[u8], i: usize, n: usize) -> Form
+    requires { ⌜ (i < n) × (n * 321 ≤ length (now s)) ⌝ }
+    ensures { λ r. ⌜ r ≡ formOf (groupAt (now (s .entry)) i n) ⌝ }
+{
+    let k = detail_count(s, i, n);
+    if k != 1 {
+        return Form::Broken;
+    }
+    let a = i * 321;
+    let b = (i + 1) * 321;
+    let e = b + 321;
+    pair_form(&s[a..b], &s[b..e])
+}
