@@ -2,11 +2,12 @@
 -- Assumes nothing.
 use Prim.Native.Nat.{ℕ, _+_}
 use mathlib.Core.Bool.{Bool}
-use mathlib.Core.List.{List}
-use lib.ListN.{take, set, replicate}
+use mathlib.Core.List.{List, map, _++_}
+use lib.ListN.{length, take, drop, set, replicate}
 use Rattle.units.specs.declared.Date.{Date}
 use Rattle.units.specs.Units.{fitsCents}
 use Rattle.ledger.specs.declared.Identity.{Identity}
+use Rattle.ledger.specs.declared.Terms.{Terms}
 use Rattle.ledger.specs.declared.Bill.{Bill}
 use Rattle.ledger.specs.declared.Ledger.{Ledger}
 use Rattle.ledger.specs.declared.Found.{Found}
@@ -28,9 +29,37 @@ live l = take (l .count) (l .bills)
 abbrev pub book : Ledger → Book
 book l = record { today = l .today; tracking = l .«next_tracking»; confirmation = l .«next_confirmation»; bills = live l }
 
+-- a ledger without the posted amounts: what the rules read
+pub record View : Type 0 where
+  pub today : Date
+  pub tracking : ℕ
+  pub confirmation : ℕ
+  pub bills : List Terms
+
+abbrev pub termsIn : Bill → Terms
+termsIn b = b .terms
+
+abbrev pub view : Book → View
+view l = record { today = l .today; tracking = l .tracking; confirmation = l .confirmation; bills = map termsIn (l .bills) }
+
+-- the struct that holds the book k and, past its bills, what l held
+abbrev pub stored : Ledger → Book → Ledger
+stored l k =
+    record {
+      today = k .today;
+      «next_tracking» = k .tracking;
+      «next_confirmation» = k .confirmation;
+      count = length (k .bills);
+      bills = k .bills ++ drop (length (k .bills)) (l .bills);
+    }
+
+-- a bill has this identity
+abbrev pub ofId : Identity → Bill → Bool
+ofId id b = isOf id (b .terms)
+
 -- the place of the bill with this identity
 abbrev pub placeOf : Identity → List Bill → Found
-placeOf id bs = find (λ (b : Bill). isOf id (b .terms)) 0 bs
+placeOf id bs = find (ofId id) 0 bs
 
 -- the charge that a bill counts for, and whether it is in its width
 abbrev pub billCharge : Bill → ℕ

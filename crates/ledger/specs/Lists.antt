@@ -35,3 +35,8 @@ module _ {A : Type 0} where
   abbrev pub find : (A → Bool) → ℕ → List A → Found
   find p n [] = Nothing
   find p n (x ∷ xs) = cond (p x) (At n) (find p (suc n) xs)
+
+  -- the list with f applied to the first element that passes the test
+  abbrev pub update : (A → Bool) → (A → A) → List A → List A
+  update p f [] = []
+  update p f (x ∷ xs) = cond (p x) (f x ∷ xs) (x ∷ update p f xs)

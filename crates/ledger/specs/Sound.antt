@@ -17,8 +17,8 @@ use Rattle.ledger.specs.declared.Terms.{Terms}
 use Rattle.ledger.specs.declared.Bill.{Bill}
 use Rattle.ledger.specs.declared.Ledger.{Ledger}
 use Rattle.ledger.specs.Lists.{all, every, has}
-use Rattle.ledger.specs.Bills.{isOf, isRateCode, codeBytes, isPrepay}
-use Rattle.ledger.specs.Books.{Book, book}
+use Rattle.ledger.specs.Bills.{isRateCode, codeBytes, isPrepay}
+use Rattle.ledger.specs.Books.{Book, book, ofId}
 
 -- a next number: "1 to 999,999,999; 1,000,000,000 when used up"
 abbrev pub isNext : ℕ → Bool
@@ -59,7 +59,7 @@ soundBill b = soundTerms (b .terms) && soundAmounts (b .terms) (b .posted)
 
 -- a bill among these has this identity
 abbrev pub holdsId : Identity → List Bill → Bool
-holdsId id bs = has (λ (b : Bill). isOf id (b .terms)) bs
+holdsId id bs = has (ofId id) bs
 
 -- "no identity stands twice"
 unfoldable pub distinct : List Bill → Bool

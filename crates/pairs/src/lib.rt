@@ -23,7 +23,7 @@ fn code_number(form: Form) -> u64
 }
 
 // The number of a field, 0 where it is not numeric.
-fn number_at(r: &[u8], at: usize, width: usize) -> u64
+pub fn number_at(r: &[u8], at: usize, width: usize) -> u64
     requires { ⌜ (at + width ≤ length (now r)) × (width ≤ 19) ⌝ }
     ensures { λ v. ⌜ (v ≡ value (fieldOf (part (now (r .entry)) at width))) × (v < 10 ^ width) ⌝ }
 {

@@ -10,15 +10,12 @@ use Rattle.ledger.specs.declared.Identity.{Identity}
 use Rattle.ledger.specs.declared.Bill.{Bill}
 use Rattle.ledger.specs.declared.Ledger.{Ledger}
 use Rattle.ledger.specs.Lists.{find}
-use Rattle.ledger.specs.Bills.{isOf, blankBill}
-use Rattle.ledger.specs.Books.{live, placeOf}
+use Rattle.ledger.specs.Bills.{blankBill}
+use Rattle.ledger.specs.Books.{live, ofId, placeOf}
 use Rattle.ledger.proofs.BookLaws.{places}
 use Rattle.ledger.proofs.ListLaws.{find-hit, find-miss, slice-end}
 use Rattle.ledger.proofs.Ledger.find.Statement.{statement}
 use Rattle.ledger.proofs.Ledger.find.Tie as tie
-
-abbrev ofId : Identity → Bill → Bool
-ofId id b = isOf id (b .terms)
 
 abbrev Inv-loop : tie.InvT-loop
 Inv-loop id self n i₀ i = (i ≤ n) × (find (ofId id) i (slice i n (self .bills)) ≡ placeOf id (live self))

@@ -13,8 +13,8 @@ use Rattle.units.specs.Calendar.{isDate}
 use Rattle.ledger.specs.declared.Identity.{Identity}
 use Rattle.ledger.specs.declared.Bill.{Bill}
 use Rattle.ledger.specs.declared.Ledger.{Ledger}
-use Rattle.ledger.specs.Bills.{isOf, blankBill}
-use Rattle.ledger.specs.Books.{live}
+use Rattle.ledger.specs.Bills.{blankBill}
+use Rattle.ledger.specs.Books.{live, ofId}
 use Rattle.ledger.specs.Sound.{isNext, distinct, soundLedger}
 use Rattle.ledger.proofs.BookLaws.{places}
 use Rattle.ledger.proofs.ListLaws.{slice-step, slice-end, has-hit, has-miss}
@@ -27,9 +27,6 @@ use Rattle.ledger.proofs.Bill.sound.Reads as sound-reads
 use Rattle.ledger.proofs.Terms.is_of.Reads as is-of-reads
 use Rattle.ledger.proofs.sound.is_next.Reads as is-next-reads
 use Rattle.units.proofs.Date.valid.Reads as valid-reads
-
-abbrev ofId : Identity → Bill → Bool
-ofId id b = isOf id (b .terms)
 
 record Inner (l : Ledger) (n i : ℕ) (id : Identity) (j : ℕ) : Type 0 where
   outer : i < n

@@ -1,0 +1,121 @@
+-- `verdict::prepay` meets its contract: the rules of line 8, then line 9, then line 10.
+use borrow.Author.Needs.{needs}
+use native.Mathlib.Omega.{arith}
+use Prim.Native.Nat.{_+_}
+use mathlib.Core.Path.{_≡_, sym, _∙_}
+use mathlib.Core.Bool.{false}
+use lib.Dec.{eqb}
+use borrow.Author.Tests.{not-true, not-false}
+use Rattle.fields.specs.Put.{part}
+use Rattle.fields.specs.Field.{fieldOf, bad}
+use Rattle.fields.specs.declared.Field.the-variants.{Number}
+use Rattle.verdict.specs.Lines.{line8, line9, line10, amountsOf}
+use Rattle.verdict.proofs.VerdictLaws.{first-stop, first-clear}
+use Rattle.fields.proofs.HoldLaws.{field-below}
+use Rattle.verdict.proofs.prepay.Statement.{statement}
+use Rattle.verdict.proofs.prepay.Tie as tie
+
+-- what the three fields hold
+balance-is : (c : tie.After-enum-told) → bad (fieldOf (part (c .before .before .before .before .before .args .h .now) 60 13)) ≡ false
+balance-is c = rw (sym (c .before .before .read-field .ensures) ∙ c .enum-told .given .1)
+
+applied-is : (c : tie.After-applied) → fieldOf (part (c .before .before .before .before .before .before .before .before .args .d .now) 233 13) ≡ Number (c .applied .given .0 .0)
+applied-is c = sym (c .before .before .read-field2 .ensures) ∙ c .applied .given .1
+
+owed-is : (c : tie.After-owed) → fieldOf (part (c .before .before .before .before .before .before .before .before .before .before .before .before .args .d .now) 246 13) ≡ Number (c .owed .given .0 .0)
+owed-is c = sym (c .before .before .read-field3 .ensures) ∙ c .owed .given .1
+
+-- whether applied plus owed is the charge
+sum-is : (c : tie.After-same) → eqb (c .before .before .before .before .before .before .before .before .before .before .applied .given .0 .0 + c .before .before .before .before .before .before .owed .given .0 .0) (c .before .before .before .before .before .before .before .before .before .before .before .before .before .before .before .before .before .before .args .charge .0) ≡ c .same .result
+sum-is c = rw (c .same .ensures, c .before .plus .ensures)
+
+read-field-requires : tie.Need-read-field-requires
+read-field-requires c κs = search needs
+
+enum-told : tie.Need-enum-told
+enum-told c = search needs
+
+enum-told-2 : tie.Need-enum-told-2
+enum-told-2 c = search needs
+
+returns : tie.Need-returns
+unfolding line8
+returns c = rw (sym (c .before .before .read-field .ensures) ∙ c .enum-told2 .given .1)
+
+read-field-requires-2 : tie.Need-read-field-requires-2
+read-field-requires-2 c κs = search needs
+
+enum-known-applied : tie.Need-enum-known-applied
+enum-known-applied c = search needs
+
+enum-told-3 : tie.Need-enum-told-3
+enum-told-3 c = search needs
+
+returns-2 : tie.Need-returns-2
+unfolding line8
+returns-2 c = rw (balance-is (c .before .before .before), sym (c .before .before .read-field2 .ensures) ∙ c .enum-told3 .given .1)
+
+read-field-requires-3 : tie.Need-read-field-requires-3
+read-field-requires-3 c κs = search needs
+
+enum-known-owed : tie.Need-enum-known-owed
+enum-known-owed c = search needs
+
+enum-told-4 : tie.Need-enum-told-4
+enum-told-4 c = search needs
+
+returns-3 : tie.Need-returns-3
+unfolding line8
+returns-3 c = rw (balance-is (c .before .before .before .before .before .before .before), applied-is (c .before .before .before .before), sym (c .before .before .read-field3 .ensures) ∙ c .enum-told4 .given .1)
+
+line-9-requires : tie.Need-line-9-requires
+line-9-requires c κs = search needs
+
+enum-known-check : tie.Need-enum-known-check
+enum-known-check c = search needs
+
+returns-4 : tie.Need-returns-4
+unfolding line8
+returns-4 c = rw (balance-is (c .before .before .before .before .before .before .before .before .before .before .before .before), applied-is (c .before .before .before .before .before .before .before .before .before), owed-is (c .before .before .before .before .before), first-stop _ _ (sym (c .before .before .before .line-9 .ensures) ∙ c .before .check .given .1))
+
+enum-told-5 : tie.Need-enum-told-5
+enum-told-5 c = search needs
+
+plus-requires : tie.Need-plus-requires
+plus-requires c κs = omega (arith, field-below _ 233 13 _ (omega arith) (applied-is (c .before .before .before .before .before .before .before .before)), field-below _ 246 13 _ (omega arith) (owed-is (c .before .before .before .before)))
+
+same-requires : tie.Need-same-requires
+same-requires c κs = search needs
+
+returns-5 : tie.Need-returns-5
+unfolding line8 line10
+returns-5 c = rw (balance-is (c .before .before .before .before .before .before .before .before .before .before .before .before .before .before), applied-is (c .before .before .before .before .before .before .before .before .before .before .before), owed-is (c .before .before .before .before .before .before .before), first-clear (line9 _ _ _) _ (sym (c .before .before .before .before .before .line-9 .ensures) ∙ c .before .before .before .enum-told5 .given .1), sum-is (c .before) ∙ not-true _ (c .if1 .taken))
+
+returns-6 : tie.Need-returns-6
+unfolding line8 line10 amountsOf
+returns-6 c = rw (balance-is (c .before .before .before .before .before .before .before .before .before .before .before .before .before .before), applied-is (c .before .before .before .before .before .before .before .before .before .before .before), owed-is (c .before .before .before .before .before .before .before), first-clear (line9 _ _ _) _ (sym (c .before .before .before .before .before .line-9 .ensures) ∙ c .before .before .before .enum-told5 .given .1), sum-is (c .before) ∙ not-false _ (c .if1 .left), ← c .before .before .before .before .before .before .before .before .before .before .before .before .before .before .before .before .before .before .before .pre .1)
+
+pub prepay-spec : {M : Type 1} → statement M
+prepay-spec =
+    tie.close
+    (tie.spec
+    read-field-requires
+    enum-told
+    enum-told-2
+    returns
+    read-field-requires-2
+    enum-known-applied
+    enum-told-3
+    returns-2
+    read-field-requires-3
+    enum-known-owed
+    enum-told-4
+    returns-3
+    line-9-requires
+    enum-known-check
+    returns-4
+    enum-told-5
+    plus-requires
+    same-requires
+    returns-5
+    returns-6)

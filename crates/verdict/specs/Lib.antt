@@ -1,0 +1,3 @@
+-- Lines 4 to 10 of "Supplier file".
+pub mod Rules
+pub mod Lines
