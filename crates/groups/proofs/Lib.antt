@@ -1,0 +1,6 @@
+-- Laws that belong to no one function.
+pub mod PlaceLaws
+pub mod DecideLaws
+pub mod AnswerToLaws
+pub mod TurnLaws
+pub mod GroupWalk
