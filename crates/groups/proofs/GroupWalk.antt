@@ -1,11 +1,12 @@
 -- The walk over a file's groups. Assumes nothing.
-use Prim.Native.Nat.{ℕ, zero, suc, _+_, _-_, _*_, _≤_, _<_}
+use Prim.Native.Nat.{ℕ, zero, suc, _+_, _-_, _*_, _≤_, _<_, _^_}
 use mathlib.Core.Path.{_≡_, refl, sym, ap, ap₂, _∙_, subst}
 use mathlib.Core.Bool.{Bool, true, false, cond, _&&_}
 use mathlib.Core.List.{List, [], _∷_, _++_, append-assoc, append-nil}
 use native.Mathlib.Omega.{arith}
 use native.Mathlib.Nat.{zero-add, not-suc-le-zero, le-of-suc-le-suc}
-use lib.ListN.{length, getD, set, take, drop, length-append, length-set}
+use lib.Dec.{leb}
+use lib.ListN.{length, set, drop, length-set, length-take}
 use lib.Seq.{take-append-seam, drop-append-seam}
 use Rattle.fields.specs.Put.{put}
 use Rattle.fields.proofs.PutLaws.{Wrote, next, put-nil}
@@ -14,7 +15,9 @@ use Rattle.ledger.specs.declared.Ledger.{Ledger}
 use Rattle.ledger.specs.declared.Posted.{Posted}
 use Rattle.ledger.specs.Lists.{every, count, update}
 use Rattle.ledger.specs.Bills.{posting}
-use Rattle.ledger.specs.Books.{Book, book, live, view, ofId, stored}
+use Rattle.ledger.specs.Books.{Book, book, live, view, ofId, smallCharge, totalOf, stored}
+use Rattle.ledger.proofs.ListLaws.{every-map}
+use Rattle.ledger.proofs.BookLaws.{total-small}
 use Rattle.fields.proofs.BoolLaws.{and-left, and-right}
 use Rattle.notices.specs.Layout.{recordAt, recordsFrom}
 use Rattle.notices.proofs.LayoutLaws.{long-record}
@@ -352,6 +355,8 @@ walk-end s n l out₀ out c i w h =
       rejected = omega (arith, v);
       written = sym (w .wrote .long) ∙ ap length y;
       bytes = w .wrote .same ∙ ap (put out₀ 0) y;
+      few = w .few;
+      bills = w .bills;
     }
 
 -- what the walk keeps is what a turn asks
@@ -373,3 +378,11 @@ pub turn-is : (t : Bool) (c : Taken) (g : Group) (sup : Bool) (d : Decision) (le
     → _≡_ {A = Taken} (record { ledger = led; accepted = c .accepted + a; rejected = c .rejected + r; written = e }) (turned t c g)
 unfolding turned
 turn-is t c g sup d led a r e x y z u v w = rw (z, u, v, w, x, y)
+
+-- ---- the total of calm bills
+pub small-bills : (bs : List Bill) → every calm bs ≡ true → every smallCharge bs ≡ true
+unfolding calm
+small-bills bs h = every-map calm smallCharge (λ b x. and-right (leb (b .terms .sequence) 999) (smallCharge b) x) bs h
+
+pub small-sum : (l : Ledger) → l .count ≤ 128 → every calm (live l) ≡ true → totalOf (live l) < 2 ^ 63
+small-sum l h a = omega (arith, total-small (live l) (small-bills (live l) a), length-take (l .count) (l .bills))

@@ -4,3 +4,4 @@ pub mod DecideLaws
 pub mod AnswerToLaws
 pub mod TurnLaws
 pub mod GroupWalk
+pub mod CaseProofs

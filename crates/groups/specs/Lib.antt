@@ -1,3 +1,4 @@
 -- A supplier file's groups on a ledger.
 pub mod Groups
 pub mod Steps
+pub mod Cases

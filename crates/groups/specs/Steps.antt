@@ -4,6 +4,7 @@ use mathlib.Core.Path.{_≡_}
 use mathlib.Core.Bool.{Bool, true, cond, _&&_}
 use mathlib.Core.List.{List, []}
 use lib.Dec.{leb}
+use lib.IntN.{pos, _-ℤ_}
 use lib.ListN.{length, getD, set}
 use Rattle.fields.specs.Put.{put}
 use Rattle.fields.specs.Field.{fieldOf, value}
@@ -14,7 +15,7 @@ use Rattle.ledger.specs.declared.Found.the-variants as found
 use Rattle.ledger.specs.declared.Bill as bill
 use Rattle.ledger.specs.Lists.{every, count}
 use Rattle.ledger.specs.Bills.{blankBill, posting}
-use Rattle.ledger.specs.Books.{live, book, view, placeOf, smallCharge, stored}
+use Rattle.ledger.specs.Books.{live, book, view, placeOf, smallCharge, totalOf, stored}
 use Rattle.notices.specs.Layout.{accountIn, keyIn}
 use Rattle.file.specs.File.{Group, asksId}
 use Rattle.verdict.specs.declared.Sought.{Sought}
@@ -25,6 +26,7 @@ use Rattle.answers.specs.Answers.{acf, rej}
 use Rattle.verdict.specs.declared.Verdict.{Verdict}
 use Rattle.verdict.specs.declared.Verdict.the-variants.{Accepted, Rejected}
 use Rattle.groups.specs.declared.Taken.{Taken}
+use Rattle.groups.specs.declared.Clearing.{Clearing}
 use Rattle.groups.specs.declared.Decision.{Decision}
 use Rattle.groups.specs.declared.Decision.the-variants.{Post, Reject}
 use Rattle.groups.specs.Groups.{identityOf, verdictBy, taken, answers, verdicts, isAccepted, isRejected}
@@ -139,5 +141,17 @@ pub record Took (l : Ledger) (gs : List Group) (out₀ out : List ℕ) (r : Take
   pub ledger : r .ledger ≡ stored l (taken [] (book l) gs)
   pub accepted : r .accepted ≡ count isAccepted (verdicts [] (book l) gs)
   pub rejected : r .rejected ≡ count isRejected (verdicts [] (book l) gs)
+  pub written : r .written ≡ length (answers [] (book l) gs)
+  pub bytes : out ≡ put out₀ 0 (answers [] (book l) gs)
+  -- what the sum of its charges asks
+  pub few : r .ledger .count ≤ 128
+  pub bills : every calm (live (r .ledger)) ≡ true
+
+-- the same with the signed change: new posted total minus old
+pub record Cleared (l : Ledger) (gs : List Group) (out₀ out : List ℕ) (r : Clearing) : Type 0 where
+  pub ledger : r .ledger ≡ stored l (taken [] (book l) gs)
+  pub accepted : r .accepted ≡ count isAccepted (verdicts [] (book l) gs)
+  pub rejected : r .rejected ≡ count isRejected (verdicts [] (book l) gs)
+  pub change : r .change ≡ pos (totalOf (taken [] (book l) gs .bills)) -ℤ pos (totalOf (live l))
   pub written : r .written ≡ length (answers [] (book l) gs)
   pub bytes : out ≡ put out₀ 0 (answers [] (book l) gs)

@@ -4,16 +4,17 @@ ghost use mathlib.Core.Bool.{cond, true};
 ghost use mathlib.Core.List.{[]};
 ghost use Prim.Native.Nat.{_+_, _-_, _*_, _≤_, _<_};
 ghost use lib.ListN.{length};
+ghost use lib.IntN.{pos, _-ℤ_};
 ghost use Rattle.fields.specs.Put.{put};
 ghost use Rattle.ledger.specs.Lists.{every, count};
-ghost use Rattle.ledger.specs.Books.{live, book, view, placeOf, stored};
+ghost use Rattle.ledger.specs.Books.{live, totalOf};
 ghost use Rattle.ledger.specs.Sound.{soundBill};
 ghost use Rattle.notices.specs.Layout.{recordAt, recordsFrom};
 ghost use Rattle.file.specs.File.{groups};
 ghost use Rattle.file.specs.Walk.{groupAt};
 ghost use Rattle.answers.specs.Answers.{acf};
 ghost use Rattle.groups.specs.Groups.{identityOf, verdictBy, settled, answer, taken, answers, verdicts, isAccepted, isRejected};
-ghost use Rattle.groups.specs.Steps.{identityIn, soughtAt, decided, decisionBy, decideNamed, applied, answerTo, InPlace, InReach, Ready, acceptedBy, rejectedBy, Fine, turned, answerBy, Took};
+ghost use Rattle.groups.specs.Steps.{identityIn, soughtAt, decided, decisionBy, decideNamed, applied, answerTo, InPlace, InReach, Ready, acceptedBy, rejectedBy, Fine, turned, answerBy, calm, Took, Cleared};
 use answers::acf::Acf;
 use answers::rej::Rej;
 use fields::Field;
@@ -266,4 +267,39 @@ pub fn take_groups(l: Ledger, out: &mut [u8], s: &[u8], n: usize) -> Taken
         }
     }
     c
+}
+
+// The signed change of the posted total from one ledger to another.
+fn change_between(old: Ledger, new: Ledger) -> i64
+    requires { ⌜ (old .count ≤ 128) × (every calm (live old) ≡ true) × (new .count ≤ 128) × (every calm (live new) ≡ true) ⌝ }
+    ensures { λ r. ⌜ r ≡ pos (totalOf (live new)) -ℤ pos (totalOf (live old)) ⌝ }
+{
+    ledger::books::signed_change(new.total(), old.total())
+}
+
+// What a file that passed the check comes to.
+pub struct Clearing {
+    pub ledger: Ledger,
+    pub accepted: u64,
+    pub rejected: u64,
+    pub change: i64,
+    pub written: usize,
+}
+
+// A file's groups taken, with the signed change.
+pub fn clear(l: Ledger, out: &mut [u8], s: &[u8], n: usize) -> Clearing
+    requires { ⌜ (n ≤ 200) × (n * 321 ≤ length (now s)) × (n * 321 ≤ length (now out)) ⌝ }
+    requires { ⌜ Ready l ⌝ }
+    ensures { λ r. ⌜ Cleared l (groups (recordsFrom (now (s .entry)) 0 n)) (now (out .entry)) (now (out .exit)) r ⌝ }
+{
+    let t = take_groups(l, out, s, n);
+    let next = t.ledger;
+    let change = change_between(l, next);
+    Clearing {
+        ledger: next,
+        accepted: t.accepted,
+        rejected: t.rejected,
+        change,
+        written: t.written,
+    }
 }

@@ -1,5 +1,5 @@
 -- Laws of the bills that a ledger holds: after a change, and the signed change of their total. Assumes nothing.
-use Prim.Native.Nat.{ℕ, _+_, _<_, _≤_}
+use Prim.Native.Nat.{ℕ, _+_, _*_, _<_, _≤_, _^_}
 use mathlib.Core.Path.{_≡_, refl, sym, ap, _∙_}
 use mathlib.Core.List.{List, [], _∷_, _++_}
 use native.Mathlib.Omega.{arith}
@@ -7,11 +7,15 @@ use native.Mathlib.Numerals.{add-one}
 use lib.IntN.{ℤ, pos, negsuc, negℤ, _+ℤ_, _-ℤ_, +ℤ-negℤ-cancel, +ℤ-assoc, +ℤ-comm}
 use lib.ListN.{length, getD, set, length-map}
 use lib.Seq.{take-suc-set, take-set-lt, length-take-le}
+use borrow.Author.Tests.{ltb-true}
+use mathlib.Core.Bool.{true}
+use Rattle.fields.proofs.BoolLaws.{and-left, and-right}
 use mir.Val.{Val}
 use denote.Laws.{Is}
 use Rattle.ledger.specs.declared.Bill.{Bill}
 use Rattle.ledger.specs.declared.Ledger.{Ledger}
-use Rattle.ledger.specs.Books.{live, replaced, appended, billCharge, totalOf}
+use Rattle.ledger.specs.Books.{live, replaced, appended, billCharge, smallCharge, totalOf}
+use Rattle.ledger.specs.Lists.{every}
 use Rattle.ledger.proofs.Ledger.{the-row}
 use Rattle.ledger.proofs.ListLaws.{sum-set}
 
@@ -28,6 +32,13 @@ live-replaced l i b h = take-set-lt (l .count) (l .bills) i b h
 
 pub length-live : (l : Ledger) → l .count ≤ length (l .bills) → length (live l) ≡ l .count
 length-live l h = length-take-le (l .count) (l .bills) h
+
+-- charges in their width add up to less than a signed number holds
+pub total-small : (bs : List Bill) → every smallCharge bs ≡ true → totalOf bs ≤ 10 ^ 13 * length bs
+total-small [] h = omega arith
+total-small (b ∷ bs) h =
+    let x = ltb-true (billCharge b) (10 ^ 13) (and-left (smallCharge b) (every smallCharge bs) h) in
+    omega (arith, total-small bs (and-right (smallCharge b) (every smallCharge bs) h))
 
 shift : (x y c d : ℤ) → x +ℤ d ≡ y +ℤ c → x -ℤ y ≡ c -ℤ d
 shift x y c d e =
