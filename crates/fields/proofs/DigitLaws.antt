@@ -1,9 +1,9 @@
 -- Laws of `digits`, over the width. Assumes nothing.
-use mathlib.Core.Path.{_≡_, refl, sym, ap, ap₂, _∙_, subst}
+use mathlib.Core.Path.{_≡_, refl, sym, ap, ap₂, _∙_}
 use mathlib.Core.Bool.{Bool, true, false, _&&_}
 use mathlib.Core.List.{List, [], _∷_, _++_}
 use Prim.Native.Nat.{ℕ, zero, suc, _+_, _-_, _*_, _/_, _%_, _^_, _≤_, _<_}
-use native.Mathlib.Nat.{mod-one, pow-suc, pow-succ', mod-lt, mod-eq-of-lt, mul-add-div-right, mul-add-mod-self-right, mul-assoc, mul-comm, not-suc-le-zero, le-of-suc-le-suc, div-div-eq-div-mul}
+use native.Mathlib.Nat.{mod-one, pow-suc, pow-succ', mod-lt, mod-eq-of-lt, mul-add-div-right, mul-add-mod-self-right, not-suc-le-zero, le-of-suc-le-suc, div-div-eq-div-mul}
 use native.Mathlib.Omega.{arith}
 use lib.ListN.{length, getD, set, length-append}
 use Rattle.fields.specs.Put.{put}
@@ -12,7 +12,7 @@ use Rattle.fields.specs.declared.Field.the-variants.{Number, NotNumeric}
 use Rattle.fields.proofs.BoolLaws.{and-both}
 use Rattle.fields.proofs.PutLaws.{put-cons}
 use lib.Arith.{mod-mul, digits-lt, digits-div}
-use lib.Dec.{leb, lit<}
+use lib.Dec.{leb}
 use borrow.Author.Tests.{le-leb, leb-true, lt-leb}
 use Rattle.fields.specs.Digits.{digits, number, isDigit, numeric}
 

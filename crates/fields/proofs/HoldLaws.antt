@@ -10,7 +10,6 @@ use borrow.Author.Tests.{eqb-true, eqb-false}
 use Rattle.fields.specs.Digits.{digits, number, numeric}
 use Rattle.fields.specs.Put.{part, sameList, holds}
 use Rattle.fields.specs.Field.{fieldOf, value}
-use Rattle.fields.specs.declared.Field.{Field}
 use Rattle.fields.specs.declared.Field.the-variants.{Number, NotNumeric}
 use Rattle.fields.proofs.PutLaws.{length-part, part-whole}
 use Rattle.fields.proofs.DigitLaws.{number-lt, digits-number}

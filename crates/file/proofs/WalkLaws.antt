@@ -1,7 +1,7 @@
 -- The groups before and after a record make the file's, and what they hold by record number. Assumes nothing.
-use mathlib.Core.Path.{_≡_, refl, sym, ap, ap₂, _∙_}
-use mathlib.Core.Bool.{Bool, true, false, cond, _&&_, _||_, or-assoc, or-true}
-use mathlib.Core.List.{List, [], _∷_, _++_, append-assoc, append-nil}
+use mathlib.Core.Path.{_≡_, refl, sym, ap, _∙_}
+use mathlib.Core.Bool.{Bool, true, false, cond, _||_, or-assoc, or-true}
+use mathlib.Core.List.{List, [], _∷_, _++_, append-nil}
 use Prim.Native.Nat.{ℕ, zero, suc, _+_, _-_, _*_, _≤_, _<_}
 use native.Mathlib.Omega.{arith}
 use native.Mathlib.Numerals.{add-one}
@@ -14,7 +14,7 @@ use Rattle.notices.specs.Layout.{recordAt, recordsFrom}
 use Rattle.notices.proofs.LayoutLaws.{lent-record}
 use Rattle.file.specs.File.{isHeader, Group, groups}
 use Rattle.file.specs.Walk.{groupAt, before, later}
-use Rattle.file.proofs.FileLaws.{groups-header, groups-detail, groups-end, from-start}
+use Rattle.file.proofs.FileLaws.{groups-header, groups-detail, groups-end}
 
 -- the part that is lent for a header, and for the detail after it
 pub lent-head : (s : List ℕ) (i : ℕ) → take ((i + 1) * 321 - i * 321) (drop (i * 321) s) ≡ recordAt s i

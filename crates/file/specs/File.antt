@@ -1,6 +1,6 @@
 -- The supplier file: its check, its groups, and lines 1 to 3. Assumes nothing.
 use Prim.Native.Nat.{ℕ, suc, _/_, _%_}
-use mathlib.Core.Bool.{Bool, true, false, cond, not, _&&_, _||_}
+use mathlib.Core.Bool.{Bool, true, cond, not, _&&_, _||_}
 use mathlib.Core.List.{List, [], _∷_}
 use lib.Dec.{eqb, leb}
 use lib.ListN.{length, getD, take}

@@ -1,9 +1,8 @@
 -- What the code decides is the verdict of the lines in their order. Assumes nothing.
-use Prim.Native.Nat.{ℕ}
-use mathlib.Core.Path.{_≡_, refl, sym, ap, _∙_}
-use mathlib.Core.Bool.{Bool, true, false, not, _&&_}
+use mathlib.Core.Path.{_≡_, ap}
+use mathlib.Core.Bool.{Bool, true, false}
 use Rattle.ledger.specs.declared.Ledger.{Ledger}
-use Rattle.ledger.specs.Books.{View, live}
+use Rattle.ledger.specs.Books.{View}
 use Rattle.file.specs.File.{Group, detailOf, line1, line2, passes}
 use Rattle.verdict.specs.Lines.{verdictOf}
 use Rattle.groups.specs.declared.Decision.the-variants.{Reject}

@@ -1,10 +1,10 @@
 -- The walk over a file's groups. Assumes nothing.
 use Prim.Native.Nat.{ℕ, zero, suc, _+_, _-_, _*_, _≤_, _<_, _^_}
-use mathlib.Core.Path.{_≡_, refl, sym, ap, ap₂, _∙_, subst}
-use mathlib.Core.Bool.{Bool, true, false, cond, _&&_}
+use mathlib.Core.Path.{_≡_, refl, sym, ap, ap₂, _∙_}
+use mathlib.Core.Bool.{Bool, true, false, cond}
 use mathlib.Core.List.{List, [], _∷_, _++_, append-assoc, append-nil}
 use native.Mathlib.Omega.{arith}
-use native.Mathlib.Nat.{zero-add, not-suc-le-zero, le-of-suc-le-suc}
+use native.Mathlib.Nat.{zero-add}
 use lib.Dec.{leb}
 use lib.ListN.{length, set, drop, length-set, length-take}
 use lib.Seq.{take-append-seam, drop-append-seam}
@@ -12,7 +12,6 @@ use Rattle.fields.specs.Put.{put}
 use Rattle.fields.proofs.PutLaws.{Wrote, next, put-nil}
 use Rattle.ledger.specs.declared.Bill.{Bill}
 use Rattle.ledger.specs.declared.Ledger.{Ledger}
-use Rattle.ledger.specs.declared.Posted.{Posted}
 use Rattle.ledger.specs.Lists.{every, count, update}
 use Rattle.ledger.specs.Bills.{posting}
 use Rattle.ledger.specs.Books.{Book, book, live, view, ofId, smallCharge, totalOf, stored}
@@ -23,8 +22,8 @@ use Rattle.notices.specs.Layout.{recordAt, recordsFrom}
 use Rattle.notices.proofs.LayoutLaws.{long-record}
 use Rattle.answers.proofs.AnswerLaws.{length-acf}
 use Rattle.answers.proofs.RecordLaws.{length-rej}
-use Rattle.file.specs.File.{isHeader, Group, leading, groups, asksId, passes, line3}
-use Rattle.file.specs.Walk.{after, groupAt, before, later, markAt}
+use Rattle.file.specs.File.{isHeader, Group, leading, groups, asksId, line3}
+use Rattle.file.specs.Walk.{after, groupAt, before, markAt}
 use Rattle.file.proofs.FileLaws.{groups-header, groups-detail, groups-end, leading-header, leading-detail, leading-within, from-start, header-is}
 use Rattle.file.proofs.WalkLaws.{before-header, before-detail}
 use Rattle.verdict.specs.declared.Verdict.{Verdict}

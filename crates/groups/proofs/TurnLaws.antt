@@ -1,18 +1,18 @@
 -- What a group's turn does to the struct is what the rules say of the book. Assumes nothing.
-use Prim.Native.Nat.{ℕ, zero, suc, _+_, _-_, _*_, _≤_, _<_, _^_}
+use Prim.Native.Nat.{ℕ, _+_, _-_, _≤_, _<_, _^_}
 use mathlib.Core.Path.{_≡_, refl, sym, ap, ap₂, _∙_, subst}
-use mathlib.Core.Bool.{Bool, true, false, cond, not, _&&_, _||_, false≢true}
-use mathlib.Core.List.{List, [], _∷_, map, _++_}
+use mathlib.Core.Bool.{Bool, true, false, not, _&&_, _||_, false≢true}
+use mathlib.Core.List.{List, [], _∷_, _++_}
 use native.Mathlib.Omega.{arith}
 use lib.Dec.{leb, eqb}
-use lib.ListN.{length, getD, set, take, drop, take-append-drop, length-set}
+use lib.ListN.{length, set, drop, take-append-drop, length-set}
 use lib.Seq.{getD-take, take-set-lt, drop-set-lt, length-take-le}
-use borrow.Author.Tests.{leb-true, le-leb, eqb-false, ltb-true, lt-ltb}
+use borrow.Author.Tests.{leb-true, le-leb, eqb-false, lt-ltb}
 use Rattle.fields.specs.Text.{text}
 use Rattle.fields.specs.Put.{part, sameList}
-use Rattle.fields.specs.Digits.{numeric, number}
+use Rattle.fields.specs.Digits.{numeric}
 use Rattle.fields.specs.Field.{fieldOf, value}
-use Rattle.fields.proofs.BoolLaws.{and-left, and-right}
+use Rattle.fields.proofs.BoolLaws.{and-left}
 use Rattle.fields.proofs.DigitLaws.{number-lt, pow-le, pow-pos}
 use Rattle.fields.proofs.SameLaws.{same-true}
 use Rattle.units.specs.Units.{fitsCents}
@@ -22,7 +22,7 @@ use Rattle.ledger.specs.declared.Posted.{Posted}
 use Rattle.ledger.specs.declared.Found.the-variants as found
 use Rattle.ledger.specs.Lists.{every, update}
 use Rattle.ledger.specs.Bills.{isPrepay, chargeOf, posting, blankBill}
-use Rattle.ledger.specs.Books.{Book, book, live, view, ofId, placeOf, stored, smallCharge, termsIn}
+use Rattle.ledger.specs.Books.{book, live, view, ofId, placeOf, stored, smallCharge}
 use Rattle.ledger.proofs.ListLaws.{every-at}
 use Rattle.notices.specs.Layout.{noticeIn, sequenceIn, chargeIn, isRsp, isSup}
 use Rattle.file.specs.File.{Group, detailOf, asksId, line1, line2}
@@ -37,7 +37,6 @@ use Rattle.verdict.specs.declared.Verdict.{Verdict}
 use Rattle.verdict.specs.declared.Verdict.the-variants.{Accepted, Rejected}
 use Rattle.verdict.specs.Rules.{Rule, rule, first}
 use Rattle.verdict.specs.Lines.{termsOf, line4, line5, line6, lines4to10, amountsOf, settle}
-use Rattle.groups.specs.declared.Decision.{Decision}
 use Rattle.groups.specs.declared.Decision.the-variants.{Post, Reject}
 use Rattle.groups.specs.Groups.{identityOf, sought, kindOf, linesBy, verdictBy, settled, answer}
 use Rattle.groups.specs.Steps.{billAt, decisionBy, applied, answerTo, answerBy, InReach, calm}

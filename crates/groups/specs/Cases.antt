@@ -11,7 +11,6 @@ use Rattle.units.specs.declared.Date.{Date}
 use Rattle.ledger.specs.declared.Bill.{Bill}
 use Rattle.ledger.specs.declared.Product.{Product}
 use Rattle.ledger.specs.declared.Product.the-variants as product
-use Rattle.ledger.specs.declared.Posted.{Posted}
 use Rattle.ledger.specs.declared.Posted.the-variants as posted
 use Rattle.ledger.specs.Bills.{cents, firstBill}
 use Rattle.ledger.specs.Books.{Book, totalOf}

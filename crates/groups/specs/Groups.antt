@@ -3,7 +3,6 @@ use Prim.Native.Nat.{ℕ, _+_}
 use mathlib.Core.Bool.{Bool, true, false, cond, not}
 use mathlib.Core.List.{List, [], _∷_, _++_}
 use Rattle.fields.specs.Field.{fieldOf, value}
-use Rattle.units.specs.declared.Date.{Date}
 use Rattle.ledger.specs.declared.Identity.{Identity}
 use Rattle.ledger.specs.declared.Terms.{Terms}
 use Rattle.ledger.specs.Lists.{update}

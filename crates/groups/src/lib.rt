@@ -1,23 +1,20 @@
 // A supplier file's groups on a ledger by value: each decided, answered and posted in turn.
 ghost use mathlib.Core.Path.{_≡_};
 ghost use mathlib.Core.Bool.{cond, true};
-ghost use mathlib.Core.List.{[]};
 ghost use Prim.Native.Nat.{_+_, _-_, _*_, _≤_, _<_};
 ghost use lib.ListN.{length};
 ghost use lib.IntN.{pos, _-ℤ_};
 ghost use Rattle.fields.specs.Put.{put};
 ghost use Rattle.ledger.specs.Lists.{every, count};
 ghost use Rattle.ledger.specs.Books.{live, totalOf};
-ghost use Rattle.ledger.specs.Sound.{soundBill};
 ghost use Rattle.notices.specs.Layout.{recordAt, recordsFrom};
 ghost use Rattle.file.specs.File.{groups};
 ghost use Rattle.file.specs.Walk.{groupAt};
 ghost use Rattle.answers.specs.Answers.{acf};
-ghost use Rattle.groups.specs.Groups.{identityOf, verdictBy, settled, answer, taken, answers, verdicts, isAccepted, isRejected};
+ghost use Rattle.groups.specs.Groups.{answers};
 ghost use Rattle.groups.specs.Steps.{identityIn, soughtAt, decided, decisionBy, decideNamed, applied, answerTo, InPlace, InReach, Ready, acceptedBy, rejectedBy, Fine, turned, answerBy, calm, Took, Cleared};
 use answers::acf::Acf;
 use answers::rej::Rej;
-use fields::Field;
 use file::Form;
 use ledger::Bill;
 use ledger::Found;

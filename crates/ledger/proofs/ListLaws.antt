@@ -10,7 +10,7 @@ use lib.ListN.{length, getD, set}
 use lib.Seq.{slice, slice-cons, slice-empty}
 use Rattle.fields.proofs.BoolLaws.{and-left, and-right}
 use Rattle.ledger.specs.declared.Found.{Found}
-use Rattle.ledger.specs.declared.Found.the-variants.{At, Nothing}
+use Rattle.ledger.specs.declared.Found.the-variants.{At}
 use Rattle.ledger.specs.Lists.{all, every, has, sum, find}
 
 -- tests that all pass, one by one

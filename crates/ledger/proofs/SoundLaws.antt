@@ -1,6 +1,6 @@
 -- What soundness says, fact by fact, and the laws of the walk that checks it. Assumes nothing.
 use Prim.Native.Nat.{ℕ, _+_, _≤_, _<_, _^_}
-use mathlib.Core.Path.{_≡_, refl, sym, ap, _∙_}
+use mathlib.Core.Path.{_≡_, refl, ap}
 use mathlib.Core.Bool.{Bool, true, false, not, _&&_, and-false, and-true}
 use mathlib.Core.List.{List, [], _∷_}
 use lib.Dec.{leb, eqb}
@@ -18,8 +18,8 @@ use Rattle.ledger.specs.declared.Posted.the-variants as posted
 use Rattle.ledger.specs.declared.Terms.{Terms}
 use Rattle.ledger.specs.declared.Bill.{Bill}
 use Rattle.ledger.specs.declared.Ledger.{Ledger}
-use Rattle.ledger.specs.Lists.{every, has}
-use Rattle.ledger.specs.Bills.{isOf, isRateCode, codeBytes, chargeOf, isPrepay}
+use Rattle.ledger.specs.Lists.{every}
+use Rattle.ledger.specs.Bills.{isRateCode, codeBytes, chargeOf, isPrepay}
 use Rattle.ledger.specs.Books.{Book, book, live, smallCharge}
 use Rattle.ledger.specs.Sound.{isNext, termsTests, soundTerms, balanced, soundAmounts, soundBill, holdsId, distinct, bookTests, sound, soundLedger}
 use Rattle.ledger.proofs.BookLaws.{length-live}

@@ -6,7 +6,6 @@ use lib.Dec.{leb, eqb}
 use lib.ListN.{length, getD}
 use Rattle.fields.specs.Digits.{isDigit}
 use Rattle.units.specs.declared.Cents.{Cents}
-use Rattle.units.specs.declared.Ccf.{Ccf}
 use Rattle.units.specs.declared.Date.{Date}
 use Rattle.ledger.specs.declared.Identity.{Identity}
 use Rattle.ledger.specs.declared.RateCode.{RateCode}

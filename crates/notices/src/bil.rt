@@ -3,7 +3,7 @@ ghost use mathlib.Core.Path.{_≡_};
 ghost use Prim.Native.Nat.{_+_, _≤_};
 ghost use lib.ListN.{length};
 ghost use Rattle.fields.specs.Put.{put};
-ghost use Rattle.notices.specs.Notices.{bilLead, asked, productFill, former, bilHeader, bilDetail, bil};
+ghost use Rattle.notices.specs.Notices.{bilLead, asked, productFill, former, bilDetail, bil};
 use crate::Lead;
 use ledger::Bill;
 use units::Ccf;

@@ -10,14 +10,14 @@ use lib.Dec.{eqb}
 use borrow.Author.Tests.{eqb-true, eqb-false, eq-eqb, ne-eqb}
 use Rattle.fields.specs.Text.{text}
 use Rattle.fields.specs.Digits.{numeric, number}
-use Rattle.fields.specs.Put.{part, sameList}
+use Rattle.fields.specs.Put.{sameList}
 use Rattle.fields.proofs.DigitLaws.{number-lt}
 use Rattle.fields.proofs.SameLaws.{same-true}
 use Rattle.fields.proofs.PutLaws.{length-part}
 use Rattle.fields.proofs.HoldLaws.{value-number, same-number}
 use Rattle.notices.specs.Layout.{recordAt, accountIn, keyIn, noticeIn, isRsp, isSup}
 use Rattle.notices.proofs.LayoutLaws.{long-record}
-use Rattle.file.specs.declared.Form.the-variants.{Broken, Unknown, Response, Supplement}
+use Rattle.file.specs.declared.Form.the-variants.{Response, Supplement}
 use Rattle.file.specs.File.{isHeader, Group, detailOf, line1, line2, formOf, passes, alike}
 use Rattle.file.specs.Walk.{groupAt}
 use Rattle.file.proofs.FileLaws.{header-is, only-detail}

@@ -2,15 +2,12 @@
 -- previous fields, nor a SUP's Tracking ID. Assumes nothing.
 use Prim.Native.Nat.{ℕ}
 use mathlib.Core.Path.{_≡_}
-use mathlib.Core.Bool.{Bool, true, false, cond}
 use mathlib.Core.List.{List}
 use Rattle.units.specs.declared.Date.{Date}
-use Rattle.ledger.specs.Bills.{isPrepay}
-use Rattle.notices.specs.Layout.{codeIn, trackingIn, balanceIn, sequenceIn, consumptionIn, chargeIn, tierRateIn, tierConsumptionIn, tierChargeIn, appliedIn, owedIn}
-use Rattle.verdict.specs.declared.Kind.{Kind}
+use Rattle.notices.specs.Layout.{codeIn, trackingIn, balanceIn, sequenceIn, consumptionIn, chargeIn, tierRateIn, appliedIn, owedIn}
 use Rattle.verdict.specs.declared.Kind.the-variants.{Response, Supplement}
 use Rattle.verdict.specs.declared.Sought.{Sought}
-use Rattle.verdict.specs.Lines.{termsOf, line5, line6, line7, line8, tierConsumptions, tierCharges, line9, line10, amountsOf, verdictOf}
+use Rattle.verdict.specs.Lines.{line5, line6, line7, line8, tierConsumptions, tierCharges, line9, line10, amountsOf, verdictOf}
 
 -- the two headers and details agree on what is read
 pub record Agree (h h′ d d′ : List ℕ) : Type 0 where

@@ -1,6 +1,6 @@
 -- Lines 4 to 10, one definition a line: h is a group's header, d its detail, t the bill's terms. Assumes nothing.
 use Prim.Native.Nat.{ℕ, _+_}
-use mathlib.Core.Bool.{Bool, true, false, cond, not, _&&_, _||_}
+use mathlib.Core.Bool.{Bool, true, false, cond, not, _||_}
 use mathlib.Core.List.{List, [], _∷_, _++_}
 use lib.Dec.{eqb}
 use Rattle.fields.specs.Text.{text}

@@ -1,6 +1,6 @@
 -- `fields::is_digits` meets its contract. The invariant: the bytes from at + i on are the last digits of n, and m is what is left of n.
 use Prim.Native.Nat.{ℕ, _+_, _-_, _/_, _%_, _^_, _≤_, _<_, suc}
-use mathlib.Core.Path.{_≡_, refl, sym, ap, _∙_}
+use mathlib.Core.Path.{_≡_, sym, ap, _∙_}
 use native.Mathlib.Omega.{arith}
 use native.Mathlib.Nat.{div-one, zero-add}
 use native.Mathlib.Decide.{decLe}

@@ -1,5 +1,5 @@
 use borrow.Author.Needs.{needs}
-use mathlib.Core.Path.{_≡_, refl, sym, ap, _∙_}
+use mathlib.Core.Path.{refl, ap, _∙_}
 use mathlib.Core.List.{List}
 use Prim.Native.Nat.{ℕ}
 use lib.ListN.{length}
@@ -8,9 +8,6 @@ use Rattle.fields.proofs.PutLaws.{part-whole}
 use Rattle.fields.proofs.HoldLaws.{holds-part}
 use Rattle.fields.proofs.is_text.Statement.{statement}
 use Rattle.fields.proofs.is_text.Tie as tie
-use Rattle.fields.proofs.is_text.Reads as reads
-use Rattle.fields.proofs.is_text.Lts as lts
-use Rattle.fields.proofs.same_part.Reads as same-part-reads
 
 same-part-requires : tie.Need-same-part-requires
 same-part-requires c κs = search needs

@@ -1,15 +1,12 @@
-use Prim.Native.Nat.{ℕ, _+_, _-_, _*_, _/_, _%_, _^_, _≤_, _<_}
-use mathlib.Core.Path.{_≡_, refl, sym, ap, _∙_}
-use mathlib.Core.Bool.{Bool, true, false}
+use Prim.Native.Nat.{ℕ, _+_, _-_, _*_, _^_, _≤_, _<_}
+use mathlib.Core.Path.{_≡_, refl, ap}
+use mathlib.Core.Bool.{true}
 use mathlib.Core.List.{List, [], _∷_, _++_}
 use native.Mathlib.Omega.{arith}
-use lib.ListN.{length, take, drop, getD, set, replicate, length-set, length-replicate}
+use lib.ListN.{length, take, getD}
 use lib.Seq.{length-take-le, take-all}
-use borrow.Author.Count.{below-none, below-more}
-use Rattle.fields.specs.Put.{put, part}
-use Rattle.fields.specs.Digits.{digits, number, numeric, isDigit}
+use Rattle.fields.specs.Digits.{number, numeric}
 use Rattle.fields.proofs.PutLaws.{take-more}
-use Rattle.fields.specs.Field.{fieldOf}
 use Rattle.fields.proofs.DigitLaws.{number-lt, number-snoc, numeric-snoc, numeric-at, pow-le, field-number, field-not, isDigit-in, isDigit-low, isDigit-high}
 use Rattle.fields.proofs.read_digits.Statement.{statement}
 use Rattle.fields.proofs.read_digits.Tie as tie

@@ -1,5 +1,5 @@
 -- `file::detail_count` meets its contract. The invariant: the records passed are details, and the rest is counted from j on.
-use Prim.Native.Nat.{ℕ, _+_, _-_, _≤_}
+use Prim.Native.Nat.{_+_, _-_, _≤_}
 use mathlib.Core.Path.{_≡_, sym, _∙_}
 use native.Mathlib.Omega.{arith}
 use borrow.Author.Needs.{needs}

@@ -1,5 +1,5 @@
 -- `file::good_file` meets its contract. The invariant: the records passed are good, and the check of the rest is that of the whole.
-use Prim.Native.Nat.{ℕ, _-_, _/_, _≤_}
+use Prim.Native.Nat.{_-_, _/_, _≤_}
 use mathlib.Core.Path.{_≡_, sym, ap, _∙_}
 use native.Mathlib.Omega.{arith}
 use borrow.Author.Needs.{needs}

@@ -1,9 +1,7 @@
 -- `groups::apply` meets its contract, by the decision that was told.
 use borrow.Author.Needs.{needs}
 use native.Mathlib.Omega.{arith}
-use mathlib.Core.Path.{_≡_}
-use Prim.Native.Nat.{_<_, _≤_}
-use Rattle.groups.specs.Steps.{applied, InReach}
+use Rattle.groups.specs.Steps.{applied}
 use Rattle.groups.proofs.apply.Statement.{statement}
 use Rattle.groups.proofs.apply.Tie as tie
 

@@ -1,19 +1,15 @@
 -- `groups::clear` meets its contract.
 use borrow.Author.Needs.{needs}
-use native.Mathlib.Omega.{arith}
-use mathlib.Core.Path.{_≡_, ap, _∙_}
+use mathlib.Core.Path.{ap, _∙_}
 use mir.Syntax.{w64}
 use mir.ValLaws.{toZ-ofZ}
 use borrow.Author.Needs.{sfits-of}
-use Prim.Native.Nat.{ℕ, _*_}
 use Rattle.notices.specs.Layout.{recordsFrom}
 use Rattle.file.specs.File.{groups}
 use Rattle.groups.specs.Groups.{taken}
 use mathlib.Core.List.{[]}
 use lib.IntN.{pos, _-ℤ_}
 use Rattle.ledger.specs.Books.{Book, book, live, totalOf}
-use Rattle.ledger.specs.declared.Ledger.{Ledger}
-use Rattle.groups.specs.Steps.{Took, Cleared}
 use Rattle.groups.proofs.GroupWalk.{book-stored}
 use Rattle.groups.proofs.clear.Statement.{statement}
 use Rattle.groups.proofs.clear.Tie as tie

@@ -1,7 +1,6 @@
 -- `groups::decide_named` meets its contract.
 use borrow.Author.Needs.{needs}
-use mathlib.Core.Path.{sym}
-use Rattle.groups.specs.Steps.{decideNamed, InPlace}
+use Rattle.groups.specs.Steps.{decideNamed}
 use Rattle.groups.proofs.PlaceLaws.{in-place}
 use Rattle.groups.proofs.decide_named.Statement.{statement}
 use Rattle.groups.proofs.decide_named.Tie as tie

@@ -1,8 +1,6 @@
 -- `groups::sought_at` meets its contract, by the place that was told.
 use borrow.Author.Needs.{needs}
 use native.Mathlib.Omega.{arith}
-use Prim.Native.Nat.{_<_}
-use Rattle.groups.specs.Steps.{InPlace}
 use Rattle.groups.proofs.sought_at.Statement.{statement}
 use Rattle.groups.proofs.sought_at.Tie as tie
 

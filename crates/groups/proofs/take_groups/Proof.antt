@@ -1,13 +1,11 @@
 -- `groups::take_groups` meets its contract. The invariant is `Walk`.
-use Prim.Native.Nat.{ℕ, _-_, _<_}
-use mathlib.Core.Path.{_≡_, sym, ap, _∙_}
-use mathlib.Core.Bool.{Bool}
+use Prim.Native.Nat.{_-_, _<_}
+use mathlib.Core.Path.{sym, ap, _∙_}
 use mathlib.Core.Logic.{⊎-elim}
 use native.Mathlib.Omega.{arith}
 use borrow.Author.Needs.{needs}
 use lib.ListN.{length}
 use Rattle.ledger.proofs.BookLaws.{places}
-use Rattle.file.specs.Walk.{groupAt}
 use Rattle.file.proofs.FileLaws.{leading-header}
 use Rattle.groups.proofs.GroupWalk.{Walk, walk-start, walk-detail, walk-header, walk-end, walk-fine}
 use Rattle.groups.proofs.take_groups.Statement.{statement}

@@ -1,6 +1,6 @@
 -- `groups::turn` meets its contract: its parts answer by one decision.
 use borrow.Author.Needs.{needs}
-use mathlib.Core.Path.{_≡_, sym, ap, _∙_, subst}
+use mathlib.Core.Path.{sym, ap, _∙_, subst}
 use native.Mathlib.Omega.{arith}
 use Rattle.fields.specs.Put.{put}
 use Rattle.notices.specs.Layout.{isSup}

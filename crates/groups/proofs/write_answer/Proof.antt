@@ -1,16 +1,13 @@
 -- `groups::write_answer` meets its contract, by the decision that was told.
 use borrow.Author.Needs.{needs}
-use Prim.Native.Nat.{ℕ, _+_, _*_, _≤_}
-use mathlib.Core.Path.{_≡_, refl, sym, ap, _∙_}
+use Prim.Native.Nat.{ℕ, _+_}
+use mathlib.Core.Path.{sym, ap}
 use native.Mathlib.Omega.{arith}
-use lib.ListN.{length}
-use Rattle.fields.specs.Put.{put}
 use Rattle.notices.proofs.LayoutLaws.{long-record}
 use Rattle.answers.proofs.AnswerLaws.{length-acf}
 use Rattle.answers.proofs.RecordLaws.{length-rej}
-use Rattle.file.specs.Walk.{groupAt}
 use Rattle.file.proofs.FileLaws.{header-is, leading-within}
-use Rattle.groups.specs.Steps.{answerTo, InReach}
+use Rattle.groups.specs.Steps.{answerTo}
 use Rattle.groups.proofs.AnswerToLaws.{details-are}
 use Rattle.groups.proofs.write_answer.Statement.{statement}
 use Rattle.groups.proofs.write_answer.Tie as tie

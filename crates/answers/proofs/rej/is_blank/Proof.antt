@@ -1,6 +1,6 @@
 -- `answers::rej::is_blank` meets its contract: the two tests are those of `isBlank`.
 use borrow.Author.Needs.{needs}
-use Rattle.fields.specs.Put.{part, filled, sameList, holds}
+use Rattle.fields.specs.Put.{part, filled}
 use Rattle.answers.specs.Answers.{isBlank}
 use Rattle.answers.proofs.rej.is_blank.Statement.{statement}
 use Rattle.answers.proofs.rej.is_blank.Tie as tie

@@ -1,12 +1,11 @@
 -- `answers::rej::write` meets its contract: the header, then a detail for each record after it.
-use Prim.Native.Nat.{ℕ, _+_, _-_, _*_, _≤_, _<_}
-use mathlib.Core.Path.{_≡_, refl, sym, ap, _∙_}
+use Prim.Native.Nat.{ℕ, _+_, _-_, _*_, _≤_}
+use mathlib.Core.Path.{_≡_, refl, _∙_}
 use mathlib.Core.Bool.{Bool}
 use mathlib.Core.List.{List}
 use native.Mathlib.Omega.{arith}
 use borrow.Author.Needs.{needs}
 use lib.ListN.{length}
-use Rattle.fields.specs.Put.{put}
 use Rattle.fields.proofs.PutLaws.{Wrote, first, next, put-nil}
 use Rattle.answers.specs.declared.rej.Rej.{Rej}
 use Rattle.notices.specs.Layout.{recordAt, recordsFrom, isSup}

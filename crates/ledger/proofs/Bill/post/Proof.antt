@@ -1,11 +1,8 @@
 -- `ledger::Bill::post` meets its contract, by whether the sequence was raised.
 use borrow.Author.Needs.{needs}
-use mathlib.Core.Path.{_≡_, refl}
 use mathlib.Core.Logic.{⊎-elim}
 use Rattle.ledger.proofs.Bill.post.Statement.{statement}
 use Rattle.ledger.proofs.Bill.post.Tie as tie
-use Rattle.ledger.proofs.Bill.post.Reads as reads
-use Rattle.ledger.proofs.Bill.post.Lts as lts
 
 add-sequence : tie.Need-add-sequence
 add-sequence c = search needs

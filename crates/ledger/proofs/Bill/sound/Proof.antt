@@ -3,10 +3,6 @@ use borrow.Author.Needs.{needs}
 use Rattle.ledger.specs.Sound.{soundBill}
 use Rattle.ledger.proofs.Bill.sound.Statement.{statement}
 use Rattle.ledger.proofs.Bill.sound.Tie as tie
-use Rattle.ledger.proofs.Bill.sound.Reads as reads
-use Rattle.ledger.proofs.Bill.sound.Lts as lts
-use Rattle.ledger.proofs.Posted.sound.Reads as Posted-sound-reads
-use Rattle.ledger.proofs.Terms.sound.Reads as Terms-sound-reads
 
 sound-requires : tie.Need-sound-requires
 sound-requires c κs = search needs

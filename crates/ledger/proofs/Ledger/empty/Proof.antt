@@ -2,9 +2,6 @@
 use borrow.Author.Needs.{needs}
 use Rattle.ledger.proofs.Ledger.empty.Statement.{statement}
 use Rattle.ledger.proofs.Ledger.empty.Tie as tie
-use Rattle.ledger.proofs.Ledger.empty.Reads as reads
-use Rattle.ledger.proofs.Ledger.empty.Lts as lts
-use Rattle.ledger.proofs.Bill.blank.Reads as blank-reads
 
 blank-requires : tie.Need-blank-requires
 blank-requires c κs = search needs

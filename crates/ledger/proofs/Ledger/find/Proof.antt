@@ -1,13 +1,10 @@
 -- `ledger::Ledger::find` meets its contract. The invariant: what the search of the bills from i on finds is what the whole search finds.
 use borrow.Author.Needs.{needs}
 use native.Mathlib.Omega.{arith}
-use Prim.Native.Nat.{ℕ, _≤_, _-_}
+use Prim.Native.Nat.{_≤_, _-_}
 use mathlib.Core.Path.{_≡_, sym, _∙_}
-use mathlib.Core.Bool.{Bool}
 use lib.ListN.{length}
 use lib.Seq.{slice}
-use Rattle.ledger.specs.declared.Identity.{Identity}
-use Rattle.ledger.specs.declared.Bill.{Bill}
 use Rattle.ledger.specs.declared.Ledger.{Ledger}
 use Rattle.ledger.specs.Lists.{find}
 use Rattle.ledger.specs.Bills.{blankBill}

@@ -11,7 +11,6 @@ use lib.Seq.{slice}
 use Rattle.fields.proofs.BoolLaws.{and-right}
 use Rattle.units.specs.Calendar.{isDate}
 use Rattle.ledger.specs.declared.Identity.{Identity}
-use Rattle.ledger.specs.declared.Bill.{Bill}
 use Rattle.ledger.specs.declared.Ledger.{Ledger}
 use Rattle.ledger.specs.Bills.{blankBill}
 use Rattle.ledger.specs.Books.{live, ofId}
@@ -21,12 +20,6 @@ use Rattle.ledger.proofs.ListLaws.{slice-step, slice-end, has-hit, has-
 use Rattle.ledger.proofs.SoundLaws.{walked, walked-bad, walked-good, past, past-hit, past-miss, past-end, headTest, split}
 use Rattle.ledger.proofs.Ledger.sound.Statement.{statement}
 use Rattle.ledger.proofs.Ledger.sound.Tie as tie
-use Rattle.ledger.proofs.Ledger.sound.Reads as reads
-use Rattle.ledger.proofs.Ledger.sound.Lts as lts
-use Rattle.ledger.proofs.Bill.sound.Reads as sound-reads
-use Rattle.ledger.proofs.Terms.is_of.Reads as is-of-reads
-use Rattle.ledger.proofs.sound.is_next.Reads as is-next-reads
-use Rattle.units.proofs.Date.valid.Reads as valid-reads
 
 record Inner (l : Ledger) (n i : ℕ) (id : Identity) (j : ℕ) : Type 0 where
   outer : i < n

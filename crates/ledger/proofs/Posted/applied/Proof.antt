@@ -2,8 +2,6 @@
 use borrow.Author.Needs.{needs}
 use Rattle.ledger.proofs.Posted.applied.Statement.{statement}
 use Rattle.ledger.proofs.Posted.applied.Tie as tie
-use Rattle.ledger.proofs.Posted.applied.Reads as reads
-use Rattle.ledger.proofs.Posted.applied.Lts as lts
 
 enum-told : tie.Need-enum-told
 enum-told c = search needs

@@ -2,8 +2,6 @@
 use borrow.Author.Needs.{needs}
 use Rattle.ledger.proofs.Posted.charge.Statement.{statement}
 use Rattle.ledger.proofs.Posted.charge.Tie as tie
-use Rattle.ledger.proofs.Posted.charge.Reads as reads
-use Rattle.ledger.proofs.Posted.charge.Lts as lts
 
 enum-told : tie.Need-enum-told
 enum-told c = search needs

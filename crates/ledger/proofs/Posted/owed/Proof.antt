@@ -2,8 +2,6 @@
 use borrow.Author.Needs.{needs}
 use Rattle.ledger.proofs.Posted.owed.Statement.{statement}
 use Rattle.ledger.proofs.Posted.owed.Tie as tie
-use Rattle.ledger.proofs.Posted.owed.Reads as reads
-use Rattle.ledger.proofs.Posted.owed.Lts as lts
 
 enum-told : tie.Need-enum-told
 enum-told c = search needs

@@ -3,11 +3,6 @@ use borrow.Author.Needs.{needs}
 use Rattle.ledger.specs.Sound.{soundAmounts}
 use Rattle.ledger.proofs.Posted.sound.Statement.{statement}
 use Rattle.ledger.proofs.Posted.sound.Tie as tie
-use Rattle.ledger.proofs.Posted.sound.Reads as reads
-use Rattle.ledger.proofs.Posted.sound.Lts as lts
-use Rattle.ledger.proofs.Product.is_prepay.Reads as is-prepay-reads
-use Rattle.ledger.proofs.sound.is_balanced.Reads as is-balanced-reads
-use Rattle.units.proofs.Cents.fits.Reads as fits-reads
 
 enum-told : tie.Need-enum-told
 enum-told c = search needs

@@ -4,10 +4,6 @@ use mathlib.Core.Bool.{and-true}
 use Rattle.ledger.specs.Bills.{isRateCode}
 use Rattle.ledger.proofs.RateCode.valid.Statement.{statement}
 use Rattle.ledger.proofs.RateCode.valid.Tie as tie
-use Rattle.ledger.proofs.RateCode.valid.Reads as reads
-use Rattle.ledger.proofs.RateCode.valid.Lts as lts
-use Rattle.fields.proofs.is_digit.Reads as is-digit-reads
-use Rattle.ledger.proofs.sound.is_letter.Reads as is-letter-reads
 
 is-letter-requires : tie.Need-is-letter-requires
 is-letter-requires c κs = search needs

@@ -2,9 +2,6 @@
 use borrow.Author.Needs.{needs}
 use Rattle.ledger.proofs.Terms.is_open.Statement.{statement}
 use Rattle.ledger.proofs.Terms.is_open.Tie as tie
-use Rattle.ledger.proofs.Terms.is_open.Reads as reads
-use Rattle.ledger.proofs.Terms.is_open.Lts as lts
-use Rattle.units.proofs.Date.at_most.Reads as at-most-reads
 
 at-most-requires : tie.Need-at-most-requires
 at-most-requires c κs = search needs

@@ -6,11 +6,6 @@ use Rattle.ledger.specs.Sound.{termsTests}
 use Rattle.ledger.proofs.ListLaws.{all-joined}
 use Rattle.ledger.proofs.Terms.sound.Statement.{statement}
 use Rattle.ledger.proofs.Terms.sound.Tie as tie
-use Rattle.ledger.proofs.Terms.sound.Reads as reads
-use Rattle.ledger.proofs.Terms.sound.Lts as lts
-use Rattle.ledger.proofs.RateCode.valid.Reads as RateCode-valid-reads
-use Rattle.units.proofs.Ccf.fits.Reads as fits-reads
-use Rattle.units.proofs.Date.valid.Reads as Date-valid-reads
 
 valid-requires : tie.Need-valid-requires
 valid-requires c κs = search needs

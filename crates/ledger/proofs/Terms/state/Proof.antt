@@ -4,9 +4,6 @@ use mathlib.Core.Path.{sym, _∙_}
 use Rattle.ledger.specs.Bills.{stateOf}
 use Rattle.ledger.proofs.Terms.state.Statement.{statement}
 use Rattle.ledger.proofs.Terms.state.Tie as tie
-use Rattle.ledger.proofs.Terms.state.Reads as reads
-use Rattle.ledger.proofs.Terms.state.Lts as lts
-use Rattle.ledger.proofs.Terms.is_open.Reads as is-open-reads
 
 returns : tie.Need-returns
 unfolding stateOf

@@ -5,15 +5,13 @@ use Prim.Native.Nat.{ℕ, zero, suc, _-_, _<_, _^_}
 use mathlib.Core.Path.{_≡_}
 use mathlib.Core.Bool.{Bool, true, false, cond}
 use lib.Dec.{ltb}
-use lib.IntN.{ℤ, pos, negsuc, _-ℤ_}
+use lib.IntN.{pos, negsuc, _-ℤ_}
 use lib.Signed.{mag}
 use mir.Syntax.{w64}
 use mir.Val.{SFits, toZ, ofZ}
 use mir.ValLaws.{toZ-pos, toZ-ofZ}
 use Rattle.ledger.proofs.books.signed_change.Statement.{statement}
 use Rattle.ledger.proofs.books.signed_change.Tie as tie
-use Rattle.ledger.proofs.books.signed_change.Reads as reads
-use Rattle.ledger.proofs.books.signed_change.Lts as lts
 
 -- the difference of two numbers below h is below h in size
 module _ (h : ℕ) where

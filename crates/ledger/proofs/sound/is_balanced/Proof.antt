@@ -1,6 +1,6 @@
 -- `ledger::sound::is_balanced` meets its contract: the sum is taken where the amounts are in their width.
 use borrow.Author.Needs.{needs}
-use Prim.Native.Nat.{_<_, _+_, _^_}
+use Prim.Native.Nat.{_<_, _^_}
 use mathlib.Core.Path.{_≡_}
 use mathlib.Core.Bool.{true, _&&_}
 use native.Mathlib.Omega.{arith}
@@ -10,11 +10,6 @@ use Rattle.units.specs.Units.{fitsCents}
 use Rattle.ledger.specs.Sound.{balanced}
 use Rattle.ledger.proofs.sound.is_balanced.Statement.{statement}
 use Rattle.ledger.proofs.sound.is_balanced.Tie as tie
-use Rattle.ledger.proofs.sound.is_balanced.Reads as reads
-use Rattle.ledger.proofs.sound.is_balanced.Lts as lts
-use Rattle.units.proofs.Cents.fits.Reads as fits-reads
-use Rattle.units.proofs.Cents.plus.Reads as plus-reads
-use Rattle.units.proofs.Cents.same.Reads as same-reads
 
 fits-requires : tie.Need-fits-requires
 fits-requires c κs = search needs
