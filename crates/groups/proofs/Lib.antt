@@ -4,4 +4,6 @@ pub mod DecideLaws
 pub mod AnswerToLaws
 pub mod TurnLaws
 pub mod GroupWalk
+pub mod ReadyLaws
+pub mod SoundKept
 pub mod CaseProofs

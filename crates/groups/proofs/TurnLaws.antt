@@ -155,13 +155,13 @@ or-right true b e = absurd (false≢true (sym e))
 or-right false b e = e
 
 -- a number of at most w bytes
-small-value : (xs : List ℕ) (w : ℕ) → length xs ≤ w → value (fieldOf xs) < 10 ^ w
+pub small-value : (xs : List ℕ) (w : ℕ) → length xs ≤ w → value (fieldOf xs) < 10 ^ w
 unfolding fieldOf
 small-value xs w h = cases (numeric xs)
     (λ e. let p = number-lt xs e in let q = pow-le (length xs) w h in rw e (omega arith))
     (λ e. rw e (pow-pos w))
 
-length-part-le : (r : List ℕ) (at w : ℕ) → length (part r at w) ≤ w
+pub length-part-le : (r : List ℕ) (at w : ℕ) → length (part r at w) ≤ w
 unfolding part
 length-part-le r at w = omega (arith, lib.ListN.length-take w (drop at r))
 
@@ -181,16 +181,16 @@ sup-room l1 l2 t today h d b e =
 
 module _ (t : Bool) (l : Ledger) (g : Group) (p : ℕ) (amounts : Posted) (v : verdictBy t (view (book l)) g ≡ Accepted amounts)
     (y : sought (view (book l)) g ≡ sought.Bill (billAt l p .terms)) where
-  clear : (first (linesBy t (view (book l)) g) ≡ Clear) × (amountsOf (isPrepay (termsOf (sought (view (book l)) g) .product)) (detailOf g) ≡ amounts)
+  pub accepted-clear : (first (linesBy t (view (book l)) g) ≡ Clear) × (amountsOf (isPrepay (termsOf (sought (view (book l)) g) .product)) (detailOf g) ≡ amounts)
   unfolding verdictBy
-  clear = settle-clear (first (linesBy t (view (book l)) g)) _ amounts v
+  accepted-clear = settle-clear (first (linesBy t (view (book l)) g)) _ amounts v
 
   -- a SUP is accepted only while the sequence has room
-  room : asksId g ≡ true → billAt l p .terms .sequence ≡ 999 → ⊥
+  pub room : asksId g ≡ true → billAt l p .terms .sequence ≡ 999 → ⊥
   unfolding linesBy
   room e =
       let r : kindOf g ≡ Supplement = rw (sup-not-rsp (g .header) e) in
-      let c = subst (λ (k : Kind). first (listBy (line1 g) (line2 g) t k (l .today) (g .header) (detailOf g) (sought (view (book l)) g)) ≡ Clear) r (clear .0) in
+      let c = subst (λ (k : Kind). first (listBy (line1 g) (line2 g) t k (l .today) (g .header) (detailOf g) (sought (view (book l)) g)) ≡ Clear) r (accepted-clear .0) in
       let x = sup-room (line1 g) (line2 g) t (l .today) (g .header) (detailOf g) (sought (view (book l)) g) c in
       eqb-false (billAt l p .terms .sequence) 999 (rw y at x)
 
@@ -199,7 +199,7 @@ module _ (t : Bool) (l : Ledger) (g : Group) (p : ℕ) (amounts : Posted) (v : v
   calm-posted h =
       let a = leb-true _ 999 (and-left (leb (billAt l p .terms .sequence) 999) (smallCharge (billAt l p)) h) in
       let m : fitsCents (chargeOf amounts) ≡ true =
-      subst (λ (x : Posted). fitsCents (chargeOf x) ≡ true) (clear .1) (charge-small (isPrepay (termsOf (sought (view (book l)) g) .product)) (detailOf g)) in
+      subst (λ (x : Posted). fitsCents (chargeOf x) ≡ true) (accepted-clear .1) (charge-small (isPrepay (termsOf (sought (view (book l)) g) .product)) (detailOf g)) in
       rw m (cases (asksId g)
       (λ e. rw e (ap (λ (b : Bool). b && true) (le-leb (billAt l p .terms .sequence + 1) 999 (omega (arith, room e)))))
       (λ e. rw e (ap (λ (b : Bool). b && true) (le-leb (billAt l p .terms .sequence) 999 a))))

@@ -7,7 +7,7 @@ use lib.Dec.{leb, eqb}
 use lib.ListN.{length}
 use native.Mathlib.Decide.{decLe}
 use native.Mathlib.Omega.{arith}
-use borrow.Author.Tests.{le-leb, lt-leb, leb-true, ltb-true}
+use borrow.Author.Tests.{lt-ltb, le-leb, lt-leb, leb-true, ltb-true}
 use Rattle.fields.proofs.BoolLaws.{and-left, and-right}
 use Rattle.units.specs.declared.Cents.{Cents}
 use Rattle.units.specs.Units.{fitsCents}
@@ -58,6 +58,29 @@ terms-facts t h =
       from = o .1 .1 .1 .1 .1 .1 .1 .1 .1 .1 .0;
       scheduled = o .1 .1 .1 .1 .1 .1 .1 .1 .1 .1 .1 .0;
     }
+
+pub facts-terms : (t : Terms) → TermsFacts t → soundTerms t ≡ true
+unfolding termsTests
+facts-terms t f =
+    on-all (termsTests t) (
+      lt-ltb _ _ (f .account),
+      (
+        lt-ltb _ _ (f .key),
+        (
+          f .code,
+          (
+            le-leb _ _ (f .asked),
+            (
+              le-leb _ _ (f .requests),
+              (
+                le-leb _ _ (f .sequence),
+                (le-leb _ _ (f .from-one), (le-leb _ _ (f .tracking), (lt-ltb _ _ (f .consumption), (f .billing, (f .from, (f .scheduled, tt)))))),
+              ),
+            ),
+          ),
+        ),
+      ),
+    )
 
 -- applied plus owed is the charge, which is in its width
 pub balanced-charge : (charge applied owed : Cents) → balanced charge applied owed ≡ true → fitsCents charge ≡ true

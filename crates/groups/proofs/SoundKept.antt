@@ -1,0 +1,63 @@
+-- An accepted group leaves its bill sound. Assumes nothing.
+use Prim.Native.Nat.{ℕ, _+_}
+use mathlib.Core.Path.{_≡_, refl}
+use mathlib.Core.Bool.{Bool, true, false, not}
+use mathlib.Core.List.{List, _∷_, _++_}
+use lib.Dec.{eqb, leb}
+use borrow.Author.Tests.{not-false, not-true, lt-ltb}
+use Rattle.fields.proofs.BoolLaws.{and-left}
+use Rattle.fields.specs.Field.{fieldOf, value}
+use Rattle.units.specs.declared.Date.{Date}
+use Rattle.units.specs.Units.{fitsCents}
+use Rattle.ledger.specs.declared.Terms.{Terms}
+use Rattle.ledger.specs.Bills.{isPrepay, isOpen, cents}
+use Rattle.ledger.specs.Sound.{balanced, soundAmounts}
+use Rattle.notices.specs.Layout.{appliedIn, owedIn}
+use Rattle.verdict.specs.declared.Check.the-variants.{Clear}
+use Rattle.verdict.specs.declared.Kind.{Kind}
+use Rattle.verdict.specs.declared.Kind.the-variants.{Response, Supplement}
+use Rattle.verdict.specs.declared.Sought.{Sought}
+use Rattle.verdict.specs.Rules.{Rule, rule, first}
+use Rattle.verdict.specs.Lines.{termsOf, line4, line5, line6, line7, line8, line9, line10, lines8to10, sentConsumption, sentCharge, amountsOf}
+use Rattle.groups.proofs.TurnLaws.{clear-off, small-value, length-part-le}
+
+-- the lines of a group, with the product's mark written out
+abbrev listFor : Bool → Bool → Bool → Kind → Date → List ℕ → List ℕ → Sought → Bool → List Rule
+listFor l1 l2 t k today h d b prepay =
+    rule l1 17
+    ∷ rule l2 19
+    ∷ rule t 14
+    ∷ line4 b
+    ++ (line5 h (termsOf b) ++ (line6 k today h d (termsOf b) ++ (line7 d (termsOf b) ++ lines8to10 prepay h d (sentConsumption d) (sentCharge d))))
+
+open-alive : (today : Date) (t : Terms) → not (isOpen today t) ≡ false → t .cancelled ≡ false
+open-alive today t e = not-true (t .cancelled) (and-left (not (t .cancelled)) (leb (today .0) (t .latest .scheduled .0)) (not-false (isOpen today t) e))
+
+-- no group is accepted for a cancelled bill
+alive : (l1 l2 t : Bool) (k : Kind) (today : Date) (h d : List ℕ) (b : Sought) (prepay : Bool)
+    → first (listFor l1 l2 t k today h d b prepay) ≡ Clear → termsOf b .cancelled ≡ false
+unfolding line4 line5 line6
+alive l1 l2 t Response today h d b prepay e =
+    open-alive today (termsOf b) (clear-off (listFor l1 l2 t Response today h d b prepay) e .1 .1 .1 .1 .1 .0)
+alive l1 l2 t Supplement today h d b prepay e = clear-off (listFor l1 l2 t Supplement today h d b prepay) e .1 .1 .1 .1 .1 .0
+
+-- Prepay: applied plus owed is the charge
+paid : (l1 l2 t : Bool) (k : Kind) (today : Date) (h d : List ℕ) (b : Sought)
+    → first (listFor l1 l2 t k today h d b true) ≡ Clear
+    → eqb (value (fieldOf (appliedIn d)) + value (fieldOf (owedIn d))) (sentCharge d) ≡ true
+unfolding line4 line5 line6 line7 line8 line9 line10
+paid l1 l2 t Response today h d b e =
+    not-false _ (clear-off (listFor l1 l2 t Response today h d b true) e .1 .1 .1 .1 .1 .1 .1 .1 .1 .1 .1 .1 .1 .1 .1 .1 .1 .0)
+paid l1 l2 t Supplement today h d b e =
+    not-false _ (clear-off (listFor l1 l2 t Supplement today h d b true) e .1 .1 .1 .1 .1 .1 .1 .1 .1 .1 .1 .1 .1 .1 .1 .1 .1 .0)
+
+-- a field of 13 bytes is in its width
+fits-13 : (d : List ℕ) (at : ℕ) → fitsCents (cents (value (fieldOf (Rattle.fields.specs.Put.part d at 13)))) ≡ true
+fits-13 d at = lt-ltb _ _ (small-value (Rattle.fields.specs.Put.part d at 13) 13 (length-part-le d at 13))
+
+amounts-sound : (t : Terms) (d : List ℕ) (prepay : Bool) → isPrepay (t .product) ≡ prepay → t .cancelled ≡ false
+    → (prepay ≡ true → eqb (value (fieldOf (appliedIn d)) + value (fieldOf (owedIn d))) (sentCharge d) ≡ true)
+    → soundAmounts t (amountsOf prepay d) ≡ true
+unfolding soundAmounts amountsOf balanced
+amounts-sound t d true p a q = rw (a, p, fits-13 d 66, fits-13 d 233, fits-13 d 246, q refl)
+amounts-sound t d false p a q = rw (a, p, fits-13 d 66)
