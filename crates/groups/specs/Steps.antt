@@ -1,7 +1,7 @@
 -- What the contracts of the parts cite: a decision with the place of the bill in the struct. Assumes nothing.
 use Prim.Native.Nat.{ℕ, _+_, _<_, _≤_}
 use mathlib.Core.Path.{_≡_}
-use mathlib.Core.Bool.{Bool, true, cond, _&&_}
+use mathlib.Core.Bool.{Bool, true, false, cond, _&&_}
 use mathlib.Core.List.{List, []}
 use lib.Dec.{leb}
 use lib.IntN.{pos, _-ℤ_}
@@ -63,6 +63,11 @@ answerTo l g (Post p amounts) =
     acf (g .header)
     (record { terms = billAt l p .terms; tracking = l .«next_tracking»; today = l .today; confirmation = l .«next_confirmation» })
 answerTo l g (Reject n) = rej (g .header) (g .details) (record { code = n; today = l .today; confirmation = l .«next_confirmation» })
+
+-- an accepted SUP takes a Tracking ID, any other group none
+unfoldable pub takesId : Bool → Decision → Bool
+takesId sup (Reject n) = false
+takesId sup (Post p amounts) = sup
 
 -- the struct after a decision
 unfoldable pub applied : Ledger → Bool → Decision → Ledger

@@ -12,7 +12,7 @@ ghost use Rattle.file.specs.File.{groups};
 ghost use Rattle.file.specs.Walk.{groupAt};
 ghost use Rattle.answers.specs.Answers.{acf};
 ghost use Rattle.groups.specs.Groups.{answers};
-ghost use Rattle.groups.specs.Steps.{identityIn, soughtAt, decided, decisionBy, decideNamed, applied, answerTo, InPlace, InReach, Ready, acceptedBy, rejectedBy, Fine, turned, answerBy, calm, Took, Cleared};
+ghost use Rattle.groups.specs.Steps.{identityIn, soughtAt, decided, decisionBy, decideNamed, takesId, applied, answerTo, InPlace, InReach, Ready, acceptedBy, rejectedBy, Fine, turned, answerBy, calm, Took, Cleared};
 use answers::acf::Acf;
 use answers::rej::Rej;
 use file::Form;
@@ -106,11 +106,20 @@ fn decide(s: &[u8], i: usize, n: usize, duplicate: bool, l: Ledger) -> Decision
     decide_named(&s[a..b], &s[b..e], kind, l)
 }
 
-// How many Tracking IDs an accepted group takes.
-fn ids_used(sup: bool) -> u64
-    ensures { λ r. ⌜ (r ≡ cond sup 1 0) × (r ≤ 1) ⌝ }
+// Does a decided group take a Tracking ID? An accepted SUP does.
+fn takes_id(sup: bool, d: Decision) -> bool
+    ensures { λ r. ⌜ r ≡ takesId sup d ⌝ }
 {
-    if sup { 1 } else { 0 }
+    match d {
+        Decision::Post(_, _) => sup,
+        Decision::Reject(_) => false,
+    }
+}
+
+fn ids_used(takes: bool) -> u64
+    ensures { λ r. ⌜ (r ≡ cond takes 1 0) × (r ≤ 1) ⌝ }
+{
+    if takes { 1 } else { 0 }
 }
 
 // The ledger after a decision.
@@ -123,12 +132,12 @@ fn apply(l: Ledger, sup: bool, d: Decision) -> Ledger
     let tracking = l.next_tracking;
     let mut next = l;
     next.next_confirmation = confirmation + 1;
+    next.next_tracking = tracking + ids_used(takes_id(sup, d));
     match d {
         Decision::Reject(_) => next,
         Decision::Post(p, amounts) => {
             let b = l.bills[p];
             next.bills[p] = b.post(amounts, sup);
-            next.next_tracking = tracking + ids_used(sup);
             next
         }
     }
