@@ -1,25 +1,36 @@
 -- An accepted group leaves its bill sound. Assumes nothing.
 use Prim.Native.Nat.{ℕ, _+_}
-use mathlib.Core.Path.{_≡_, refl}
+use mathlib.Core.Path.{_≡_, refl, sym, ap, subst}
 use mathlib.Core.Bool.{Bool, true, false, not}
 use mathlib.Core.List.{List, _∷_, _++_}
+use native.Mathlib.Omega.{arith}
 use lib.Dec.{eqb, leb}
 use borrow.Author.Tests.{not-false, not-true, lt-ltb}
 use Rattle.fields.proofs.BoolLaws.{and-left}
 use Rattle.fields.specs.Field.{fieldOf, value}
 use Rattle.units.specs.declared.Date.{Date}
 use Rattle.units.specs.Units.{fitsCents}
+use Rattle.ledger.specs.declared.Bill.{Bill}
+use Rattle.ledger.specs.declared.Ledger.{Ledger}
+use Rattle.ledger.specs.declared.Posted.{Posted}
 use Rattle.ledger.specs.declared.Terms.{Terms}
-use Rattle.ledger.specs.Bills.{isPrepay, isOpen, cents}
-use Rattle.ledger.specs.Sound.{balanced, soundAmounts}
+use Rattle.ledger.specs.Bills.{isPrepay, isOpen, posting, cents}
+use Rattle.ledger.specs.Books.{book, view}
+use Rattle.ledger.specs.Sound.{soundTerms, balanced, soundAmounts, soundBill}
+use Rattle.ledger.proofs.SoundLaws.{terms-facts, facts-terms, bill-terms}
 use Rattle.notices.specs.Layout.{appliedIn, owedIn}
+use Rattle.file.specs.File.{Group, detailOf, asksId, line1, line2}
 use Rattle.verdict.specs.declared.Check.the-variants.{Clear}
 use Rattle.verdict.specs.declared.Kind.{Kind}
 use Rattle.verdict.specs.declared.Kind.the-variants.{Response, Supplement}
 use Rattle.verdict.specs.declared.Sought.{Sought}
+use Rattle.verdict.specs.declared.Sought.the-variants as sought
+use Rattle.verdict.specs.declared.Verdict.the-variants.{Accepted}
 use Rattle.verdict.specs.Rules.{Rule, rule, first}
 use Rattle.verdict.specs.Lines.{termsOf, line4, line5, line6, line7, line8, line9, line10, lines8to10, sentConsumption, sentCharge, amountsOf}
-use Rattle.groups.proofs.TurnLaws.{clear-off, small-value, length-part-le}
+use Rattle.groups.specs.Groups.{kindOf, sought, linesBy, verdictBy}
+use Rattle.groups.specs.Steps.{billAt}
+use Rattle.groups.proofs.TurnLaws.{clear-off, small-value, length-part-le, accepted-clear, room}
 
 -- the lines of a group, with the product's mark written out
 abbrev listFor : Bool → Bool → Bool → Kind → Date → List ℕ → List ℕ → Sought → Bool → List Rule
@@ -61,3 +72,63 @@ amounts-sound : (t : Terms) (d : List ℕ) (prepay : Bool) → isPrepay (t .prod
 unfolding soundAmounts amountsOf balanced
 amounts-sound t d true p a q = rw (a, p, fits-13 d 66, fits-13 d 233, fits-13 d 246, q refl)
 amounts-sound t d false p a q = rw (a, p, fits-13 d 66)
+
+-- a sequence that a SUP raises had room
+terms-posted : (b : Bill) (amounts : Posted) (sup : Bool) → soundTerms (b .terms) ≡ true → (sup ≡ true → b .terms .sequence ≡ 999 → ⊥)
+    → soundTerms (posting amounts sup b .terms) ≡ true
+terms-posted b amounts true h r =
+    let f = terms-facts (b .terms) h in
+    let less = r refl in
+    facts-terms _ (record {
+      account = f .account;
+      key = f .key;
+      code = f .code;
+      asked = f .asked;
+      requests = omega (arith, f .requests);
+      sequence = omega (arith, f .sequence, less);
+      from-one = f .from-one;
+      tracking = f .tracking;
+      consumption = f .consumption;
+      billing = f .billing;
+      from = f .from;
+      scheduled = f .scheduled;
+    })
+terms-posted b amounts false h r = h
+
+-- an accepted group leaves the bill that it is about sound
+module _ (t : Bool) (l : Ledger) (g : Group) (p : ℕ) (amounts : Posted) (v : verdictBy t (view (book l)) g ≡ Accepted amounts)
+    (y : sought (view (book l)) g ≡ sought.Bill (billAt l p .terms)) where
+  abbrev bill : Sought
+  bill = sought (view (book l)) g
+
+  abbrev after : Terms
+  after = posting amounts (asksId g) (billAt l p) .terms
+
+  abbrev prepaid : Bool
+  prepaid = isPrepay (termsOf bill .product)
+
+  clear-at : first (listFor (line1 g) (line2 g) t (kindOf g) (l .today) (g .header) (detailOf g) bill prepaid) ≡ Clear
+  unfolding linesBy
+  clear-at = accepted-clear t l g p amounts v y .0
+
+  uncancelled : after .cancelled ≡ false
+  uncancelled = rw y at (alive (line1 g) (line2 g) t (kindOf g) (l .today) (g .header) (detailOf g) bill prepaid clear-at)
+
+  settled-sum : prepaid ≡ true → eqb (value (fieldOf (appliedIn (detailOf g))) + value (fieldOf (owedIn (detailOf g)))) (sentCharge (detailOf g)) ≡ true
+  settled-sum e =
+      paid (line1 g) (line2 g) t (kindOf g) (l .today) (g .header) (detailOf g) bill
+      (subst (λ (x : Bool). first (listFor (line1 g) (line2 g) t (kindOf g) (l .today) (g .header) (detailOf g) bill x) ≡ Clear) e clear-at)
+
+  product-is : isPrepay (after .product) ≡ prepaid
+  product-is = sym (ap (λ (b : Sought). isPrepay (termsOf b .product)) y)
+
+  amounts-kept : soundAmounts after amounts ≡ true
+  amounts-kept =
+      subst (λ (x : Posted). soundAmounts after x ≡ true) (accepted-clear t l g p amounts v y .1)
+      (amounts-sound after (detailOf g) prepaid product-is uncancelled settled-sum)
+
+  pub sound-posted : soundBill (billAt l p) ≡ true → soundBill (posting amounts (asksId g) (billAt l p)) ≡ true
+  unfolding soundBill
+  sound-posted h =
+      let a = terms-posted (billAt l p) amounts (asksId g) (bill-terms (billAt l p) h) (room t l g p amounts v y) in
+      rw (a, amounts-kept)
