@@ -108,7 +108,7 @@ module _ (t : Bool) (l : Ledger) (g : Group) where
       go (rejects n x d) = rw x a
       go (posts p amounts h x d y z) =
           rw (x, z (posting amounts (asksId g)))
-          (every-set calm (live l) p _ a (calm-posted t l g p amounts x y (every-held calm l p h k a)))
+          (every-set calm (live l) p _ a (calm-posted t (book l) g (billAt l p) amounts x y (every-held calm l p h k a)))
 
   numbers-up : (settled (book l) g v .tracking ≤ l .«next_tracking» + 1) × (settled (book l) g v .confirmation ≤ l .«next_confirmation» + 1)
   unfolding settled

@@ -11,11 +11,10 @@ use Rattle.fields.specs.Field.{fieldOf, value}
 use Rattle.units.specs.declared.Date.{Date}
 use Rattle.units.specs.Units.{fitsCents}
 use Rattle.ledger.specs.declared.Bill.{Bill}
-use Rattle.ledger.specs.declared.Ledger.{Ledger}
 use Rattle.ledger.specs.declared.Posted.{Posted}
 use Rattle.ledger.specs.declared.Terms.{Terms}
 use Rattle.ledger.specs.Bills.{isPrepay, isOpen, posting, cents}
-use Rattle.ledger.specs.Books.{book, view}
+use Rattle.ledger.specs.Books.{Book, view}
 use Rattle.ledger.specs.Sound.{soundTerms, balanced, soundAmounts, soundBill}
 use Rattle.ledger.proofs.SoundLaws.{terms-facts, facts-terms, bill-terms}
 use Rattle.notices.specs.Layout.{appliedIn, owedIn}
@@ -29,7 +28,6 @@ use Rattle.verdict.specs.declared.Verdict.the-variants.{Accepted}
 use Rattle.verdict.specs.Rules.{Rule, rule, first}
 use Rattle.verdict.specs.Lines.{termsOf, line4, line5, line6, line7, line8, line9, line10, lines8to10, sentConsumption, sentCharge, amountsOf}
 use Rattle.groups.specs.Groups.{kindOf, sought, linesBy, verdictBy}
-use Rattle.groups.specs.Steps.{billAt}
 use Rattle.groups.proofs.TurnLaws.{clear-off, small-value, length-part-le, accepted-clear, room}
 
 -- the lines of a group, with the product's mark written out
@@ -96,39 +94,39 @@ terms-posted b amounts true h r =
 terms-posted b amounts false h r = h
 
 -- an accepted group leaves the bill that it is about sound
-module _ (t : Bool) (l : Ledger) (g : Group) (p : ℕ) (amounts : Posted) (v : verdictBy t (view (book l)) g ≡ Accepted amounts)
-    (y : sought (view (book l)) g ≡ sought.Bill (billAt l p .terms)) where
-  abbrev bill : Sought
-  bill = sought (view (book l)) g
+module _ (t : Bool) (k : Book) (g : Group) (b : Bill) (amounts : Posted) (v : verdictBy t (view k) g ≡ Accepted amounts)
+    (y : sought (view k) g ≡ sought.Bill (b .terms)) where
+  abbrev named : Sought
+  named = sought (view k) g
 
   abbrev after : Terms
-  after = posting amounts (asksId g) (billAt l p) .terms
+  after = posting amounts (asksId g) b .terms
 
   abbrev prepaid : Bool
-  prepaid = isPrepay (termsOf bill .product)
+  prepaid = isPrepay (termsOf named .product)
 
-  clear-at : first (listFor (line1 g) (line2 g) t (kindOf g) (l .today) (g .header) (detailOf g) bill prepaid) ≡ Clear
+  clear-at : first (listFor (line1 g) (line2 g) t (kindOf g) (k .today) (g .header) (detailOf g) named prepaid) ≡ Clear
   unfolding linesBy
-  clear-at = accepted-clear t l g p amounts v y .0
+  clear-at = accepted-clear t k g b amounts v y .0
 
   uncancelled : after .cancelled ≡ false
-  uncancelled = rw y at (alive (line1 g) (line2 g) t (kindOf g) (l .today) (g .header) (detailOf g) bill prepaid clear-at)
+  uncancelled = rw y at (alive (line1 g) (line2 g) t (kindOf g) (k .today) (g .header) (detailOf g) named prepaid clear-at)
 
   settled-sum : prepaid ≡ true → eqb (value (fieldOf (appliedIn (detailOf g))) + value (fieldOf (owedIn (detailOf g)))) (sentCharge (detailOf g)) ≡ true
   settled-sum e =
-      paid (line1 g) (line2 g) t (kindOf g) (l .today) (g .header) (detailOf g) bill
-      (subst (λ (x : Bool). first (listFor (line1 g) (line2 g) t (kindOf g) (l .today) (g .header) (detailOf g) bill x) ≡ Clear) e clear-at)
+      paid (line1 g) (line2 g) t (kindOf g) (k .today) (g .header) (detailOf g) named
+      (subst (λ (x : Bool). first (listFor (line1 g) (line2 g) t (kindOf g) (k .today) (g .header) (detailOf g) named x) ≡ Clear) e clear-at)
 
   product-is : isPrepay (after .product) ≡ prepaid
-  product-is = sym (ap (λ (b : Sought). isPrepay (termsOf b .product)) y)
+  product-is = sym (ap (λ (x : Sought). isPrepay (termsOf x .product)) y)
 
   amounts-kept : soundAmounts after amounts ≡ true
   amounts-kept =
-      subst (λ (x : Posted). soundAmounts after x ≡ true) (accepted-clear t l g p amounts v y .1)
+      subst (λ (x : Posted). soundAmounts after x ≡ true) (accepted-clear t k g b amounts v y .1)
       (amounts-sound after (detailOf g) prepaid product-is uncancelled settled-sum)
 
-  pub sound-posted : soundBill (billAt l p) ≡ true → soundBill (posting amounts (asksId g) (billAt l p)) ≡ true
+  pub sound-posted : soundBill b ≡ true → soundBill (posting amounts (asksId g) b) ≡ true
   unfolding soundBill
   sound-posted h =
-      let a = terms-posted (billAt l p) amounts (asksId g) (bill-terms (billAt l p) h) (room t l g p amounts v y) in
+      let a = terms-posted b amounts (asksId g) (bill-terms b h) (room t k g b amounts v y) in
       rw (a, amounts-kept)

@@ -22,7 +22,7 @@ use Rattle.ledger.specs.declared.Posted.{Posted}
 use Rattle.ledger.specs.declared.Found.the-variants as found
 use Rattle.ledger.specs.Lists.{every, update}
 use Rattle.ledger.specs.Bills.{isPrepay, chargeOf, posting, blankBill}
-use Rattle.ledger.specs.Books.{book, live, view, ofId, placeOf, stored, smallCharge}
+use Rattle.ledger.specs.Books.{Book, book, live, view, ofId, placeOf, stored, smallCharge}
 use Rattle.ledger.proofs.ListLaws.{every-at}
 use Rattle.notices.specs.Layout.{noticeIn, sequenceIn, chargeIn, isRsp, isSup}
 use Rattle.file.specs.File.{Group, detailOf, asksId, line1, line2}
@@ -179,27 +179,27 @@ sup-room l1 l2 t today h d b e =
     let o = clear-off (listBy l1 l2 t Supplement today h d b) e in
     or-right (not (sameList (sequenceIn d) (text "000"))) (eqb (termsOf b .sequence) 999) (o .1 .1 .1 .1 .1 .1 .1 .0)
 
-module _ (t : Bool) (l : Ledger) (g : Group) (p : ℕ) (amounts : Posted) (v : verdictBy t (view (book l)) g ≡ Accepted amounts)
-    (y : sought (view (book l)) g ≡ sought.Bill (billAt l p .terms)) where
-  pub accepted-clear : (first (linesBy t (view (book l)) g) ≡ Clear) × (amountsOf (isPrepay (termsOf (sought (view (book l)) g) .product)) (detailOf g) ≡ amounts)
+module _ (t : Bool) (k : Book) (g : Group) (b : Bill) (amounts : Posted) (v : verdictBy t (view k) g ≡ Accepted amounts)
+    (y : sought (view k) g ≡ sought.Bill (b .terms)) where
+  pub accepted-clear : (first (linesBy t (view k) g) ≡ Clear) × (amountsOf (isPrepay (termsOf (sought (view k) g) .product)) (detailOf g) ≡ amounts)
   unfolding verdictBy
-  accepted-clear = settle-clear (first (linesBy t (view (book l)) g)) _ amounts v
+  accepted-clear = settle-clear (first (linesBy t (view k) g)) _ amounts v
 
   -- a SUP is accepted only while the sequence has room
-  pub room : asksId g ≡ true → billAt l p .terms .sequence ≡ 999 → ⊥
+  pub room : asksId g ≡ true → b .terms .sequence ≡ 999 → ⊥
   unfolding linesBy
   room e =
       let r : kindOf g ≡ Supplement = rw (sup-not-rsp (g .header) e) in
-      let c = subst (λ (k : Kind). first (listBy (line1 g) (line2 g) t k (l .today) (g .header) (detailOf g) (sought (view (book l)) g)) ≡ Clear) r (accepted-clear .0) in
-      let x = sup-room (line1 g) (line2 g) t (l .today) (g .header) (detailOf g) (sought (view (book l)) g) c in
-      eqb-false (billAt l p .terms .sequence) 999 (rw y at x)
+      let c = subst (λ (m : Kind). first (listBy (line1 g) (line2 g) t m (k .today) (g .header) (detailOf g) (sought (view k) g)) ≡ Clear) r (accepted-clear .0) in
+      let x = sup-room (line1 g) (line2 g) t (k .today) (g .header) (detailOf g) (sought (view k) g) c in
+      eqb-false (b .terms .sequence) 999 (rw y at x)
 
-  pub calm-posted : calm (billAt l p) ≡ true → calm (posting amounts (asksId g) (billAt l p)) ≡ true
+  pub calm-posted : calm b ≡ true → calm (posting amounts (asksId g) b) ≡ true
   unfolding calm
   calm-posted h =
-      let a = leb-true _ 999 (and-left (leb (billAt l p .terms .sequence) 999) (smallCharge (billAt l p)) h) in
+      let a = leb-true _ 999 (and-left (leb (b .terms .sequence) 999) (smallCharge b) h) in
       let m : fitsCents (chargeOf amounts) ≡ true =
-      subst (λ (x : Posted). fitsCents (chargeOf x) ≡ true) (accepted-clear .1) (charge-small (isPrepay (termsOf (sought (view (book l)) g) .product)) (detailOf g)) in
+      subst (λ (x : Posted). fitsCents (chargeOf x) ≡ true) (accepted-clear .1) (charge-small (isPrepay (termsOf (sought (view k) g) .product)) (detailOf g)) in
       rw m (cases (asksId g)
-      (λ e. rw e (ap (λ (b : Bool). b && true) (le-leb (billAt l p .terms .sequence + 1) 999 (omega (arith, room e)))))
-      (λ e. rw e (ap (λ (b : Bool). b && true) (le-leb (billAt l p .terms .sequence) 999 a))))
+      (λ e. rw e (ap (λ (x : Bool). x && true) (le-leb (b .terms .sequence + 1) 999 (omega (arith, room e)))))
+      (λ e. rw e (ap (λ (x : Bool). x && true) (le-leb (b .terms .sequence) 999 a))))
