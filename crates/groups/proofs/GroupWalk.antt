@@ -57,7 +57,7 @@ length-update p f (b ∷ bs) = go (p b) (length-update p f bs)
     go true e = refl
     go false e = ap suc e
 
-length-settled : (k : Book) (g : Group) (v : Verdict) → length (settled k g v .bills) ≡ length (k .bills)
+pub length-settled : (k : Book) (g : Group) (v : Verdict) → length (settled k g v .bills) ≡ length (k .bills)
 unfolding settled
 length-settled k g (Accepted amounts) = length-update (ofId (identityOf g)) (posting amounts (asksId g)) (k .bills)
 length-settled k g (Rejected n) = refl

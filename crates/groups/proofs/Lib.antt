@@ -6,4 +6,5 @@ pub mod TurnLaws
 pub mod GroupWalk
 pub mod ReadyLaws
 pub mod SoundKept
+pub mod FileSound
 pub mod CaseProofs
