@@ -85,7 +85,7 @@ fn ids(s: &[u8], n: usize) -> [u64; 200]
 // The headers of groups that get BR14: the walk over the others of a group is left at the first match.
 pub fn duplicates(s: &[u8], n: usize) -> [bool; 200]
     requires { ⌜ (n ≤ 200) × (n * 321 ≤ length (now s)) ⌝ }
-    ensures { λ r. ⌜ ((k : ℕ) → k < n → getD r k false ≡ markAt (now (s .entry)) n k) ⌝ }
+    ensures { λ r. ⌜ ((k : ℕ) → k < n → getD r k false ≡ markAt (now (s .entry)) n k) × ((k : ℕ) → n ≤ k → getD r k false ≡ false) ⌝ }
 {
     let id = ids(s, n);
     let mut marks = [false; 200];

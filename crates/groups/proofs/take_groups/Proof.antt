@@ -49,7 +49,7 @@ loop-again c =
     let i = c .before .before .before .loop .i in
     let h : i < n = omega arith in
     let q = c .before .before .before .loop .inv in
-    let m = c .before .before .before .before .duplicates .ensures i h in
+    let m = c .before .before .before .before .duplicates .ensures .0 i h in
     ⊎-elim
     (λ w.
     let e = sym (c .before .header-at .ensures) ∙ w .0 .taken in

@@ -102,7 +102,7 @@ loop-again c =
     (c .if1 .came)
 
 returns : tie.Need-returns Inv-others μ-others Inv-loop μ-loop
-returns c = λ k h. c .before .loop .inv .2 .0 k (omega arith)
+returns c = (λ k h. c .before .loop .inv .2 .0 k (omega arith), λ k h. c .before .loop .inv .2 .1 k (omega arith))
 
 pub duplicates-spec : {M : Type 1} → statement M
 duplicates-spec =
