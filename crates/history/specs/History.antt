@@ -1,0 +1,180 @@
+-- "From fresh's arguments and that list alone the history works out today, the next numbers, the bills with every field but the posted
+-- amounts, and a list of postings": it reads causes and verdicts on its own bills and moves by its own definitions. Assumes nothing.
+use Prim.Native.Nat.{ℕ, _+_}
+use mathlib.Core.Bool.{Bool, true, false, cond, _&&_}
+use mathlib.Core.List.{List, [], _∷_, _++_}
+use lib.Dec.{eqb}
+use Rattle.units.specs.declared.Date.{Date}
+use Rattle.ledger.specs.declared.Identity.{Identity}
+use Rattle.ledger.specs.declared.Latest.{Latest}
+use Rattle.ledger.specs.declared.Terms.{Terms}
+use Rattle.ledger.specs.Lists.{has, sum, update}
+use Rattle.ledger.specs.Bills.{isOf}
+use Rattle.ledger.specs.Books.{View}
+use Rattle.file.specs.File.{Group, fileGroups, detailOf, asksId}
+use Rattle.verdict.specs.declared.Check.{Check}
+use Rattle.verdict.specs.declared.Check.the-variants.{Clear, Stop}
+use Rattle.verdict.specs.declared.Verdict.{Verdict}
+use Rattle.verdict.specs.declared.Verdict.the-variants.{Accepted, Rejected}
+use Rattle.verdict.specs.Rules.{first}
+use Rattle.verdict.specs.Lines.{sentCharge}
+use Rattle.groups.specs.Groups.{identityOf, verdict}
+use Rattle.calls.specs.declared.Start.{Start}
+use Rattle.calls.specs.declared.Request.{Request}
+use Rattle.calls.specs.Causes.{Call, request, file, cancel, close, causes}
+use Rattle.calls.specs.Machine.{codeOf, productOf, latestOf}
+
+-- "postings, each a bill and a charge"
+pub record Posting : Type 0 where
+  pub identity : Identity
+  pub charge : ℕ
+
+-- the postings stand with the latest first
+pub record History : Type 0 where
+  pub now : View
+  pub postings : List Posting
+
+-- "bills and postings are empty at first"
+abbrev pub begun : Start → History
+begun s =
+    record { now = record { today = s .today; tracking = s .tracking; confirmation = s .confirmation; bills = [] }; postings = [] }
+
+-- ---- "The history's sum takes for each bill the charge of its last posting, or 0 if there is none or the bill is cancelled."
+abbrev pub isFor : Identity → Posting → Bool
+isFor id p = eqb (p .identity .account) (id .account) && eqb (p .identity .key) (id .key)
+
+abbrev pub lastCharge : Identity → List Posting → ℕ
+lastCharge id [] = 0
+lastCharge id (p ∷ ps) = cond (isFor id p) (p .charge) (lastCharge id ps)
+
+abbrev pub chargeIn : List Posting → Terms → ℕ
+chargeIn ps t = cond (t .cancelled) 0 (lastCharge (t .identity) ps)
+
+unfoldable pub historySum : History → ℕ
+historySum h = sum (chargeIn (h .postings)) (h .now .bills)
+
+-- ---- "a request adds or renews its bill, a cancel marks it, a close sets today, .. numbers and sequences move as above"
+-- a bill with this sequence, count of requests, mark and latest request
+abbrev moved : ℕ → ℕ → Bool → Latest → Terms → Terms
+moved sequence requests cancelled latest t =
+    record {
+      identity = t .identity;
+      code = t .code;
+      product = t .product;
+      sequence = sequence;
+      requests = requests;
+      cancelled = cancelled;
+      latest = latest;
+    }
+
+abbrev pub added : Request → ℕ → Terms
+added r tracking =
+    record {
+      identity = r .identity;
+      code = codeOf (r .code);
+      product = productOf (r .product);
+      sequence = 1;
+      requests = 1;
+      cancelled = false;
+      latest = latestOf r tracking;
+    }
+
+abbrev pub renews : Request → ℕ → Terms → Terms
+renews r tracking t = moved (t .sequence + 1) (t .requests + 1) (t .cancelled) (latestOf r tracking) t
+
+abbrev pub marked : Terms → Terms
+marked t = moved (t .sequence) (t .requests) true (t .latest) t
+
+-- a SUP raises the sequence
+abbrev pub raised : Bool → Terms → Terms
+raised sup t = moved (cond sup (t .sequence + 1) (t .sequence)) (t .requests) (t .cancelled) (t .latest) t
+
+-- a view with other numbers and bills
+abbrev pub onward : View → ℕ → ℕ → List Terms → View
+onward v tracking confirmation bills =
+    record { today = v .today; tracking = v .tracking + tracking; confirmation = v .confirmation + confirmation; bills = bills }
+
+-- ---- "a file decides its groups in order, each accepted one adding a posting"
+unfoldable pub decided : History → Group → Verdict → History
+decided h g (Accepted amounts) =
+    record {
+      now = onward (h .now) (cond (asksId g) 1 0) 1 (update (isOf (identityOf g)) (raised (asksId g)) (h .now .bills));
+      postings = record { identity = identityOf g; charge = sentCharge (detailOf g) } ∷ h .postings;
+    }
+decided h g (Rejected n) = record { now = onward (h .now) 0 1 (h .now .bills); postings = h .postings }
+
+-- a group as the history decides it, with the history's view when it is decided
+pub record Decided : Type 0 where
+  pub now : View
+  pub group : Group
+  pub verdict : Verdict
+
+-- before were decided, and gs are to come
+abbrev pub verdictOn : List Group → History → Group → List Group → Verdict
+verdictOn before h g gs = verdict (h .now) (before ++ gs) g
+
+unfoldable pub decidedAll : List Group → History → List Group → History
+decidedAll before h [] = h
+decidedAll before h (g ∷ gs) = decidedAll (before ++ (g ∷ [])) (decided h g (verdictOn before h g gs)) gs
+
+unfoldable pub decisions : List Group → History → List Group → List Decided
+decisions before h [] = []
+decisions before h (g ∷ gs) =
+    record { now = h .now; group = g; verdict = verdictOn before h g gs }
+    ∷ decisions (before ++ (g ∷ [])) (decided h g (verdictOn before h g gs)) gs
+
+-- ---- the calls
+unfoldable pub hNext : History → Call → History
+hNext h (request r room) =
+    record {
+      now =
+          onward (h .now) 1 1
+          (cond (has (isOf (r .identity)) (h .now .bills))
+          (update (isOf (r .identity)) (renews r (h .now .tracking)) (h .now .bills))
+          (h .now .bills ++ (added r (h .now .tracking) ∷ [])));
+      postings = h .postings;
+    }
+hNext h (file s room) = decidedAll [] h (fileGroups s)
+hNext h (cancel id room) =
+    record { now = onward (h .now) 1 1 (update (isOf id) marked (h .now .bills)); postings = h .postings }
+hNext h (close d) =
+    record {
+      now = record { today = d; tracking = h .now .tracking; confirmation = h .now .confirmation; bills = h .now .bills };
+      postings = h .postings;
+    }
+
+-- what "Causes, read on these and without the ledger part of 2", say of a call
+abbrev pub hCause : History → Call → Check
+hCause h c = first (causes (h .now) c)
+
+-- "A call to which Causes .. gives a number changes nothing."
+unfoldable pub hMove : History → Call → Check → History
+hMove h c Clear = hNext h c
+hMove h c (Stop n) = h
+
+unfoldable pub hStep : History → Call → History
+hStep h c = hMove h c (hCause h c)
+
+-- the groups that a call decides: those of a file to which the causes give no number
+unfoldable pub callDecisions : History → Call → Check → List Decided
+callDecisions h (request r room) v = []
+callDecisions h (file s room) Clear = decisions [] h (fileGroups s)
+callDecisions h (file s room) (Stop n) = []
+callDecisions h (cancel id room) v = []
+callDecisions h (close d) v = []
+
+-- ---- a list of calls
+-- the history after them
+unfoldable pub hAfter : History → List Call → History
+hAfter h [] = h
+hAfter h (c ∷ cs) = hAfter (hStep h c) cs
+
+-- what the causes say of each
+unfoldable pub hCauses : History → List Call → List Check
+hCauses h [] = []
+hCauses h (c ∷ cs) = hCause h c ∷ hCauses (hStep h c) cs
+
+-- the groups that each decides
+unfoldable pub hDecisions : History → List Call → List (List Decided)
+hDecisions h [] = []
+hDecisions h (c ∷ cs) = callDecisions h c (hCause h c) ∷ hDecisions (hStep h c) cs
