@@ -10,7 +10,6 @@ use borrow.Author.Tests.{le-leb}
 use Rattle.fields.proofs.BoolLaws.{and-left, and-right}
 use Rattle.ledger.specs.declared.Bill.{Bill}
 use Rattle.ledger.specs.declared.Identity.{Identity}
-use Rattle.ledger.specs.declared.Posted.{Posted}
 use Rattle.ledger.specs.Lists.{every, count, update}
 use Rattle.ledger.specs.Bills.{isOf, posting}
 use Rattle.ledger.specs.Books.{Book, view, termsIn, ofId}
@@ -27,7 +26,7 @@ use Rattle.groups.proofs.SoundKept.{sound-posted}
 
 -- ---- the bills
 -- every bill stays sound if the one that is sought does
-bills-kept : (id : Identity) (f : Bill → Bill) (bs : List Bill) → every soundBill bs ≡ true
+pub bills-kept : (id : Identity) (f : Bill → Bill) (bs : List Bill) → every soundBill bs ≡ true
     → ((b : Bill) → soughtIn id (map termsIn bs) ≡ sought.Bill (b .terms) → soundBill b ≡ true → soundBill (f b) ≡ true)
     → every soundBill (update (ofId id) f bs) ≡ true
 bills-kept id f [] a q = refl
@@ -38,19 +37,19 @@ bills-kept id f (b ∷ bs) a q =
     (λ e. rw (e, q b (rw e) x, y))
     (λ e. rw (e, x) (bills-kept id f bs y (λ c m. q c (rw e m))))
 
--- a posting leaves every identity as it is
-module _ (id : Identity) (amounts : Posted) (sup : Bool) where
-  holds-kept : (i : Identity) (bs : List Bill) → holdsId i (update (ofId id) (posting amounts sup) bs) ≡ holdsId i bs
+-- a change that leaves identities as they are
+module _ (id : Identity) (f : Bill → Bill) (keeps : (b : Bill) → (f b) .terms .identity ≡ b .terms .identity) where
+  pub holds-kept : (i : Identity) (bs : List Bill) → holdsId i (update (ofId id) f bs) ≡ holdsId i bs
   holds-kept i [] = refl
-  holds-kept i (b ∷ bs) = cases (isOf id (b .terms)) (λ e. rw e) (λ e. rw (e, holds-kept i bs))
+  holds-kept i (b ∷ bs) = cases (isOf id (b .terms)) (λ e. rw (e, keeps b)) (λ e. rw (e, holds-kept i bs))
 
-  distinct-kept : (bs : List Bill) → distinct (update (ofId id) (posting amounts sup) bs) ≡ distinct bs
+  pub distinct-kept : (bs : List Bill) → distinct (update (ofId id) f bs) ≡ distinct bs
   unfolding distinct
   distinct-kept [] = refl
-  distinct-kept (b ∷ bs) = cases (isOf id (b .terms)) (λ e. rw e) (λ e. rw (e, holds-kept (b .terms .identity) bs, distinct-kept bs))
+  distinct-kept (b ∷ bs) = cases (isOf id (b .terms)) (λ e. rw (e, keeps b)) (λ e. rw (e, holds-kept (b .terms .identity) bs, distinct-kept bs))
 
 -- ---- the next numbers
-next-up : (n : ℕ) → isNext n ≡ true → n < 1000000000 → isNext (n + 1) ≡ true
+pub next-up : (n : ℕ) → isNext n ≡ true → n < 1000000000 → isNext (n + 1) ≡ true
 next-up n h k = rw (le-leb 1 (n + 1) (omega arith), le-leb (n + 1) 1000000000 (omega arith))
 
 next-by : (b : Bool) (n : ℕ) → isNext n ≡ true → n + cond b 1 0 ≤ 1000000000 → isNext (n + cond b 1 0) ≡ true
@@ -59,7 +58,7 @@ next-by false n h k = rw (add-zero n) h
 
 -- ---- one group
 module _ (t : Bool) (k : Book) (g : Group) (f : BookFacts k) (c : k .confirmation < 1000000000) (n : k .tracking + cond (asksId g) 1 0 ≤ 1000000000) where
-  settled-facts : BookFacts (settled k g (verdictBy t (view k) g))
+  pub settled-facts : BookFacts (settled k g (verdictBy t (view k) g))
   unfolding settled
   settled-facts = go (verdictBy t (view k) g) refl
     where
@@ -82,21 +81,21 @@ module _ (t : Bool) (k : Book) (g : Group) (f : BookFacts k) (c : k .confirmatio
             bills =
                 bills-kept (identityOf g) (posting amounts (asksId g)) (k .bills) (f .bills)
                 (λ b y. sound-posted t k g b amounts e y);
-            once = distinct-kept (identityOf g) amounts (asksId g) (k .bills) ∙ f .once;
+            once = distinct-kept (identityOf g) (posting amounts (asksId g)) (λ b. refl) (k .bills) ∙ f .once;
           }
 
 -- ---- the groups of a file
-confirmation-up : (k : Book) (g : Group) (v : Verdict) → settled k g v .confirmation ≡ k .confirmation + 1
+pub confirmation-up : (k : Book) (g : Group) (v : Verdict) → settled k g v .confirmation ≡ k .confirmation + 1
 unfolding settled
 confirmation-up k g (Accepted amounts) = refl
 confirmation-up k g (Rejected m) = refl
 
-tracking-up : (k : Book) (g : Group) (v : Verdict) → settled k g v .tracking ≤ k .tracking + cond (asksId g) 1 0
+pub tracking-up : (k : Book) (g : Group) (v : Verdict) → settled k g v .tracking ≤ k .tracking + cond (asksId g) 1 0
 unfolding settled
 tracking-up k g (Accepted amounts) = omega arith
 tracking-up k g (Rejected m) = omega arith
 
-count-step : (b : Bool) (n : ℕ) → cond b (suc n) n ≡ cond b 1 0 + n
+pub count-step : (b : Bool) (n : ℕ) → cond b (suc n) n ≡ cond b 1 0 + n
 count-step true n = omega arith
 count-step false n = omega arith
 

@@ -49,7 +49,7 @@ stored-stored l a b e =
     ∙ ap (λ (n : ℕ). drop n (l .bills)) e in
     rw d
 
-length-update : (p : Bill → Bool) (f : Bill → Bill) (bs : List Bill) → length (update p f bs) ≡ length bs
+pub length-update : (p : Bill → Bool) (f : Bill → Bill) (bs : List Bill) → length (update p f bs) ≡ length bs
 length-update p f [] = refl
 length-update p f (b ∷ bs) = go (p b) (length-update p f bs)
   where

@@ -31,7 +31,7 @@ use Rattle.groups.specs.Groups.{kindOf, sought, linesBy, verdictBy}
 use Rattle.groups.proofs.TurnLaws.{clear-off, small-value, length-part-le, accepted-clear, room}
 
 -- the lines of a group, with the product's mark written out
-abbrev listFor : Bool → Bool → Bool → Kind → Date → List ℕ → List ℕ → Sought → Bool → List Rule
+abbrev pub listFor : Bool → Bool → Bool → Kind → Date → List ℕ → List ℕ → Sought → Bool → List Rule
 listFor l1 l2 t k today h d b prepay =
     rule l1 17
     ∷ rule l2 19
@@ -43,7 +43,7 @@ open-alive : (today : Date) (t : Terms) → not (isOpen today t) ≡ false → t
 open-alive today t e = not-true (t .cancelled) (and-left (not (t .cancelled)) (leb (today .0) (t .latest .scheduled .0)) (not-false (isOpen today t) e))
 
 -- no group is accepted for a cancelled bill
-alive : (l1 l2 t : Bool) (k : Kind) (today : Date) (h d : List ℕ) (b : Sought) (prepay : Bool)
+pub alive : (l1 l2 t : Bool) (k : Kind) (today : Date) (h d : List ℕ) (b : Sought) (prepay : Bool)
     → first (listFor l1 l2 t k today h d b prepay) ≡ Clear → termsOf b .cancelled ≡ false
 unfolding line4 line5 line6
 alive l1 l2 t Response today h d b prepay e =
@@ -107,7 +107,7 @@ module _ (t : Bool) (k : Book) (g : Group) (b : Bill) (amounts : Posted) (v : ve
 
   clear-at : first (listFor (line1 g) (line2 g) t (kindOf g) (k .today) (g .header) (detailOf g) named prepaid) ≡ Clear
   unfolding linesBy
-  clear-at = accepted-clear t k g b amounts v y .0
+  clear-at = accepted-clear t (view k) g amounts v .0
 
   uncancelled : after .cancelled ≡ false
   uncancelled = rw y at (alive (line1 g) (line2 g) t (kindOf g) (k .today) (g .header) (detailOf g) named prepaid clear-at)
@@ -122,7 +122,7 @@ module _ (t : Bool) (k : Book) (g : Group) (b : Bill) (amounts : Posted) (v : ve
 
   amounts-kept : soundAmounts after amounts ≡ true
   amounts-kept =
-      subst (λ (x : Posted). soundAmounts after x ≡ true) (accepted-clear t k g b amounts v y .1)
+      subst (λ (x : Posted). soundAmounts after x ≡ true) (accepted-clear t (view k) g amounts v .1)
       (amounts-sound after (detailOf g) prepaid product-is uncancelled settled-sum)
 
   pub sound-posted : soundBill b ≡ true → soundBill (posting amounts (asksId g) b) ≡ true

@@ -1,7 +1,7 @@
 -- What a group's turn does to the struct is what the rules say of the book. Assumes nothing.
 use Prim.Native.Nat.{ℕ, _+_, _-_, _≤_, _<_, _^_}
 use mathlib.Core.Path.{_≡_, refl, sym, ap, ap₂, _∙_, subst}
-use mathlib.Core.Bool.{Bool, true, false, not, _&&_, _||_, false≢true}
+use mathlib.Core.Bool.{Bool, true, false, not, _&&_}
 use mathlib.Core.List.{List, [], _∷_, _++_}
 use native.Mathlib.Omega.{arith}
 use lib.Dec.{leb, eqb}
@@ -12,7 +12,7 @@ use Rattle.fields.specs.Text.{text}
 use Rattle.fields.specs.Put.{part, sameList}
 use Rattle.fields.specs.Digits.{numeric}
 use Rattle.fields.specs.Field.{fieldOf, value}
-use Rattle.fields.proofs.BoolLaws.{and-left}
+use Rattle.fields.proofs.BoolLaws.{and-left, or-both}
 use Rattle.fields.proofs.DigitLaws.{number-lt, pow-le, pow-pos}
 use Rattle.fields.proofs.SameLaws.{same-true}
 use Rattle.units.specs.Units.{fitsCents}
@@ -22,7 +22,7 @@ use Rattle.ledger.specs.declared.Posted.{Posted}
 use Rattle.ledger.specs.declared.Found.the-variants as found
 use Rattle.ledger.specs.Lists.{every, update}
 use Rattle.ledger.specs.Bills.{isPrepay, chargeOf, posting, blankBill}
-use Rattle.ledger.specs.Books.{Book, book, live, view, ofId, placeOf, stored, smallCharge}
+use Rattle.ledger.specs.Books.{Book, View, book, live, view, ofId, placeOf, stored, smallCharge}
 use Rattle.ledger.proofs.ListLaws.{every-at}
 use Rattle.notices.specs.Layout.{noticeIn, sequenceIn, chargeIn, isRsp, isSup}
 use Rattle.file.specs.File.{Group, detailOf, asksId, line1, line2}
@@ -150,10 +150,6 @@ sup-not-rsp : (h : List ℕ) → isSup h ≡ true → isRsp h ≡ false
 unfolding sameList
 sup-not-rsp h e = ap (λ (x : List ℕ). sameList x (text "RSP")) (same-true (noticeIn h) (text "SUP") e)
 
-or-right : (a b : Bool) → (a || b) ≡ false → b ≡ false
-or-right true b e = absurd (false≢true (sym e))
-or-right false b e = e
-
 -- a number of at most w bytes
 pub small-value : (xs : List ℕ) (w : ℕ) → length xs ≤ w → value (fieldOf xs) < 10 ^ w
 unfolding fieldOf
@@ -177,20 +173,25 @@ sup-room : (l1 l2 t : Bool) (today : Date) (h d : List ℕ) (b : Sought) → fir
 unfolding line4 line5 line6
 sup-room l1 l2 t today h d b e =
     let o = clear-off (listBy l1 l2 t Supplement today h d b) e in
-    or-right (not (sameList (sequenceIn d) (text "000"))) (eqb (termsOf b .sequence) 999) (o .1 .1 .1 .1 .1 .1 .1 .0)
+    or-both (not (sameList (sequenceIn d) (text "000"))) (eqb (termsOf b .sequence) 999) (o .1 .1 .1 .1 .1 .1 .1 .0) .1
+
+-- no line holds of an accepted group, and its amounts are the detail's
+pub accepted-clear : (t : Bool) (v : View) (g : Group) (amounts : Posted) → verdictBy t v g ≡ Accepted amounts
+    → (first (linesBy t v g) ≡ Clear) × (amountsOf (isPrepay (termsOf (sought v g) .product)) (detailOf g) ≡ amounts)
+unfolding verdictBy
+accepted-clear t v g amounts e = settle-clear (first (linesBy t v g)) _ amounts e
 
 module _ (t : Bool) (k : Book) (g : Group) (b : Bill) (amounts : Posted) (v : verdictBy t (view k) g ≡ Accepted amounts)
     (y : sought (view k) g ≡ sought.Bill (b .terms)) where
-  pub accepted-clear : (first (linesBy t (view k) g) ≡ Clear) × (amountsOf (isPrepay (termsOf (sought (view k) g) .product)) (detailOf g) ≡ amounts)
-  unfolding verdictBy
-  accepted-clear = settle-clear (first (linesBy t (view k) g)) _ amounts v
+  clears : (first (linesBy t (view k) g) ≡ Clear) × (amountsOf (isPrepay (termsOf (sought (view k) g) .product)) (detailOf g) ≡ amounts)
+  clears = accepted-clear t (view k) g amounts v
 
   -- a SUP is accepted only while the sequence has room
   pub room : asksId g ≡ true → b .terms .sequence ≡ 999 → ⊥
   unfolding linesBy
   room e =
       let r : kindOf g ≡ Supplement = rw (sup-not-rsp (g .header) e) in
-      let c = subst (λ (m : Kind). first (listBy (line1 g) (line2 g) t m (k .today) (g .header) (detailOf g) (sought (view k) g)) ≡ Clear) r (accepted-clear .0) in
+      let c = subst (λ (m : Kind). first (listBy (line1 g) (line2 g) t m (k .today) (g .header) (detailOf g) (sought (view k) g)) ≡ Clear) r (clears .0) in
       let x = sup-room (line1 g) (line2 g) t (k .today) (g .header) (detailOf g) (sought (view k) g) c in
       eqb-false (b .terms .sequence) 999 (rw y at x)
 
@@ -199,7 +200,7 @@ module _ (t : Bool) (k : Book) (g : Group) (b : Bill) (amounts : Posted) (v : ve
   calm-posted h =
       let a = leb-true _ 999 (and-left (leb (b .terms .sequence) 999) (smallCharge b) h) in
       let m : fitsCents (chargeOf amounts) ≡ true =
-      subst (λ (x : Posted). fitsCents (chargeOf x) ≡ true) (accepted-clear .1) (charge-small (isPrepay (termsOf (sought (view k) g) .product)) (detailOf g)) in
+      subst (λ (x : Posted). fitsCents (chargeOf x) ≡ true) (clears .1) (charge-small (isPrepay (termsOf (sought (view k) g) .product)) (detailOf g)) in
       rw m (cases (asksId g)
       (λ e. rw e (ap (λ (x : Bool). x && true) (le-leb (b .terms .sequence + 1) 999 (omega (arith, room e)))))
       (λ e. rw e (ap (λ (x : Bool). x && true) (le-leb (b .terms .sequence) 999 a))))

@@ -1,10 +1,8 @@
 -- "From fresh's arguments and that list alone the history works out today, the next numbers, the bills with every field but the posted
 -- amounts, and a list of postings": it reads causes and verdicts on its own bills and moves by its own definitions. Assumes nothing.
 use Prim.Native.Nat.{ℕ, _+_}
-use mathlib.Core.Bool.{Bool, true, false, cond, _&&_}
+use mathlib.Core.Bool.{Bool, true, false, cond}
 use mathlib.Core.List.{List, [], _∷_, _++_}
-use lib.Dec.{eqb}
-use Rattle.units.specs.declared.Date.{Date}
 use Rattle.ledger.specs.declared.Identity.{Identity}
 use Rattle.ledger.specs.declared.Latest.{Latest}
 use Rattle.ledger.specs.declared.Terms.{Terms}
@@ -40,15 +38,12 @@ begun s =
     record { now = record { today = s .today; tracking = s .tracking; confirmation = s .confirmation; bills = [] }; postings = [] }
 
 -- ---- "The history's sum takes for each bill the charge of its last posting, or 0 if there is none or the bill is cancelled."
-abbrev pub isFor : Identity → Posting → Bool
-isFor id p = eqb (p .identity .account) (id .account) && eqb (p .identity .key) (id .key)
-
-abbrev pub lastCharge : Identity → List Posting → ℕ
-lastCharge id [] = 0
-lastCharge id (p ∷ ps) = cond (isFor id p) (p .charge) (lastCharge id ps)
+abbrev pub lastCharge : Terms → List Posting → ℕ
+lastCharge t [] = 0
+lastCharge t (p ∷ ps) = cond (isOf (p .identity) t) (p .charge) (lastCharge t ps)
 
 abbrev pub chargeIn : List Posting → Terms → ℕ
-chargeIn ps t = cond (t .cancelled) 0 (lastCharge (t .identity) ps)
+chargeIn ps t = cond (t .cancelled) 0 (lastCharge t ps)
 
 unfoldable pub historySum : History → ℕ
 historySum h = sum (chargeIn (h .postings)) (h .now .bills)

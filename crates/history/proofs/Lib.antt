@@ -1,0 +1,10 @@
+-- The claim's proof, and the laws it rests on.
+pub mod RecordLaws
+pub mod NoticeReads
+pub mod WrittenLaws
+pub mod Accepted
+pub mod UpdateLaws
+pub mod Follow
+pub mod Simulation
+pub mod Rows
+pub mod ClaimProof
