@@ -7,4 +7,3 @@ pub mod GroupWalk
 pub mod ReadyLaws
 pub mod SoundKept
 pub mod FileSound
-pub mod CaseProofs

@@ -1,4 +1,3 @@
 -- A supplier file's groups on a ledger.
 pub mod Groups
 pub mod Steps
-pub mod Cases

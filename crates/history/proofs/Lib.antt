@@ -8,3 +8,4 @@ pub mod Follow
 pub mod Simulation
 pub mod Rows
 pub mod ClaimProof
+pub mod CaseProofs

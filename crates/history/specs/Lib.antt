@@ -2,3 +2,4 @@
 pub mod History
 pub mod Written
 pub mod Claim
+pub mod Cases

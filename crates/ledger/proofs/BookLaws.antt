@@ -1,10 +1,10 @@
 -- Laws of the bills that a ledger holds: after a change, and the signed change of their total. Assumes nothing.
 use Prim.Native.Nat.{ℕ, _+_, _*_, _<_, _≤_, _^_}
-use mathlib.Core.Path.{_≡_, refl, sym, ap, _∙_}
+use mathlib.Core.Path.{_≡_, sym, ap, _∙_}
 use mathlib.Core.List.{List, [], _∷_, _++_}
 use native.Mathlib.Omega.{arith}
 use native.Mathlib.Numerals.{add-one}
-use lib.IntN.{ℤ, pos, negsuc, negℤ, _+ℤ_, _-ℤ_, +ℤ-negℤ-cancel, +ℤ-assoc, +ℤ-comm}
+use lib.IntN.{ℤ, pos, negℤ, _+ℤ_, _-ℤ_, +ℤ-negℤ-cancel, +ℤ-assoc, +ℤ-comm}
 use lib.ListN.{length, getD, set, length-map}
 use lib.Seq.{take-suc-set, take-set-lt, length-take-le}
 use borrow.Author.Tests.{ltb-true}
@@ -53,10 +53,3 @@ difference a b c d e = shift (pos a) (pos b) (pos c) (pos d) (ap pos e)
 pub total-replaced : (bs : List Bill) (i : ℕ) (b d : Bill) → i < length bs
     → pos (totalOf (set bs i b)) -ℤ pos (totalOf bs) ≡ pos (billCharge b) -ℤ pos (billCharge (getD bs i d))
 total-replaced bs i b d h = difference _ _ _ _ (sum-set billCharge bs i b d h)
-
--- the figures of cases (h) and (i)
-pub case-h : pos 4000 -ℤ pos 4250 ≡ negsuc 249
-case-h = refl
-
-pub case-i : pos 0 -ℤ pos 4000 ≡ negsuc 3999
-case-i = refl

@@ -1,0 +1,302 @@
+-- "Proved of the rules": cases (a) to (l) over real records, as one table: what is given, and what comes of it. Assumes nothing.
+use Prim.Native.Nat.{ℕ, zero, suc}
+use mathlib.Core.Path.{_≡_}
+use mathlib.Core.Bool.{Bool, true, false, cond}
+use mathlib.Core.List.{List, [], _∷_, map, _++_}
+use lib.IntN.{ℤ, pos, negsuc}
+use lib.ListN.{replicate}
+use Rattle.fields.specs.Text.{text}
+use Rattle.fields.specs.Digits.{digits}
+use Rattle.units.specs.declared.Date.{Date}
+use Rattle.units.specs.Calendar.{isDate}
+use Rattle.ledger.specs.declared.Identity.{Identity}
+use Rattle.ledger.specs.declared.Bill.{Bill}
+use Rattle.ledger.specs.declared.Product.{Product}
+use Rattle.ledger.specs.declared.Product.the-variants as product
+use Rattle.ledger.specs.declared.Posted.the-variants as posted
+use Rattle.ledger.specs.Bills.{cents}
+use Rattle.ledger.specs.Books.{Book}
+use Rattle.notices.specs.declared.Lead.{Lead}
+use Rattle.notices.specs.Notices.{lead, ending}
+use Rattle.verdict.specs.declared.Check.{Check}
+use Rattle.verdict.specs.declared.Check.the-variants.{Clear, Stop}
+use Rattle.verdict.specs.declared.Verdict.{Verdict}
+use Rattle.verdict.specs.declared.Verdict.the-variants.{Accepted, Rejected}
+use Rattle.calls.specs.declared.Request.{Request}
+use Rattle.calls.specs.Causes.{Call, request, file, cancel, close, productByte}
+use Rattle.calls.specs.Machine.{newBill, Outcome, fresh, after, outcomes}
+use Rattle.history.specs.Claim.{assigned}
+
+-- ---- a supplier's file
+-- what a group of the table's bill holds; the tier consumptions 3 and 4 are 0
+pub record Sent : Type 0 where
+  pub sup : Bool
+  pub tracking : ℕ
+  pub sequence : ℕ
+  pub first : ℕ
+  pub second : ℕ
+  pub charge : ℕ
+  pub applied : ℕ
+  pub owed : ℕ
+
+abbrev day : ℕ → Date
+day d = record { 0 = d }
+
+abbrev leadOf : Sent → Lead
+leadOf x =
+    record {
+      code = record { first = 90; second = 90; tens = 52; ones = 48 };
+      account = 123456780019;
+      tracking = x .tracking;
+      today = day 20171114;
+    }
+
+abbrev noticeOf : Sent → List ℕ
+noticeOf x = cond (x .sup) (text "SUP") (text "RSP")
+
+-- a header: Confirmation Number, Scheduled Date, Record Count, Prepaid Balance
+unfoldable pub sentHeader : Sent → List ℕ
+sentHeader x = lead (leadOf x) (text "01") (noticeOf x) ++ digits 9 1 ++ digits 8 20171116 ++ text "01" ++ digits 13 0 ++ ending 247
+
+-- a detail: Bill Key, Billing Date, sequence, consumption, charge, From Date, four tiers, previous fields, applied, owed
+unfoldable pub sentDetail : Sent → List ℕ
+sentDetail x =
+    lead (leadOf x) (text "02") (noticeOf x)
+    ++ digits 4 7
+    ++ digits 8 20171113
+    ++ digits 3 (x .sequence)
+    ++ digits 10 85
+    ++ digits 13 (x .charge)
+    ++ digits 8 20171013
+    ++ digits 7 50000
+    ++ digits 10 (x .first)
+    ++ digits 13 (x .charge)
+    ++ digits 7 50000
+    ++ digits 10 (x .second)
+    ++ digits 13 0
+    ++ digits 30 0
+    ++ digits 30 0
+    ++ digits 26 0
+    ++ digits 13 (x .applied)
+    ++ digits 13 (x .owed)
+    ++ ending 61
+
+unfoldable pub sent : List Sent → List ℕ
+sent [] = []
+sent (x ∷ xs) = sentHeader x ++ sentDetail x ++ sent xs
+
+abbrev rsp : ℕ → Sent
+rsp charge = record { sup = false; tracking = 1; sequence = 1; first = 60; second = 25; charge = charge; applied = 0; owed = 0 }
+
+abbrev prepaid : ℕ → Sent
+prepaid owed = record { sup = false; tracking = 1; sequence = 1; first = 60; second = 25; charge = 4250; applied = 4000; owed = owed }
+
+abbrev short : Sent
+short = record { sup = false; tracking = 1; sequence = 1; first = 60; second = 24; charge = 4250; applied = 0; owed = 0 }
+
+abbrev sup : Sent
+sup = record { sup = true; tracking = 0; sequence = 0; first = 60; second = 25; charge = 4250; applied = 0; owed = 0 }
+
+-- ---- the calls
+-- a request of 85 Ccf, due 20171116
+abbrev asking : Identity → Product → Request
+asking id p =
+    record {
+      code = text "ZZC40";
+      identity = id;
+      product = productByte p;
+      billing = day 20171113;
+      from = day 20171013;
+      consumption = record { 0 = 85 };
+      scheduled = day 20171116;
+    }
+
+-- the table's bill, and other bills
+abbrev bill : Identity
+bill = record { account = 123456780019; key = 7 }
+
+abbrev other : ℕ → Request
+other account = asking (record { account = account; key = 1 }) product.BillReady
+
+abbrev ask : Product → Call
+ask p = request (asking bill p) 642
+
+abbrev send : List Sent → Call
+send xs = file (sent xs) 64200
+
+-- a fresh ledger, and one that holds n bills
+abbrev start : Book
+start = fresh (record { today = day 20171113; tracking = 1; confirmation = 1 })
+
+abbrev held : ℕ → List Bill
+held zero = []
+held (suc n) = newBill (other n) 1 ∷ held n
+
+abbrev holding : ℕ → Book
+holding n = record { today = day 20171113; tracking = 500; confirmation = 500; bills = held n }
+
+-- ---- the table
+-- a date, or calls on a ledger
+pub data Case : Type 0 where
+  date : ℕ → Case
+  calls : Book → List Call → Case
+
+-- what calls come to: their results, verdicts and changes, the Tracking IDs assigned, the bills' sequences at the end
+pub record Came : Type 0 where
+  pub results : List Check
+  pub verdicts : List (List Verdict)
+  pub changes : List ℤ
+  pub assigned : List ℕ
+  pub sequences : List ℕ
+
+-- a date or not, or what calls come to
+pub data Result : Type 0 where
+  isOne : Bool → Result
+  came : Came → Result
+
+unfoldable pub resultOf : Case → Result
+resultOf (date d) = isOne (isDate d)
+resultOf (calls l cs) =
+    came
+    (record {
+      results = map (λ (o : Outcome). o .result) (outcomes l cs);
+      verdicts = map (λ (o : Outcome). o .verdicts) (outcomes l cs);
+      changes = map (λ (o : Outcome). o .change) (outcomes l cs);
+      assigned = assigned (outcomes l cs);
+      sequences = map (λ (b : Bill). b .terms .sequence) (after l cs .bills);
+    })
+
+pub record Row : Type 0 where
+  pub given : Case
+  pub result : Result
+
+abbrev ready : ℕ → Verdict
+ready charge = Accepted (posted.BillReady (cents charge))
+
+unfoldable pub table : List Row
+table =
+    -- (a) 20000229 is a date, 19000229 isn't
+    record { given = date 20000229; result = isOne true }
+    ∷ record { given = date 19000229; result = isOne false }
+    -- (b) RSP on its Scheduled Date is accepted; (d) 85 = 60 + 25 passes
+    ∷ record {
+      given = calls start (ask product.BillReady ∷ close (day 20171116) ∷ send (rsp 4250 ∷ []) ∷ []);
+      result =
+          came
+          (record {
+            results = Clear ∷ Clear ∷ Clear ∷ [];
+            verdicts = [] ∷ [] ∷ (ready 4250 ∷ []) ∷ [];
+            changes = pos 0 ∷ pos 0 ∷ pos 4250 ∷ [];
+            assigned = 1 ∷ [];
+            sequences = 1 ∷ [];
+          });
+    }
+    -- (c) a day later BR09
+    ∷ record {
+      given = calls start (ask product.BillReady ∷ close (day 20171117) ∷ send (rsp 4250 ∷ []) ∷ []);
+      result =
+          came
+          (record {
+            results = Clear ∷ Clear ∷ Clear ∷ [];
+            verdicts = [] ∷ [] ∷ (Rejected 9 ∷ []) ∷ [];
+            changes = pos 0 ∷ pos 0 ∷ pos 0 ∷ [];
+            assigned = 1 ∷ [];
+            sequences = 1 ∷ [];
+          });
+    }
+    -- (e) 60 + 24 is BR25
+    ∷ record {
+      given = calls start (ask product.BillReady ∷ send (short ∷ []) ∷ []);
+      result =
+          came
+          (record {
+            results = Clear ∷ Clear ∷ [];
+            verdicts = [] ∷ (Rejected 25 ∷ []) ∷ [];
+            changes = pos 0 ∷ pos 0 ∷ [];
+            assigned = 1 ∷ [];
+            sequences = 1 ∷ [];
+          });
+    }
+    -- (f) Prepay 4250 with 4000 and 250 passes
+    ∷ record {
+      given = calls start (ask product.Prepay ∷ send (prepaid 250 ∷ []) ∷ []);
+      result =
+          came
+          (record {
+            results = Clear ∷ Clear ∷ [];
+            verdicts = [] ∷ (Accepted (posted.Prepay (cents 4250) (cents 4000) (cents 250)) ∷ []) ∷ [];
+            changes = pos 0 ∷ pos 4250 ∷ [];
+            assigned = 1 ∷ [];
+            sequences = 1 ∷ [];
+          });
+    }
+    -- (g) with 251 BR20
+    ∷ record {
+      given = calls start (ask product.Prepay ∷ send (prepaid 251 ∷ []) ∷ []);
+      result =
+          came
+          (record {
+            results = Clear ∷ Clear ∷ [];
+            verdicts = [] ∷ (Rejected 20 ∷ []) ∷ [];
+            changes = pos 0 ∷ pos 0 ∷ [];
+            assigned = 1 ∷ [];
+            sequences = 1 ∷ [];
+          });
+    }
+    -- (h) 4250 replaced by 4000 returns -250, (i) a cancel then -4000
+    ∷ record {
+      given = calls start (ask product.BillReady ∷ send (rsp 4250 ∷ []) ∷ send (rsp 4000 ∷ []) ∷ cancel bill 642 ∷ []);
+      result =
+          came
+          (record {
+            results = Clear ∷ Clear ∷ Clear ∷ Clear ∷ [];
+            verdicts = [] ∷ (ready 4250 ∷ []) ∷ (ready 4000 ∷ []) ∷ [] ∷ [];
+            changes = pos 0 ∷ pos 4250 ∷ negsuc 249 ∷ negsuc 3999 ∷ [];
+            assigned = 1 ∷ 2 ∷ [];
+            sequences = 1 ∷ [];
+          });
+    }
+    -- (j) two RSPs of one bill in a file: both BR14, change 0
+    ∷ record {
+      given = calls start (ask product.BillReady ∷ send (rsp 4250 ∷ rsp 4000 ∷ []) ∷ []);
+      result =
+          came
+          (record {
+            results = Clear ∷ Clear ∷ [];
+            verdicts = [] ∷ (Rejected 14 ∷ Rejected 14 ∷ []) ∷ [];
+            changes = pos 0 ∷ pos 0 ∷ [];
+            assigned = 1 ∷ [];
+            sequences = 1 ∷ [];
+          });
+    }
+    -- (k) an accepted SUP: 001 becomes 002
+    ∷ record {
+      given = calls start (ask product.BillReady ∷ close (day 20171117) ∷ send (sup ∷ []) ∷ []);
+      result =
+          came
+          (record {
+            results = Clear ∷ Clear ∷ Clear ∷ [];
+            verdicts = [] ∷ [] ∷ (ready 4250 ∷ []) ∷ [];
+            changes = pos 0 ∷ pos 0 ∷ pos 4250 ∷ [];
+            assigned = 1 ∷ 2 ∷ [];
+            sequences = 2 ∷ [];
+          });
+    }
+    -- (l) the 128th bill is taken, the 129th is 3
+    ∷ record {
+      given = calls (holding 127) (request (other 5000) 642 ∷ request (other 5001) 642 ∷ []);
+      result =
+          came
+          (record {
+            results = Clear ∷ Stop 3 ∷ [];
+            verdicts = [] ∷ [] ∷ [];
+            changes = pos 0 ∷ pos 0 ∷ [];
+            assigned = 500 ∷ [];
+            sequences = replicate 128 1;
+          });
+    }
+    ∷ []
+
+-- a row of the table holds
+abbrev pub Holds : Row → Type 0
+Holds r = resultOf (r .given) ≡ r .result
