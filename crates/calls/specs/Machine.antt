@@ -1,7 +1,8 @@
 -- "The ledger and its calls": what each call returns, writes and leaves. Assumes nothing.
 use Prim.Native.Nat.{ℕ, _+_}
-use mathlib.Core.Bool.{Bool, cond, not, _&&_}
-use mathlib.Core.List.{List, [], _∷_, _++_}
+use mathlib.Core.Path.{_≡_}
+use mathlib.Core.Bool.{Bool, true, cond, not, _&&_}
+use mathlib.Core.List.{List, [], _∷_, _++_, map}
 use lib.Dec.{eqb}
 use lib.ListN.{length, getD}
 use lib.IntN.{ℤ, pos, _-ℤ_}
@@ -201,3 +202,21 @@ answerBy o (Stop n) = Refused n
 -- what a call by value gives back
 unfoldable pub called : Ledger → Call → Called
 called l c = record { ledger = leftBy l c (causeIn l c); answer = answerBy (stepIn l c) (causeIn l c) }
+
+-- ---- a list of calls by value, each on the struct that the one before left
+-- the struct after them
+unfoldable pub ran : Ledger → List Call → Ledger
+ran l [] = l
+ran l (c ∷ cs) = ran (called l c .ledger) cs
+
+-- what is read off each of them
+unfoldable pub eachCalled : {A : Type 0} → (Ledger → Call → A) → Ledger → List Call → List A
+eachCalled read l [] = []
+eachCalled read l (c ∷ cs) = read l c ∷ eachCalled read (called l c .ledger) cs
+
+-- they do what the machine does to the book that the struct holds
+pub record Runs (l : Ledger) (cs : List Call) : Type 0 where
+  pub ledger : book (ran l cs) ≡ after (book l) cs
+  pub answers : eachCalled (λ k c. called k c .answer) l cs ≡ map (λ (o : Outcome). answerBy o (o .result)) (outcomes (book l) cs)
+  pub written : eachCalled (λ k c. stepIn k c .written) l cs ≡ map (λ (o : Outcome). o .written) (outcomes (book l) cs)
+  pub kept : soundLedger (ran l cs) ≡ true
