@@ -1,4 +1,6 @@
--- Laws of the calls that belong to no one function.
+-- Laws that belong to no one function.
 pub mod CauseLaws
 pub mod NextSound
 pub mod RunLaws
+pub mod DayLaws
+pub mod PlaceOfLaws

@@ -1,4 +1,7 @@
 // The calls on a ledger by value: their arguments and what they answer.
+pub mod days;
+pub mod lookups;
+
 use ledger::Identity;
 use ledger::Ledger;
 use units::Ccf;

@@ -1,0 +1,111 @@
+-- Laws of a refused call, of fresh, and of close of day. Assumes nothing.
+use Prim.Native.Nat.{ℕ, suc, _+_, _≤_, _<_}
+use mathlib.Core.Path.{_≡_, refl, sym}
+use mathlib.Core.Bool.{Bool, true, false, cond, not, _&&_}
+use mathlib.Core.List.{List, [], _∷_}
+use native.Mathlib.Omega.{arith}
+use lib.Dec.{leb}
+use lib.IntN.{pos, +ℤ-invr}
+use lib.ListN.{length, getD, take-append-drop}
+use lib.Seq.{slice, length-take-le}
+use borrow.Author.Tests.{leb-true, le-leb, not-false}
+use Rattle.fields.proofs.BoolLaws.{and-left, and-right}
+use Rattle.units.specs.declared.Date.{Date}
+use Rattle.units.specs.Calendar.{isDate}
+use Rattle.ledger.specs.declared.Ledger.{Ledger}
+use Rattle.ledger.specs.Lists.{count}
+use Rattle.ledger.specs.Books.{book, view, live, totalOf}
+use Rattle.ledger.specs.Sound.{isNext, distinct, soundLedger}
+use Rattle.ledger.proofs.ListLaws.{all-on, all-joined, slice-step}
+use Rattle.ledger.proofs.SoundLaws.{facts-sound}
+use Rattle.verdict.specs.declared.Check.the-variants.{Clear, Stop}
+use Rattle.verdict.specs.Rules.{first}
+use Rattle.groups.proofs.TurnLaws.{clear-off}
+use Rattle.calls.specs.declared.Start.{Start}
+use Rattle.calls.specs.declared.Answer.the-variants.{Refused}
+use Rattle.calls.specs.Causes.{Call, close, isNumber, startTests, freshCauses, causes}
+use Rattle.calls.specs.Machine.{fresh, next, nextWritten, nextVerdicts, nextClosed, closes, outcome, causeIn, stepIn, leftBy, answerBy, called}
+use Rattle.calls.specs.Days.{freshLedger, quietAnswer}
+
+-- ---- a refused call
+module _ (l : Ledger) (c : Call) where
+  pub cause-unsound : soundLedger l ≡ false → causeIn l c ≡ Stop 2
+  unfolding causeIn
+  cause-unsound e = rw e
+
+  pub cause-sound : soundLedger l ≡ true → causeIn l c ≡ first (causes (view (book l)) c)
+  unfolding causeIn
+  cause-sound e = rw e
+
+  pub called-stop : (n : ℕ) → causeIn l c ≡ Stop n → called l c ≡ record { ledger = l; answer = Refused n }
+  unfolding called leftBy answerBy
+  called-stop n e = rw e
+
+-- ---- fresh
+-- the struct that fresh leaves holds the book that it begins with
+pub fresh-book : (s : Start) → book (freshLedger s) ≡ fresh s
+fresh-book s = refl
+
+-- the code's tests, joined from the left
+module _ (s : Start) (a b c : Bool) (p : a ≡ isDate (s .today .0)) (q : b ≡ isNumber (s .tracking)) (r : c ≡ isNumber (s .confirmation)) where
+  pub fresh-tested : (t : Bool) → (a && b && c) ≡ t → first (freshCauses s) ≡ cond t Clear (Stop 2)
+  unfolding freshCauses startTests
+  fresh-tested t e = rw (sym (all-joined (isDate (s .today .0)) (isNumber (s .tracking) ∷ isNumber (s .confirmation) ∷ [])), ← p, ← q, ← r, e) (by t)
+    where
+      by : (t : Bool) → cond (not t) (Stop 2) Clear ≡ cond t Clear (Stop 2)
+      by true = refl
+      by false = refl
+
+number-next : (n : ℕ) → isNumber n ≡ true → isNext n ≡ true
+number-next n h =
+    let a : 1 ≤ n = leb-true _ _ (and-left (leb 1 n) (leb n 999999999) h) in
+    let b : n ≤ 999999999 = leb-true _ _ (and-right (leb 1 n) (leb n 999999999) h) in
+    rw (le-leb 1 n a, le-leb n 1000000000 (omega arith))
+
+-- "After fresh the ledger part of 2 never occurs": it begins sound
+pub fresh-sound : (s : Start) → first (freshCauses s) ≡ Clear → soundLedger (freshLedger s) ≡ true
+unfolding freshCauses startTests distinct soundLedger
+fresh-sound s e =
+    let o = all-on (startTests s) (not-false _ (clear-off (freshCauses s) e .0)) in
+    facts-sound (book (freshLedger s))
+    (record {
+      today = o .0;
+      tracking = number-next (s .tracking) (o .1 .0);
+      confirmation = number-next (s .confirmation) (o .1 .1 .0);
+      few = omega arith;
+      bills = refl;
+      once = refl;
+    })
+
+-- ---- close of day
+-- one turn of the walk that counts
+counts : (b : Bool) (n : ℕ) → cond b (suc n) n ≡ cond b 1 0 + n
+counts true n = omega arith
+counts false n = omega arith
+
+module _ {A : Type 0} (n i : ℕ) (xs : List A) (d : A) (h : i < n) (k : n ≤ length xs) where
+  pub count-step : (p : A → Bool) → count p (slice i n xs) ≡ cond (p (getD xs i d)) 1 0 + count p (slice (i + 1) n xs)
+  count-step p = rw (slice-step n i xs d h k) (counts (p (getD xs i d)) (count p (slice (i + 1) n xs)))
+
+-- the struct with another date
+abbrev pub dated : Ledger → Date → Ledger
+dated l d =
+    record {
+      today = d;
+      «next_tracking» = l .«next_tracking»;
+      «next_confirmation» = l .«next_confirmation»;
+      count = l .count;
+      bills = l .bills;
+    }
+
+-- a close that is carried out: no bill changes, and so no total
+pub close-done : (l : Ledger) (d : Date) → l .count ≤ length (l .bills) → causeIn l (close d) ≡ Clear
+    → called l (close d) ≡ record { ledger = dated l d; answer = quietAnswer (count (closes (l .today) d) (live l)) }
+unfolding called leftBy answerBy stepIn outcome next nextWritten nextVerdicts nextClosed
+close-done l d h e =
+    rw (
+      e,
+      length-take-le (l .count) (l .bills) h,
+      take-append-drop (l .count) (l .bills),
+      +ℤ-invr (pos (totalOf (live l))),
+    )
