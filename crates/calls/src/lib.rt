@@ -1,4 +1,6 @@
 // The calls on a ledger by value: their arguments and what they answer.
+pub mod causes;
+
 use ledger::Identity;
 use ledger::Ledger;
 use units::Ccf;
