@@ -1,59 +1,53 @@
+-- `calls::causes::bill_check` meets its contract, cause by cause.
 use borrow.Author.Needs.{needs}
+use mathlib.Core.Path.{sym, _∙_}
+use borrow.Author.Tests.{not-true, not-false, le-leb, lt-leb, eq-eqb, ne-eqb}
+use Rattle.calls.specs.Causes.{billCauses}
 use Rattle.calls.proofs.causes.bill_check.Statement.{statement}
 use Rattle.calls.proofs.causes.bill_check.Tie as tie
-use Rattle.calls.proofs.causes.bill_check.Reads as reads
-use Rattle.calls.proofs.causes.bill_check.Lts as lts
-use Rattle.calls.proofs.causes.product_byte.Reads as product-byte-reads
-use Rattle.calls.proofs.causes.same_code.Reads as same-code-reads
-use Rattle.units.proofs.Ccf.same.Reads as same-reads
 
--- src/causes.rt:104:22
 enum-known-b : tie.Need-enum-known-b
 enum-known-b c = search needs
 
--- src/causes.rt:105:12
 enum-told : tie.Need-enum-told
 enum-told c = search needs
 
--- src/causes.rt:106:13
 returns : tie.Need-returns
-returns c = ?
+unfolding billCauses
+returns c = rw (c .before .enum-told .given .1, le-leb _ _ (c .if1 .taken))
 
--- src/causes.rt:108:9
 returns-2 : tie.Need-returns-2
-returns-2 c = ?
+unfolding billCauses
+returns-2 c = rw (c .before .enum-told .given .1, lt-leb _ _ (c .if1 .left))
 
--- src/causes.rt:112:9
 returns-3 : tie.Need-returns-3
-returns-3 c = ?
+unfolding billCauses
+returns-3 c = rw (c .before .before .b .given .1, c .if2 .taken)
 
--- src/causes.rt:116:10
 same-code-requires : tie.Need-same-code-requires
 same-code-requires c κs = search needs
 
--- src/causes.rt:116:50
 product-byte-requires : tie.Need-product-byte-requires
 product-byte-requires c κs = search needs
 
--- src/causes.rt:117:9
 returns-4 : tie.Need-returns-4
-returns-4 c = ?
+unfolding billCauses
+returns-4 c = rw (c .before .before .before .before .before .before .before .b .given .1, c .before .before .before .before .before .if2 .left, rw (c .before .before .before .same-code .ensures, c .before .before .product-byte .ensures) at (c .if3 .taken))
 
--- src/causes.rt:120:8
 same-requires : tie.Need-same-requires
 same-requires c κs = search needs
 
--- src/causes.rt:121:9
 returns-5 : tie.Need-returns-5
-returns-5 c = ?
+unfolding billCauses
+returns-5 c = rw (c .before .before .before .before .before .before .before .before .before .before .b .given .1, c .before .before .before .before .before .before .before .before .if2 .left, rw (c .before .before .before .before .before .before .same-code .ensures, c .before .before .before .before .before .product-byte .ensures) at (c .before .before .before .if3 .left), sym (c .before .same .ensures) ∙ c .if4 .taken)
 
--- src/causes.rt:124:9
 returns-6 : tie.Need-returns-6
-returns-6 c = ?
+unfolding billCauses
+returns-6 c = rw (c .before .before .before .before .before .before .before .before .before .before .before .before .b .given .1, c .before .before .before .before .before .before .before .before .before .before .if2 .left, rw (c .before .before .before .before .before .before .before .before .same-code .ensures, c .before .before .before .before .before .before .before .product-byte .ensures) at (c .before .before .before .before .before .if3 .left), sym (c .before .before .before .same .ensures) ∙ c .before .before .if4 .left, eq-eqb _ _ (c .if5 .taken))
 
--- src/causes.rt:101:1
 returns-7 : tie.Need-returns-7
-returns-7 c = ?
+unfolding billCauses
+returns-7 c = rw (c .before .before .before .before .before .before .before .before .before .before .before .before .b .given .1, c .before .before .before .before .before .before .before .before .before .before .if2 .left, rw (c .before .before .before .before .before .before .before .before .same-code .ensures, c .before .before .before .before .before .before .before .product-byte .ensures) at (c .before .before .before .before .before .if3 .left), sym (c .before .before .before .same .ensures) ∙ c .before .before .if4 .left, ne-eqb _ _ (c .if5 .left))
 
 pub bill-check-spec : {M : Type 1} → statement M
 bill-check-spec =

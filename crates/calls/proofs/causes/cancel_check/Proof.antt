@@ -1,50 +1,46 @@
+-- `calls::causes::cancel_check` meets its contract, cause by cause.
 use borrow.Author.Needs.{needs}
+use mathlib.Core.Path.{sym, _∙_}
+use borrow.Author.Tests.{not-true, not-false, lt-ltb, le-ltb}
+use Rattle.calls.specs.Causes.{cancelCauses}
 use Rattle.calls.proofs.causes.cancel_check.Statement.{statement}
 use Rattle.calls.proofs.causes.cancel_check.Tie as tie
-use Rattle.calls.proofs.causes.cancel_check.Reads as reads
-use Rattle.calls.proofs.causes.cancel_check.Lts as lts
-use Rattle.calls.proofs.causes.good_identity.Reads as good-identity-reads
-use Rattle.calls.proofs.causes.lacks.Reads as lacks-reads
 
--- src/causes.rt:167:9
 good-identity-requires : tie.Need-good-identity-requires
 good-identity-requires c κs = search needs
 
--- src/causes.rt:168:9
 returns : tie.Need-returns
-returns c = ?
+unfolding cancelCauses
+returns c = rw (sym (c .before .good-identity .ensures) ∙ not-true _ (c .if1 .taken))
 
--- src/causes.rt:171:9
 returns-2 : tie.Need-returns-2
-returns-2 c = ?
+unfolding cancelCauses
+returns-2 c = rw (sym (c .before .before .good-identity .ensures) ∙ not-false _ (c .before .if1 .left), lt-ltb _ _ (c .if2 .taken))
 
--- src/causes.rt:173:22
 enum-known-b : tie.Need-enum-known-b
 enum-known-b c = search needs
 
--- src/causes.rt:174:9
 enum-told : tie.Need-enum-told
 enum-told c = search needs
 
--- src/causes.rt:174:9
 returns-3 : tie.Need-returns-3
-returns-3 c = ?
+unfolding cancelCauses
+returns-3 c = rw (sym (c .before .before .before .before .good-identity .ensures) ∙ not-false _ (c .before .before .before .if1 .left), le-ltb _ _ (c .before .before .if2 .left), c .enum-told .given .1)
 
--- src/causes.rt:178:9
 returns-4 : tie.Need-returns-4
-returns-4 c = ?
+unfolding cancelCauses
+returns-4 c = rw (sym (c .before .before .before .before .before .before .good-identity .ensures) ∙ not-false _ (c .before .before .before .before .before .if1 .left), le-ltb _ _ (c .before .before .before .before .if2 .left), c .before .before .b .given .1, c .if3 .taken)
 
--- src/causes.rt:180:8
 lacks-requires : tie.Need-lacks-requires
 lacks-requires c κs = search needs
 
--- src/causes.rt:181:9
 returns-5 : tie.Need-returns-5
-returns-5 c = ?
+unfolding cancelCauses
+returns-5 c = rw (sym (c .before .before .before .before .before .before .before .before .good-identity .ensures) ∙ not-false _ (c .before .before .before .before .before .before .before .if1 .left), le-ltb _ _ (c .before .before .before .before .before .before .if2 .left), c .before .before .before .before .b .given .1, c .before .before .if3 .left, sym (c .before .lacks .ensures) ∙ c .if4 .taken)
 
--- src/causes.rt:163:1
 returns-6 : tie.Need-returns-6
-returns-6 c = ?
+unfolding cancelCauses
+returns-6 c = rw (sym (c .before .before .before .before .before .before .before .before .good-identity .ensures) ∙ not-false _ (c .before .before .before .before .before .before .before .if1 .left), le-ltb _ _ (c .before .before .before .before .before .before .if2 .left), c .before .before .before .before .b .given .1, c .before .before .if3 .left, sym (c .before .lacks .ensures) ∙ c .if4 .left)
 
 pub cancel-check-spec : {M : Type 1} → statement M
 cancel-check-spec =

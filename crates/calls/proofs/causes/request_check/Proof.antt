@@ -1,59 +1,53 @@
+-- `calls::causes::request_check` meets its contract, cause by cause.
 use borrow.Author.Needs.{needs}
+use mathlib.Core.Path.{sym, _∙_}
+use borrow.Author.Tests.{not-true, not-false, lt-ltb, le-ltb}
+use Rattle.verdict.proofs.VerdictLaws.{first-stop, first-clear}
+use Rattle.calls.specs.Causes.{requestCauses}
 use Rattle.calls.proofs.causes.request_check.Statement.{statement}
 use Rattle.calls.proofs.causes.request_check.Tie as tie
-use Rattle.calls.proofs.causes.request_check.Reads as reads
-use Rattle.calls.proofs.causes.request_check.Lts as lts
-use Rattle.calls.proofs.causes.bill_check.Reads as bill-check-reads
-use Rattle.calls.proofs.causes.good_request.Reads as good-request-reads
-use Rattle.calls.proofs.causes.lacks.Reads as lacks-reads
-use Rattle.units.proofs.Date.before.Reads as before-reads
 
--- src/causes.rt:142:9
 good-request-requires : tie.Need-good-request-requires
 good-request-requires c κs = search needs
 
--- src/causes.rt:143:9
 returns : tie.Need-returns
-returns c = ?
+unfolding requestCauses
+returns c = rw (sym (c .before .good-request .ensures) ∙ not-true _ (c .if1 .taken))
 
--- src/causes.rt:146:9
 returns-2 : tie.Need-returns-2
-returns-2 c = ?
+unfolding requestCauses
+returns-2 c = rw (sym (c .before .before .good-request .ensures) ∙ not-false _ (c .before .if1 .left), lt-ltb _ _ (c .if2 .taken))
 
--- src/causes.rt:149:8
 before-requires : tie.Need-before-requires
 before-requires c κs = search needs
 
--- src/causes.rt:150:9
 returns-3 : tie.Need-returns-3
-returns-3 c = ?
+unfolding requestCauses
+returns-3 c = rw (sym (c .before .before .before .before .before .good-request .ensures) ∙ not-false _ (c .before .before .before .before .if1 .left), le-ltb _ _ (c .before .before .before .if2 .left), sym (c .before .before2 .ensures) ∙ c .if3 .taken)
 
--- src/causes.rt:152:9
 bill-check-requires : tie.Need-bill-check-requires
 bill-check-requires c κs = search needs
 
--- src/causes.rt:153:24
 enum-known-check : tie.Need-enum-known-check
 enum-known-check c = search needs
 
--- src/causes.rt:154:9
 returns-4 : tie.Need-returns-4
-returns-4 c = ?
+unfolding requestCauses
+returns-4 c = rw (sym (c .before .before .before .before .before .before .before .before .before .good-request .ensures) ∙ not-false _ (c .before .before .before .before .before .before .before .before .if1 .left), le-ltb _ _ (c .before .before .before .before .before .before .before .if2 .left), sym (c .before .before .before .before .before .before2 .ensures) ∙ c .before .before .before .before .if3 .left, first-stop _ _ (sym (c .before .before .before .bill-check .ensures) ∙ c .before .check .given .1))
 
 enum-told : tie.Need-enum-told
 enum-told c = search needs
 
--- src/causes.rt:156:8
 lacks-requires : tie.Need-lacks-requires
 lacks-requires c κs = search needs
 
--- src/causes.rt:157:9
 returns-5 : tie.Need-returns-5
-returns-5 c = ?
+unfolding requestCauses
+returns-5 c = rw (sym (c .before .before .before .before .before .before .before .before .before .before .good-request .ensures) ∙ not-false _ (c .before .before .before .before .before .before .before .before .before .if1 .left), le-ltb _ _ (c .before .before .before .before .before .before .before .before .if2 .left), sym (c .before .before .before .before .before .before .before2 .ensures) ∙ c .before .before .before .before .before .if3 .left, first-clear _ _ (sym (c .before .before .before .before .bill-check .ensures) ∙ c .before .before .enum-told .given .1), sym (c .before .lacks .ensures) ∙ c .if4 .taken)
 
--- src/causes.rt:130:1
 returns-6 : tie.Need-returns-6
-returns-6 c = ?
+unfolding requestCauses
+returns-6 c = rw (sym (c .before .before .before .before .before .before .before .before .before .before .good-request .ensures) ∙ not-false _ (c .before .before .before .before .before .before .before .before .before .if1 .left), le-ltb _ _ (c .before .before .before .before .before .before .before .before .if2 .left), sym (c .before .before .before .before .before .before .before2 .ensures) ∙ c .before .before .before .before .before .if3 .left, first-clear _ _ (sym (c .before .before .before .before .bill-check .ensures) ∙ c .before .before .enum-told .given .1), sym (c .before .lacks .ensures) ∙ c .if4 .left)
 
 pub request-check-spec : {M : Type 1} → statement M
 request-check-spec =
