@@ -1,4 +1,5 @@
 // The calls on a ledger by value: their arguments and what they answer.
+pub mod bills;
 pub mod causes;
 
 use ledger::Identity;
