@@ -10,14 +10,14 @@ use lib.ListN.{length, getD, set, drop, take-append-drop, length-set, length-map
 use lib.Seq.{getD-take, drop-set-lt}
 use lib.IntN.{ℤ, pos, _-ℤ_}
 use borrow.Author.Tests.{ltb-true, ltb-false, leb-false, eqb-false}
-use Rattle.units.specs.declared.Date.{Date}
+use Rattle.units.specs.declared.Cents.{Cents}
 use Rattle.ledger.specs.declared.Identity.{Identity}
 use Rattle.ledger.specs.declared.Bill.{Bill}
 use Rattle.ledger.specs.declared.Ledger.{Ledger}
 use Rattle.ledger.specs.declared.Found.{Found}
 use Rattle.ledger.specs.declared.Found.the-variants.{At, Nothing}
 use Rattle.ledger.specs.Lists.{sum, find, update}
-use Rattle.ledger.specs.Bills.{renewed, cancelledBill, blankBill}
+use Rattle.ledger.specs.Bills.{chargeOf, renewed, cancelledBill, blankBill}
 use Rattle.ledger.specs.Books.{Book, book, live, view, stored, ofId, placeOf, termsIn, billCharge, totalOf, appended, replaced}
 use Rattle.ledger.specs.Sound.{holdsId, soundBill, soundLedger}
 use Rattle.ledger.proofs.BookLaws.{live-appended, live-replaced, length-live, difference}
@@ -28,15 +28,19 @@ use Rattle.verdict.specs.declared.Check.the-variants.{Clear, Stop}
 use Rattle.verdict.specs.declared.Sought.{Sought}
 use Rattle.verdict.specs.declared.Sought.the-variants as sought
 use Rattle.verdict.specs.Rules.{Rule, rule, first}
+use Rattle.notices.specs.Notices.{bil, cxl}
+use Rattle.notices.proofs.NoticeLaws.{length-bil, length-cxl}
 use Rattle.groups.specs.Groups.{soughtIn}
 use Rattle.groups.specs.Steps.{billAt, soughtAt, InPlace}
 use Rattle.groups.proofs.PlaceLaws.{cases, Held, nowhere, somewhere, held}
 use Rattle.groups.proofs.TurnLaws.{every-held, Off, clear-off}
+use Rattle.groups.proofs.ReadyLaws.{sound-ready}
 use Rattle.calls.specs.declared.Request.{Request}
+use Rattle.calls.specs.declared.Answer.{Answer}
 use Rattle.calls.specs.Causes.{request, cancel, billCauses, requestCauses, cancelCauses, causes}
-use Rattle.calls.specs.Machine.{latestOf, newBill, billOf, asked, numbered, next, total, causeIn}
-use Rattle.calls.specs.BillSteps.{billFound, askedAt, storedAt, counted, HasPlace, CanRenew}
-use Rattle.calls.proofs.CallLaws.{clear-sound, clear-first}
+use Rattle.calls.specs.Machine.{latestOf, newBill, billOf, asked, numbered, next, nextWritten, nextVerdicts, nextClosed, total, outcome, answerBy, causeIn, stepIn, called}
+use Rattle.calls.specs.BillSteps.{billFound, askedAt, storedAt, counted, noticed, HasPlace, CanRenew}
+use Rattle.calls.proofs.CallLaws.{clear-sound, clear-first, written-clear, called-clear}
 
 -- ---- where a bill is
 -- whether the bill of an identity stands among bs, which are counted from n, and the bill
@@ -250,3 +254,54 @@ module _ (l : Ledger) (long : length (l .bills) ≡ 128) (id : Identity) (room :
       go : Placed l id → counted (storedAt l (placeOf id (live l)) (cancelledBill (billFound l (placeOf id (live l))))) ≡ stored l (next (book l) (cancel id room))
       go (new x b c y) = absurd (ends-none y)
       go (old p h x b c y u) = rw (x, u cancelledBill) (stored-old l p (cancelledBill (billAt l p)) h (within l long ends-sound))
+
+-- ---- what they answer
+pub request-answer : (k : Book) (r : Request) (room : ℕ) → noticed (pos 0) ≡ answerBy (outcome k (request r room) Clear) Clear
+unfolding outcome answerBy nextWritten nextVerdicts nextClosed
+request-answer k r room = rw (change-request k r room, length-bil)
+
+pub cancel-answer : (k : Book) (id : Identity) (room : ℕ)
+    → noticed (pos 0 -ℤ pos (billCharge (billOf id (k .bills)))) ≡ answerBy (outcome k (cancel id room) Clear) Clear
+unfolding outcome answerBy nextWritten nextVerdicts nextClosed
+cancel-answer k id room = rw (change-cancel k id room, length-cxl)
+
+-- ---- the parts of a request and of a cancel, joined
+-- storing a bill uses no number
+stored-numbers : (l : Ledger) (f : Found) (b : Bill)
+    → (storedAt l f b .«next_tracking» ≡ l .«next_tracking») × (storedAt l f b .«next_confirmation» ≡ l .«next_confirmation»)
+stored-numbers l Nothing b = (refl, refl)
+stored-numbers l (At p) b = (refl, refl)
+
+pub numbers-left : (l k : Ledger) (f : Found) (b : Bill) → k ≡ storedAt l f b → soundLedger l ≡ true
+    → (k .«next_tracking» ≤ 1000000000) × (k .«next_confirmation» ≤ 1000000000)
+numbers-left l k f b e s =
+    let q = sound-ready l s in
+    rw e (rw (stored-numbers l f b .0) (q .tracking), rw (stored-numbers l f b .1) (q .confirmation))
+
+module _ (l : Ledger) (long : length (l .bills) ≡ 128) (r : Request) (room : ℕ) (z : causeIn l (request r room) ≡ Clear)
+    (f : Found) (e : f ≡ placeOf (r .identity) (live l)) where
+  pub request-called : {b : Bill} {k n : Ledger} {a : Answer} → b ≡ askedAt r l f → k ≡ storedAt l f b → n ≡ counted k → a ≡ noticed (pos 0)
+      → record { ledger = n; answer = a } ≡ called l (request r room)
+  request-called {b} {k} {n} {a} p q u v =
+      called-clear l (request r room) z n a (rw (u, q, p, e) (request-left l long r room z)) (v ∙ request-answer (book l) r room)
+
+  pub request-bytes : {b o : Bill} → b ≡ askedAt r l f → o ≡ billFound l f
+      → bil (record { bill = b; former = o .terms .latest .consumption; today = l .today; confirmation = l .«next_confirmation» })
+      ≡ stepIn l (request r room) .written
+  unfolding nextWritten
+  request-bytes {b} {o} p q = rw (written-clear l (request r room) z, p, q, e, asked-is l r, found-is l (r .identity))
+
+module _ (l : Ledger) (long : length (l .bills) ≡ 128) (id : Identity) (room : ℕ) (z : causeIn l (cancel id room) ≡ Clear)
+    (f : Found) (e : f ≡ placeOf id (live l)) where
+  pub cancel-called : {o b : Bill} {k n : Ledger} {m : Cents} {d : ℤ} {a : Answer} → o ≡ billFound l f → b ≡ cancelledBill o → k ≡ storedAt l f b → n ≡ counted k
+      → m ≡ chargeOf (o .posted) → d ≡ pos 0 -ℤ pos (m .0) → a ≡ noticed d
+      → record { ledger = n; answer = a } ≡ called l (cancel id room)
+  cancel-called {o} {b} {k} {n} {m} {d} {a} g p q u w x v =
+      called-clear l (cancel id room) z n a (rw (u, q, p, g, e) (cancel-left l long id room z))
+      (rw (v, x, w, g, e, found-is l id) (cancel-answer (book l) id room))
+
+  pub cancel-bytes : {o : Bill} → o ≡ billFound l f
+      → cxl (record { terms = o .terms; tracking = l .«next_tracking»; today = l .today; confirmation = l .«next_confirmation» })
+      ≡ stepIn l (cancel id room) .written
+  unfolding nextWritten
+  cancel-bytes {o} q = rw (written-clear l (cancel id room) z, q, e, found-is l id)

@@ -1,8 +1,13 @@
 // The calls request and cancel on a ledger by value: decided on small values, then applied.
 ghost use mathlib.Core.Path.{_≡_};
 ghost use Prim.Native.Nat.{_≤_};
+ghost use lib.ListN.{length};
+ghost use Rattle.fields.specs.Put.{put};
+ghost use Rattle.ledger.specs.Books.{live, placeOf};
+ghost use Rattle.verdict.specs.declared.Check.the-variants.{Clear};
 ghost use Rattle.groups.specs.Steps.{InPlace};
-ghost use Rattle.calls.specs.Machine.{productOf, latestOf, newBill};
+ghost use Rattle.calls.specs.Causes.{request, cancel};
+ghost use Rattle.calls.specs.Machine.{productOf, latestOf, newBill, causeIn, stepIn, called};
 ghost use Rattle.calls.specs.BillSteps.{billFound, askedAt, storedAt, counted, noticed, HasPlace, CanRenew};
 use crate::Answer;
 use crate::Called;
@@ -113,4 +118,64 @@ fn noticed(change: i64) -> Answer
         rejected: 0,
         closed: 0,
     })
+}
+
+// A request that no cause is against: the BIL written, the bill stored, one of each number used.
+fn take_request(l: Ledger, out: &mut [u8], r: Request, f: Found) -> Called
+    requires { ⌜ causeIn l (request r (length (now out))) ≡ Clear ⌝ }
+    requires { ⌜ f ≡ placeOf (r .identity) (live l) ⌝ }
+    ensures { λ a. ⌜ (a ≡ called l (request r (length (now (out .entry))))) × (now (out .exit) ≡ put (now (out .entry)) 0 (stepIn l (request r (length (now (out .entry)))) .written)) ⌝ }
+{
+    let today = l.today;
+    let confirmation = l.next_confirmation;
+    let bill = asked_bill(l, r, f);
+    let old = bill_found(l, f);
+    let former = old.terms.latest.consumption;
+    notices::bil::write(
+        out,
+        0,
+        Bil {
+            bill,
+            former,
+            today,
+            confirmation,
+        },
+    );
+    let next = use_numbers(store(l, f, bill));
+    let answer = noticed(0);
+    Called {
+        ledger: next,
+        answer,
+    }
+}
+
+// A cancel that no cause is against: the CXL written, the bill marked, one of each number used.
+fn take_cancel(l: Ledger, out: &mut [u8], id: Identity, f: Found) -> Called
+    requires { ⌜ causeIn l (cancel id (length (now out))) ≡ Clear ⌝ }
+    requires { ⌜ f ≡ placeOf id (live l) ⌝ }
+    ensures { λ a. ⌜ (a ≡ called l (cancel id (length (now (out .entry))))) × (now (out .exit) ≡ put (now (out .entry)) 0 (stepIn l (cancel id (length (now (out .entry)))) .written)) ⌝ }
+{
+    let today = l.today;
+    let tracking = l.next_tracking;
+    let confirmation = l.next_confirmation;
+    let old = bill_found(l, f);
+    let terms = old.terms;
+    let posted = old.posted;
+    notices::cxl::write(
+        out,
+        0,
+        Cxl {
+            terms,
+            tracking,
+            today,
+            confirmation,
+        },
+    );
+    let next = use_numbers(store(l, f, old.cancel()));
+    let change = ledger::books::signed_change(Cents(0), posted.charge());
+    let answer = noticed(change);
+    Called {
+        ledger: next,
+        answer,
+    }
 }
