@@ -1,11 +1,9 @@
 -- What a request and a cancel do to the struct is what the machine says of the book. Assumes nothing.
 use Prim.Native.Nat.{ℕ, suc, _+_, _≤_, _<_, _^_}
 use mathlib.Core.Path.{_≡_, refl, sym, ap, _∙_, subst}
-use mathlib.Core.Bool.{Bool, true, false, true≢false}
+use mathlib.Core.Bool.{true, false, true≢false}
 use mathlib.Core.List.{List, [], _∷_, _++_, map}
 use native.Mathlib.Omega.{arith}
-use native.Mathlib.Nat.{add-zero}
-use lib.Dec.{leb, ltb, eqb}
 use lib.ListN.{length, getD, set, drop, take-append-drop, length-set, length-map}
 use lib.Seq.{getD-take, drop-set-lt}
 use lib.IntN.{ℤ, pos, _-ℤ_}
@@ -16,31 +14,31 @@ use Rattle.ledger.specs.declared.Bill.{Bill}
 use Rattle.ledger.specs.declared.Ledger.{Ledger}
 use Rattle.ledger.specs.declared.Found.{Found}
 use Rattle.ledger.specs.declared.Found.the-variants.{At, Nothing}
-use Rattle.ledger.specs.Lists.{sum, find, update}
+use Rattle.ledger.specs.Lists.{find, update}
 use Rattle.ledger.specs.Bills.{chargeOf, renewed, cancelledBill, blankBill}
-use Rattle.ledger.specs.Books.{Book, book, live, view, stored, ofId, placeOf, termsIn, billCharge, totalOf, appended, replaced}
+use Rattle.ledger.specs.Books.{Book, book, live, stored, ofId, placeOf, termsIn, billCharge, totalOf, appended, replaced}
 use Rattle.ledger.specs.Sound.{holdsId, soundBill, soundLedger}
 use Rattle.ledger.proofs.BookLaws.{live-appended, live-replaced, length-live, difference}
 use Rattle.ledger.proofs.ListLaws.{sum-append}
 use Rattle.ledger.proofs.SoundLaws.{TermsFacts, terms-facts, bill-terms, bill-small, book-facts, ledger-book, ledger-count}
 use Rattle.verdict.specs.declared.Check.{Check}
-use Rattle.verdict.specs.declared.Check.the-variants.{Clear, Stop}
+use Rattle.verdict.specs.declared.Check.the-variants.{Clear}
 use Rattle.verdict.specs.declared.Sought.{Sought}
 use Rattle.verdict.specs.declared.Sought.the-variants as sought
-use Rattle.verdict.specs.Rules.{Rule, rule, first}
+use Rattle.verdict.specs.Rules.{Rule, first}
 use Rattle.notices.specs.Notices.{bil, cxl}
 use Rattle.notices.proofs.NoticeLaws.{length-bil, length-cxl}
 use Rattle.groups.specs.Groups.{soughtIn}
-use Rattle.groups.specs.Steps.{billAt, soughtAt, InPlace}
-use Rattle.groups.proofs.PlaceLaws.{cases, Held, nowhere, somewhere, held}
-use Rattle.groups.proofs.TurnLaws.{every-held, Off, clear-off}
+use Rattle.groups.specs.Steps.{billAt, soughtAt}
+use Rattle.groups.proofs.PlaceLaws.{cases, Held, nowhere, somewhere, held, sought-is}
+use Rattle.groups.proofs.TurnLaws.{every-held, clear-off}
 use Rattle.groups.proofs.ReadyLaws.{sound-ready}
 use Rattle.calls.specs.declared.Request.{Request}
 use Rattle.calls.specs.declared.Answer.{Answer}
 use Rattle.calls.specs.Causes.{request, cancel, billCauses, requestCauses, cancelCauses, causes}
 use Rattle.calls.specs.Machine.{latestOf, newBill, billOf, asked, numbered, next, nextWritten, nextVerdicts, nextClosed, total, outcome, answerBy, causeIn, stepIn, called}
 use Rattle.calls.specs.BillSteps.{billFound, askedAt, storedAt, counted, noticed, HasPlace, CanRenew}
-use Rattle.calls.proofs.CallLaws.{clear-sound, clear-first, written-clear, called-clear}
+use Rattle.calls.proofs.CallLaws.{cause-sound, clear-sound, clear-first, written-clear, called-clear}
 
 -- ---- where a bill is
 -- whether the bill of an identity stands among bs, which are counted from n, and the bill
@@ -305,3 +303,16 @@ module _ (l : Ledger) (long : length (l .bills) ≡ 128) (id : Identity) (room :
       ≡ stepIn l (cancel id room) .written
   unfolding nextWritten
   cancel-bytes {o} q = rw (written-clear l (cancel id room) z, q, e, found-is l id)
+
+-- ---- what the checks decide is the cause
+module _ (l : Ledger) (long : length (l .bills) ≡ 128) (s : soundLedger l ≡ true) {f : Found} {b : Sought} {k : Check} where
+  pub request-cause : (r : Request) (room : ℕ) → f ≡ placeOf (r .identity) (live l) → b ≡ soughtAt l f
+      → k ≡ first (requestCauses r room (l .today) (l .«next_tracking») (l .«next_confirmation») (l .count) b)
+      → causeIn l (request r room) ≡ k
+  unfolding causes
+  request-cause r room e q p = cause-sound l (request r room) s ∙ rw (p, q, e, sought-is l (r .identity), held-length l long s)
+
+  pub cancel-cause : (id : Identity) (room : ℕ) → f ≡ placeOf id (live l) → b ≡ soughtAt l f
+      → k ≡ first (cancelCauses id room (l .«next_tracking») (l .«next_confirmation») b) → causeIn l (cancel id room) ≡ k
+  unfolding causes
+  cancel-cause id room e q p = cause-sound l (cancel id room) s ∙ rw (p, q, e, sought-is l id)

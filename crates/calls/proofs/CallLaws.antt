@@ -1,11 +1,9 @@
 -- What a call by value answers, by the cause against it. Assumes nothing.
 use Prim.Native.Nat.{ℕ}
-use mathlib.Core.Path.{_≡_, refl, sym, ap, _∙_}
+use mathlib.Core.Path.{_≡_, refl}
 use mathlib.Core.Bool.{Bool, true, false, cond}
-use mathlib.Core.List.{List, []}
+use mathlib.Core.List.{List}
 use native.Mathlib.Omega.{arith}
-use lib.ListN.{length}
-use lib.IntN.{ℤ, pos, _-ℤ_}
 use Rattle.fields.specs.Put.{put}
 use Rattle.fields.proofs.PutLaws.{put-nil}
 use Rattle.ledger.specs.declared.Ledger.{Ledger}
@@ -14,11 +12,10 @@ use Rattle.ledger.specs.Sound.{soundLedger}
 use Rattle.verdict.specs.declared.Check.{Check}
 use Rattle.verdict.specs.declared.Check.the-variants.{Clear, Stop}
 use Rattle.verdict.specs.Rules.{first}
-use Rattle.calls.specs.declared.Called.{Called}
 use Rattle.calls.specs.declared.Answer.{Answer}
 use Rattle.calls.specs.declared.Answer.the-variants.{Refused}
 use Rattle.calls.specs.Causes.{Call, causes}
-use Rattle.calls.specs.Machine.{total, next, nextWritten, outcome, causeIn, stepIn, leftBy, answerBy, called}
+use Rattle.calls.specs.Machine.{next, nextWritten, outcome, causeIn, stepIn, leftBy, answerBy, called}
 
 -- ---- the cause on the struct
 pub cause-unsound : (l : Ledger) (c : Call) → soundLedger l ≡ false → causeIn l c ≡ Stop 2

@@ -1,7 +1,7 @@
 -- Five bytes as a rate code. Assumes nothing.
 use Prim.Native.Nat.{ℕ}
-use mathlib.Core.Path.{_≡_, refl, sym, ap, _∙_}
-use mathlib.Core.Bool.{Bool, true, false, _&&_, and-false}
+use mathlib.Core.Path.{_≡_, refl}
+use mathlib.Core.Bool.{Bool, true, false, _&&_, _||_, and-false}
 use mathlib.Core.List.{List, [], _∷_}
 use native.Mathlib.Omega.{arith}
 use lib.Dec.{eqb}
@@ -43,5 +43,5 @@ pub good-five : (xs : List ℕ) → length xs ≡ 5 → (isRateCode (codeBytes (
 unfolding isRateCode
 good-five xs h =
     rw h
-    (third-last (mathlib.Core.Bool._||_ (isLetter (getD xs 0 0)) (isDigit (getD xs 0 0))) (mathlib.Core.Bool._||_ (isLetter (getD xs 1 0)) (isDigit (getD xs 1 0)))
+    (third-last (isLetter (getD xs 0 0) || isDigit (getD xs 0 0)) (isLetter (getD xs 1 0) || isDigit (getD xs 1 0))
     (eqb (getD xs 2 0) 67) (isDigit (getD xs 3 0)) (isDigit (getD xs 4 0)))

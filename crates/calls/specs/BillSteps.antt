@@ -1,5 +1,5 @@
 -- What the parts of a request and of a cancel are about: the struct, with the place of the bill in it. Assumes nothing.
-use Prim.Native.Nat.{ℕ, _+_, _≤_, _<_}
+use Prim.Native.Nat.{_+_, _≤_, _<_}
 use lib.IntN.{ℤ}
 use Rattle.ledger.specs.declared.Bill.{Bill}
 use Rattle.ledger.specs.declared.Ledger.{Ledger}

@@ -179,3 +179,57 @@ fn take_cancel(l: Ledger, out: &mut [u8], id: Identity, f: Found) -> Called
         answer,
     }
 }
+
+// The call request.
+pub fn request_bill(l: Ledger, out: &mut [u8], r: Request) -> Called
+    ensures { λ a. ⌜ (a ≡ called l (request r (length (now (out .entry))))) × (now (out .exit) ≡ put (now (out .entry)) 0 (stepIn l (request r (length (now (out .entry)))) .written)) ⌝ }
+{
+    if !l.sound() {
+        return Called {
+            ledger: l,
+            answer: Answer::Refused(2),
+        };
+    }
+    let today = l.today;
+    let id = r.identity;
+    let f = l.find(id);
+    let b = groups::sought_at(l, f);
+    let check = causes::request_check(
+        r,
+        out.len(),
+        today,
+        l.next_tracking,
+        l.next_confirmation,
+        l.count,
+        b,
+    );
+    match check {
+        Check::Stop(n) => Called {
+            ledger: l,
+            answer: Answer::Refused(n),
+        },
+        Check::Clear => take_request(l, out, r, f),
+    }
+}
+
+// The call cancel.
+pub fn cancel_bill(l: Ledger, out: &mut [u8], id: Identity) -> Called
+    ensures { λ a. ⌜ (a ≡ called l (cancel id (length (now (out .entry))))) × (now (out .exit) ≡ put (now (out .entry)) 0 (stepIn l (cancel id (length (now (out .entry)))) .written)) ⌝ }
+{
+    if !l.sound() {
+        return Called {
+            ledger: l,
+            answer: Answer::Refused(2),
+        };
+    }
+    let f = l.find(id);
+    let b = groups::sought_at(l, f);
+    let check = causes::cancel_check(id, out.len(), l.next_tracking, l.next_confirmation, b);
+    match check {
+        Check::Stop(n) => Called {
+            ledger: l,
+            answer: Answer::Refused(n),
+        },
+        Check::Clear => take_cancel(l, out, id, f),
+    }
+}

@@ -1,7 +1,7 @@
 -- `calls::causes::bill_check` meets its contract, cause by cause.
 use borrow.Author.Needs.{needs}
 use mathlib.Core.Path.{sym, _∙_}
-use borrow.Author.Tests.{not-true, not-false, le-leb, lt-leb, eq-eqb, ne-eqb}
+use borrow.Author.Tests.{le-leb, lt-leb, eq-eqb, ne-eqb}
 use Rattle.calls.specs.Causes.{billCauses}
 use Rattle.calls.proofs.causes.bill_check.Statement.{statement}
 use Rattle.calls.proofs.causes.bill_check.Tie as tie

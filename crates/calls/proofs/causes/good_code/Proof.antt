@@ -1,12 +1,9 @@
+-- `calls::causes::good_code` meets its contract: the four bytes that are kept, and the C.
 use native.Mathlib.Omega.{arith}
 use Rattle.calls.proofs.CodeLaws.{good-five}
 use borrow.Author.Needs.{needs}
 use Rattle.calls.proofs.causes.good_code.Statement.{statement}
 use Rattle.calls.proofs.causes.good_code.Tie as tie
-use Rattle.calls.proofs.causes.good_code.Reads as reads
-use Rattle.calls.proofs.causes.good_code.Lts as lts
-use Rattle.calls.proofs.causes.code_of.Reads as code-of-reads
-use Rattle.ledger.proofs.RateCode.valid.Reads as valid-reads
 
 array-read-third : tie.Need-array-read-third
 array-read-third c = search needs

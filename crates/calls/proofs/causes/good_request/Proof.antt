@@ -1,3 +1,4 @@
+-- `calls::causes::good_request` meets its contract: the strict tests are those of `requestTests`, joined from the left.
 use lib.ListN.{drop}
 use Rattle.ledger.specs.Bills.{isRateCode}
 use Rattle.ledger.proofs.ListLaws.{all-joined}
@@ -5,13 +6,6 @@ use Rattle.calls.specs.Causes.{requestTests}
 use borrow.Author.Needs.{needs}
 use Rattle.calls.proofs.causes.good_request.Statement.{statement}
 use Rattle.calls.proofs.causes.good_request.Tie as tie
-use Rattle.calls.proofs.causes.good_request.Reads as reads
-use Rattle.calls.proofs.causes.good_request.Lts as lts
-use Rattle.calls.proofs.causes.good_code.Reads as good-code-reads
-use Rattle.calls.proofs.causes.good_identity.Reads as good-identity-reads
-use Rattle.calls.proofs.causes.good_product.Reads as good-product-reads
-use Rattle.units.proofs.Ccf.fits.Reads as fits-reads
-use Rattle.units.proofs.Date.valid.Reads as valid-reads
 
 good-code-requires : tie.Need-good-code-requires
 good-code-requires c κs = search needs

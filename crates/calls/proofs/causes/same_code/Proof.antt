@@ -1,10 +1,9 @@
+-- `calls::causes::same_code` meets its contract: five bytes compared one by one.
 use native.Mathlib.Omega.{arith}
 use Rattle.calls.proofs.CodeLaws.{same-five}
 use borrow.Author.Needs.{needs}
 use Rattle.calls.proofs.causes.same_code.Statement.{statement}
 use Rattle.calls.proofs.causes.same_code.Tie as tie
-use Rattle.calls.proofs.causes.same_code.Reads as reads
-use Rattle.calls.proofs.causes.same_code.Lts as lts
 
 array-read-first : tie.Need-array-read-first
 array-read-first c = search needs
