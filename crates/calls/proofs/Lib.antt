@@ -4,3 +4,6 @@ pub mod NextSound
 pub mod RunLaws
 pub mod DayLaws
 pub mod PlaceOfLaws
+pub mod CodeLaws
+pub mod CallLaws
+pub mod BillLaws

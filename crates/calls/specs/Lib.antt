@@ -3,3 +3,4 @@ pub mod Causes
 pub mod Machine
 pub mod Days
 pub mod Lookups
+pub mod BillSteps

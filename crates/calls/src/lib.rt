@@ -1,6 +1,8 @@
 // The calls on a ledger by value: their arguments and what they answer.
 pub mod days;
 pub mod lookups;
+pub mod bills;
+pub mod causes;
 
 use ledger::Identity;
 use ledger::Ledger;

@@ -43,7 +43,7 @@ fn identity_of(h: &[u8], d: &[u8]) -> Identity
 }
 
 // The bill at the place that a search found.
-fn sought_at(l: Ledger, f: Found) -> Sought
+pub fn sought_at(l: Ledger, f: Found) -> Sought
     requires { ⌜ InPlace f ⌝ }
     ensures { λ r. ⌜ r ≡ soughtAt l f ⌝ }
 {

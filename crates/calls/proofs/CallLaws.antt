@@ -1,0 +1,61 @@
+-- What a call by value answers, by the cause against it. Assumes nothing.
+use Prim.Native.Nat.{ℕ}
+use mathlib.Core.Path.{_≡_, refl}
+use mathlib.Core.Bool.{Bool, true, false, cond}
+use mathlib.Core.List.{List}
+use native.Mathlib.Omega.{arith}
+use Rattle.fields.specs.Put.{put}
+use Rattle.fields.proofs.PutLaws.{put-nil}
+use Rattle.ledger.specs.declared.Ledger.{Ledger}
+use Rattle.ledger.specs.Books.{book, view, stored}
+use Rattle.ledger.specs.Sound.{soundLedger}
+use Rattle.verdict.specs.declared.Check.{Check}
+use Rattle.verdict.specs.declared.Check.the-variants.{Clear, Stop}
+use Rattle.verdict.specs.Rules.{first}
+use Rattle.calls.specs.declared.Answer.{Answer}
+use Rattle.calls.specs.declared.Answer.the-variants.{Refused}
+use Rattle.calls.specs.Causes.{Call, causes}
+use Rattle.calls.specs.Machine.{next, nextWritten, outcome, causeIn, stepIn, leftBy, answerBy, called}
+
+-- ---- the cause on the struct
+pub cause-unsound : (l : Ledger) (c : Call) → soundLedger l ≡ false → causeIn l c ≡ Stop 2
+unfolding causeIn
+cause-unsound l c e = rw e
+
+pub cause-sound : (l : Ledger) (c : Call) → soundLedger l ≡ true → causeIn l c ≡ first (causes (view (book l)) c)
+unfolding causeIn
+cause-sound l c e = rw e
+
+sound-by : (s : Bool) (k : Check) → cond s k (Stop 2) ≡ Clear → (s ≡ true) × (k ≡ Clear)
+sound-by true k e = (refl, e)
+sound-by false k e = let z : _≡_ {A = ℕ} 0 1 = cc in absurd (omega arith)
+
+-- a call with no cause against it found the ledger sound
+pub clear-sound : (l : Ledger) (c : Call) → causeIn l c ≡ Clear → soundLedger l ≡ true
+unfolding causeIn
+clear-sound l c e = sound-by (soundLedger l) _ e .0
+
+pub clear-first : (l : Ledger) (c : Call) → causeIn l c ≡ Clear → first (causes (view (book l)) c) ≡ Clear
+unfolding causeIn
+clear-first l c e = sound-by (soundLedger l) _ e .1
+
+-- ---- a call that is refused leaves all as it was
+module _ (l : Ledger) (c : Call) (n : ℕ) (e : causeIn l c ≡ Stop n) where
+  pub called-stop : record { ledger = l; answer = Refused n } ≡ called l c
+  unfolding called leftBy answerBy
+  called-stop = rw e
+
+  pub written-stop : (out : List ℕ) → out ≡ put out 0 (stepIn l c .written)
+  unfolding stepIn outcome
+  written-stop out = rw e (put-nil out 0)
+
+-- ---- a call that is carried out
+module _ (l : Ledger) (c : Call) (e : causeIn l c ≡ Clear) where
+  pub written-clear : stepIn l c .written ≡ nextWritten (book l) c
+  unfolding stepIn outcome
+  written-clear = rw e
+
+  pub called-clear : (k : Ledger) (a : Answer) → k ≡ stored l (next (book l) c) → a ≡ answerBy (outcome (book l) c Clear) Clear
+      → record { ledger = k; answer = a } ≡ called l c
+  unfolding called leftBy stepIn
+  called-clear k a p q = rw (e, p, q)

@@ -1,0 +1,184 @@
+// What a request and a cancel decide before they do anything, on small values: the first cause against them.
+ghost use mathlib.Core.Path.{_≡_};
+ghost use Prim.Native.Nat.{_≤_};
+ghost use Rattle.fields.specs.Put.{sameList};
+ghost use Rattle.ledger.specs.Lists.{all};
+ghost use Rattle.ledger.specs.Bills.{isRateCode, codeBytes};
+ghost use Rattle.verdict.specs.Rules.{first};
+ghost use Rattle.calls.specs.Causes.{goodIdentity, productByte, isProduct, requestTests, lacks, billCauses, requestCauses, cancelCauses};
+ghost use Rattle.calls.specs.Machine.{codeOf};
+use crate::Request;
+use ledger::Identity;
+use ledger::Product;
+use ledger::RateCode;
+use units::Date;
+use verdict::Check;
+use verdict::Sought;
+
+// Whether t Tracking IDs and c Confirmation Numbers are more than are left.
+pub fn lacks(tracking: u64, confirmation: u64, t: u64, c: u64) -> bool
+    requires { ⌜ (tracking ≤ 1000000000) × (confirmation ≤ 1000000000) × (t ≤ 200) × (c ≤ 200) ⌝ }
+    ensures { λ r. ⌜ r ≡ lacks tracking confirmation t c ⌝ }
+{
+    (1000000000 < tracking + t) | (1000000000 < confirmation + c)
+}
+
+// Whether account and Bill Key are in their widths.
+pub fn good_identity(id: Identity) -> bool
+    ensures { λ r. ⌜ r ≡ goodIdentity id ⌝ }
+{
+    (id.account < 1000000000000) & (id.key < 10000)
+}
+
+// The rate code that five bytes hold.
+pub fn code_of(code: [u8; 5]) -> RateCode
+    ensures { λ r. ⌜ r ≡ codeOf code ⌝ }
+{
+    RateCode {
+        first: code[0],
+        second: code[1],
+        tens: code[3],
+        ones: code[4],
+    }
+}
+
+// Whether five bytes hold a rate code.
+fn good_code(code: [u8; 5]) -> bool
+    ensures { λ r. ⌜ r ≡ isRateCode code ⌝ }
+{
+    let third = code[2];
+    code_of(code).valid() & (third == 67)
+}
+
+// Whether five bytes hold this rate code.
+fn same_code(code: [u8; 5], c: RateCode) -> bool
+    ensures { λ r. ⌜ r ≡ sameList code (codeBytes c) ⌝ }
+{
+    let first = code[0];
+    let second = code[1];
+    let third = code[2];
+    let tens = code[3];
+    let ones = code[4];
+    (first == c.first) & (second == c.second) & (third == 67) & (tens == c.tens) & (ones == c.ones)
+}
+
+// B or P.
+fn product_byte(p: Product) -> u8
+    ensures { λ r. ⌜ r ≡ productByte p ⌝ }
+{
+    match p {
+        Product::BillReady => 66,
+        Product::Prepay => 80,
+    }
+}
+
+fn good_product(x: u8) -> bool
+    ensures { λ r. ⌜ r ≡ isProduct x ⌝ }
+{
+    (x == 66) | (x == 80)
+}
+
+// Whether every argument is in its width and range.
+pub fn good_request(r: Request) -> bool
+    ensures { λ a. ⌜ a ≡ all (requestTests r) ⌝ }
+{
+    let code = r.code;
+    let id = r.identity;
+    let billing = r.billing;
+    let from = r.from;
+    let consumption = r.consumption;
+    let scheduled = r.scheduled;
+    good_code(code)
+        & good_identity(id)
+        & good_product(r.product)
+        & billing.valid()
+        & from.valid()
+        & consumption.fits()
+        & scheduled.valid()
+}
+
+// The causes against a request for a known bill, or for a new one where so many bills are held.
+fn bill_check(r: Request, held: usize, b: Sought) -> Check
+    ensures { λ a. ⌜ a ≡ first (billCauses r held b) ⌝ }
+{
+    let Sought::Bill(t) = b else {
+        if 128 <= held {
+            return Check::Stop(3);
+        }
+        return Check::Clear;
+    };
+    let cancelled = t.cancelled;
+    if cancelled {
+        return Check::Stop(5);
+    }
+    let code = r.code;
+    let product = t.product;
+    if !(same_code(code, t.code) & (r.product == product_byte(product))) {
+        return Check::Stop(6);
+    }
+    let consumption = r.consumption;
+    if consumption.same(t.latest.consumption) {
+        return Check::Stop(7);
+    }
+    if t.sequence == 999 {
+        return Check::Stop(8);
+    }
+    Check::Clear
+}
+
+// The first cause against a request of a sound ledger.
+pub fn request_check(
+    r: Request,
+    room: usize,
+    today: Date,
+    tracking: u64,
+    confirmation: u64,
+    held: usize,
+    b: Sought,
+) -> Check
+    requires { ⌜ (tracking ≤ 1000000000) × (confirmation ≤ 1000000000) ⌝ }
+    ensures { λ a. ⌜ a ≡ first (requestCauses r room today tracking confirmation held b) ⌝ }
+{
+    if !good_request(r) {
+        return Check::Stop(2);
+    }
+    if room < 642 {
+        return Check::Stop(1);
+    }
+    let scheduled = r.scheduled;
+    if scheduled.before(today) {
+        return Check::Stop(9);
+    }
+    let check = bill_check(r, held, b);
+    if let Check::Stop(n) = check {
+        return Check::Stop(n);
+    }
+    if lacks(tracking, confirmation, 1, 1) {
+        return Check::Stop(12);
+    }
+    Check::Clear
+}
+
+// The first cause against a cancel of a sound ledger.
+pub fn cancel_check(id: Identity, room: usize, tracking: u64, confirmation: u64, b: Sought) -> Check
+    requires { ⌜ (tracking ≤ 1000000000) × (confirmation ≤ 1000000000) ⌝ }
+    ensures { λ a. ⌜ a ≡ first (cancelCauses id room tracking confirmation b) ⌝ }
+{
+    if !good_identity(id) {
+        return Check::Stop(2);
+    }
+    if room < 642 {
+        return Check::Stop(1);
+    }
+    let Sought::Bill(t) = b else {
+        return Check::Stop(4);
+    };
+    let cancelled = t.cancelled;
+    if cancelled {
+        return Check::Stop(5);
+    }
+    if lacks(tracking, confirmation, 1, 1) {
+        return Check::Stop(12);
+    }
+    Check::Clear
+}
