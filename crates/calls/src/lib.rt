@@ -1,4 +1,7 @@
 // The calls on a ledger by value: their arguments and what they answer.
+pub mod causes;
+pub mod files;
+
 use ledger::Identity;
 use ledger::Ledger;
 use units::Ccf;
