@@ -1,9 +1,10 @@
 -- Laws that belong to no one function.
 pub mod CauseLaws
-pub mod NextSound
-pub mod RunLaws
-pub mod DayLaws
-pub mod PlaceOfLaws
 pub mod CodeLaws
 pub mod CallLaws
+pub mod NextSound
+pub mod RunLaws
+pub mod PlaceOfLaws
 pub mod BillLaws
+pub mod DayLaws
+pub mod FileCallLaws

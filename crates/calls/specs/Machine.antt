@@ -106,6 +106,13 @@ nextWritten l (cancel id room) =
     })
 nextWritten l (close d) = []
 
+-- the length of the output lent to it; a close is lent none
+abbrev pub roomOf : Call → ℕ
+roomOf (request r room) = room
+roomOf (file s room) = room
+roomOf (cancel id room) = room
+roomOf (close d) = 0
+
 -- the verdicts of a file's groups
 unfoldable pub nextVerdicts : Book → Call → List Verdict
 nextVerdicts l (request r room) = []

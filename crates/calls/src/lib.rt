@@ -1,8 +1,9 @@
 // The calls on a ledger by value: their arguments and what they answer.
-pub mod days;
-pub mod lookups;
 pub mod bills;
 pub mod causes;
+pub mod days;
+pub mod files;
+pub mod lookups;
 
 use ledger::Identity;
 use ledger::Ledger;

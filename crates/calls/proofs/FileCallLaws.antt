@@ -1,0 +1,275 @@
+-- Laws of the file call. Assumes nothing.
+use Prim.Native.Nat.{ℕ, zero, suc, _+_, _*_, _/_, _%_, _≤_}
+use mathlib.Core.Path.{_≡_, refl, sym, ap, _∙_}
+use mathlib.Core.Bool.{Bool, true, false, cond, _&&_, _||_, false≢true}
+use mathlib.Core.List.{List, [], _∷_, _++_}
+use native.Mathlib.Omega.{arith}
+use lib.Dec.{eqb, leb, ltb}
+use lib.ListN.{length, take, length-append, length-take}
+use borrow.Author.Tests.{leb-true, ltb-false, not-false}
+use Rattle.fields.specs.Put.{put}
+use Rattle.fields.proofs.PutLaws.{put-nil}
+use Rattle.fields.proofs.BoolLaws.{and-left, and-right}
+use Rattle.ledger.specs.declared.Ledger.{Ledger}
+use Rattle.ledger.specs.Lists.{every, count}
+use Rattle.ledger.specs.Books.{Book, View, view}
+use Rattle.ledger.specs.Sound.{sound, soundLedger}
+use Rattle.notices.specs.declared.bil.Bil.{Bil}
+use Rattle.notices.specs.declared.cxl.Cxl.{Cxl}
+use Rattle.notices.specs.Notices.{bil, cxl}
+use Rattle.notices.specs.Layout.{recordsFrom, isSup}
+use Rattle.notices.proofs.LayoutLaws.{length-records, long-record}
+use Rattle.notices.proofs.NoticeLaws.{length-bil, length-cxl}
+use Rattle.answers.specs.declared.acf.Acf.{Acf}
+use Rattle.answers.specs.declared.rej.Rej.{Rej}
+use Rattle.answers.specs.Answers.{acf, rejHeader, rejDetail, rejDetails, rej}
+use Rattle.answers.proofs.AnswerLaws.{length-acf, length-rej-header, length-rej-detail}
+use Rattle.file.specs.File.{records, goodRecord, headed, goodFile, isHeader, Group, leading, groups, fileGroups, asksId}
+use Rattle.verdict.specs.declared.Check.{Check}
+use Rattle.verdict.specs.declared.Check.the-variants.{Clear, Stop}
+use Rattle.verdict.specs.declared.Verdict.{Verdict}
+use Rattle.verdict.specs.declared.Verdict.the-variants.{Accepted, Rejected}
+use Rattle.verdict.specs.Rules.{first}
+use Rattle.groups.specs.declared.Clearing.{Clearing}
+use Rattle.groups.specs.Groups.{verdictHere, settled, answer, answers}
+use Rattle.groups.specs.Steps.{Cleared}
+use Rattle.groups.proofs.TurnLaws.{clear-off}
+use Rattle.groups.proofs.FileSound.{file-sound}
+use Rattle.calls.specs.declared.Called.{Called}
+use Rattle.calls.specs.declared.Answer.the-variants.{Done, Refused}
+use Rattle.calls.specs.Causes.{Call, request, file, cancel, close, lacks, requestCauses, cancelCauses, fileCauses, causes}
+use Rattle.calls.specs.Machine.{cause, roomOf, causeIn, outcome, stepIn, leftBy, answerBy, called, next, nextWritten, nextVerdicts, nextClosed}
+
+-- ---- how long a file is, and how many groups it has
+pub good-short : (s : List ℕ) → goodFile s ≡ true → length s ≤ 64200
+unfolding goodFile
+good-short s h =
+    leb-true _ _
+    (and-right (eqb (length s % 321) 0) (leb (length s) 64200)
+    (and-left (eqb (length s % 321) 0 && leb (length s) 64200) (every goodRecord (records s))
+    (and-left (eqb (length s % 321) 0 && leb (length s) 64200 && every goodRecord (records s)) (headed (records s)) h)))
+
+groups-le : (rs : List (List ℕ)) → length (groups rs) ≤ length rs
+unfolding groups
+groups-le [] = omega arith
+groups-le (r ∷ rs) = go (isHeader r) (groups-le rs)
+  where
+    go : (b : Bool) → length (groups rs) ≤ length rs
+        → length (cond b (record { header = r; details = take (leading rs) rs } ∷ groups rs) (groups rs)) ≤ length (r ∷ rs)
+    go true h = omega arith
+    go false h = omega arith
+
+count-le : (p : Group → Bool) (gs : List Group) → count p gs ≤ length gs
+count-le p [] = omega arith
+count-le p (g ∷ gs) = go (p g) (count-le p gs)
+  where
+    go : (b : Bool) → count p gs ≤ length gs → cond b (suc (count p gs)) (count p gs) ≤ length (g ∷ gs)
+    go true h = omega arith
+    go false h = omega arith
+
+-- as the code counts them
+pub file-groups : (s : List ℕ) → fileGroups s ≡ groups (recordsFrom s 0 (length s / 321))
+unfolding fileGroups records
+file-groups s = refl
+
+module _ (s : List ℕ) (h : goodFile s ≡ true) where
+  pub groups-few : length (fileGroups s) ≤ 200
+  groups-few =
+      omega (
+        arith,
+        ap length (file-groups s),
+        groups-le (recordsFrom s 0 (length s / 321)),
+        length-records s 0 (length s / 321),
+        good-short s h,
+      )
+
+  pub ids-few : count asksId (fileGroups s) ≤ 200
+  ids-few = omega (arith, count-le asksId (fileGroups s), groups-few)
+
+-- ---- the check, as the code asks the causes
+-- fewer numbers are left than the groups need
+module _ (s : List ℕ) (tracking confirmation : ℕ) where
+  abbrev pub short : Bool
+  short = lacks tracking confirmation (count asksId (fileGroups s)) (length (fileGroups s))
+
+  -- with the counts that the code found
+  pub short-is : (n ids : ℕ) → n ≡ length (groups (recordsFrom s 0 (length s / 321)))
+      → ids ≡ count asksId (groups (recordsFrom s 0 (length s / 321))) → short ≡ lacks tracking confirmation ids n
+  unfolding fileGroups records
+  short-is n ids e f = rw (e, f)
+
+module _ (s : List ℕ) (room tracking confirmation : ℕ) where
+  abbrev asked : Check
+  asked = first (fileCauses s room tracking confirmation)
+
+  pub stop-bad : goodFile s ≡ false → Stop 11 ≡ asked
+  unfolding fileCauses
+  stop-bad a = rw a
+
+  pub stop-room : goodFile s ≡ true → ltb room (length s) ≡ true → Stop 1 ≡ asked
+  unfolding fileCauses
+  stop-room a b = rw (a, b)
+
+  pub stop-numbers : goodFile s ≡ true → ltb room (length s) ≡ false → short s tracking confirmation ≡ true → Stop 12 ≡ asked
+  unfolding fileCauses
+  stop-numbers a b c = rw (a, b, c)
+
+  pub no-cause : goodFile s ≡ true → ltb room (length s) ≡ false → short s tracking confirmation ≡ false → Clear ≡ asked
+  unfolding fileCauses
+  no-cause a b c = rw (a, b, c)
+
+  -- what a file with no cause against it has
+  pub clear-good : asked ≡ Clear → goodFile s ≡ true
+  unfolding fileCauses
+  clear-good e = not-false _ (clear-off (fileCauses s room tracking confirmation) e .0)
+
+  pub clear-room : asked ≡ Clear → length s ≤ room
+  unfolding fileCauses
+  clear-room e = ltb-false _ _ (clear-off (fileCauses s room tracking confirmation) e .1 .0)
+
+  pub clear-numbers : asked ≡ Clear → short s tracking confirmation ≡ false
+  unfolding fileCauses
+  clear-numbers e = clear-off (fileCauses s room tracking confirmation) e .1 .1 .0
+
+-- ---- the call
+pub cause-unsound : (l : Ledger) (c : Call) → soundLedger l ≡ false → causeIn l c ≡ Stop 2
+unfolding causeIn
+cause-unsound l c h = rw h
+
+pub cause-file : (l : Ledger) (s : List ℕ) (room : ℕ) (v : Check) → soundLedger l ≡ true
+    → v ≡ first (fileCauses s room (l .«next_tracking») (l .«next_confirmation»)) → causeIn l (file s room) ≡ v
+unfolding causeIn causes
+cause-file l s room v h e = rw h (sym e)
+
+-- a refusal leaves the ledger and the output
+pub stopped : (l : Ledger) (c : Call) (out : List ℕ) (n : ℕ) → causeIn l c ≡ Stop n
+    → (_≡_ {A = Called} (record { ledger = l; answer = Refused n }) (called l c)) × (out ≡ put out 0 (stepIn l c .written))
+unfolding called leftBy answerBy stepIn outcome
+stopped l c out n e = rw e (refl, put-nil out 0)
+
+-- what a file that was taken leaves and returns
+pub passed : (l : Ledger) (s out out′ : List ℕ) (r : Clearing) → causeIn l (file s (length out)) ≡ Clear
+    → Cleared l (groups (recordsFrom s 0 (length s / 321))) out out′ r
+    → (_≡_ {A = Called}
+    (record {
+      ledger = r .ledger;
+      answer =
+          Done
+          (record { change = r .change; written = r .written; accepted = r .accepted; rejected = r .rejected; closed = 0 });
+    })
+    (called l (file s (length out))))
+    × (out′ ≡ put out 0 (stepIn l (file s (length out)) .written))
+unfolding called leftBy answerBy stepIn outcome next nextWritten nextVerdicts nextClosed fileGroups records
+passed l s out out′ r e k = rw e (rw (k .ledger, k .change, k .written, k .accepted, k .rejected), k .bytes)
+
+-- ---- a file that is taken leaves a sound ledger
+or-both : (a b : Bool) → (a || b) ≡ false → (a ≡ false) × (b ≡ false)
+or-both true b e = absurd (false≢true (sym e))
+or-both false b e = (refl, e)
+
+pub next-sound : (l : Book) (s : List ℕ) (room : ℕ) → sound l ≡ true → first (causes (view l) (file s room)) ≡ Clear
+    → sound (next l (file s room)) ≡ true
+unfolding causes next
+next-sound l s room h e =
+    let t = l .tracking + count asksId (fileGroups s) in
+    let c = l .confirmation + length (fileGroups s) in
+    let o = or-both (ltb 1000000000 t) (ltb 1000000000 c) (clear-numbers s room (l .tracking) (l .confirmation) e) in
+    file-sound l (fileGroups s) h (ltb-false 1000000000 c (o .1)) (ltb-false 1000000000 t (o .0))
+
+-- ---- the answers to a file are at most as long as the file
+abbrev Long : List (List ℕ) → Type 0
+Long [] = Unit {0}
+Long (r ∷ rs) = (321 ≤ length r) × Long rs
+
+long-records : (s : List ℕ) (i k : ℕ) → (i + k) * 321 ≤ length s → Long (recordsFrom s i k)
+unfolding recordsFrom
+long-records s i zero h = tt
+long-records s i (suc k) h = (omega (arith, long-record s i (omega arith)), long-records s (i + 1) k (omega arith))
+
+long-take : (n : ℕ) (rs : List (List ℕ)) → Long rs → Long (take n rs)
+long-take zero rs h = tt
+long-take (suc n) [] h = tt
+long-take (suc n) (r ∷ rs) h = (h .0, long-take n rs (h .1))
+
+length-details : (sup : Bool) (ds : List (List ℕ)) (x : Rej) → Long ds → length (rejDetails sup ds x) ≡ length ds * 321
+unfolding rejDetails
+length-details sup [] x h = refl
+length-details sup (d ∷ ds) x h =
+    length-append (rejDetail sup d x) (rejDetails sup ds x)
+    ∙ omega (arith, length-rej-detail d (h .0) sup x, length-details sup ds x (h .1))
+
+acf-within : (h : List ℕ) (a : Acf) (k : ℕ) → 321 ≤ length h → length (acf h a) ≤ (1 + k) * 321
+acf-within h a k e = omega (arith, length-acf h e a)
+
+rej-within : (h : List ℕ) (ds : List (List ℕ)) (x : Rej) → 321 ≤ length h → Long ds → length (rej h ds x) ≤ (1 + length ds) * 321
+unfolding rej
+rej-within h ds x e k =
+    omega (
+      arith,
+      length-append (rejHeader h x) (rejDetails (isSup h) ds x),
+      length-rej-header h e x,
+      length-details (isSup h) ds x k,
+    )
+
+answer-within : (v : View) (g : Group) (w : Verdict) → 321 ≤ length (g .header) → Long (g .details)
+    → length (answer v g w) ≤ (1 + length (g .details)) * 321
+unfolding answer
+answer-within v g (Accepted amounts) h k = acf-within (g .header) _ (length (g .details)) h
+answer-within v g (Rejected n) h k = rej-within (g .header) (g .details) _ h k
+
+-- the records before the first header are no group's
+answers-within : (before : List Group) (l : Book) (rs : List (List ℕ)) → Long rs
+    → length (answers before l (groups rs)) + leading rs * 321 ≤ length rs * 321
+unfolding answers groups leading
+answers-within before l [] h = omega arith
+answers-within before l (r ∷ rs) h = go (λ x k. answers-within x k rs (h .1)) (isHeader r)
+  where
+    g : Group
+    g = record { header = r; details = take (leading rs) rs }
+
+    v : Verdict
+    v = verdictHere before l g (groups rs)
+
+    go : ((x : List Group) (k : Book) → length (answers x k (groups rs)) + leading rs * 321 ≤ length rs * 321) → (b : Bool)
+        → length (answers before l (cond b (g ∷ groups rs) (groups rs))) + cond b 0 (suc (leading rs)) * 321 ≤ length (r ∷ rs) * 321
+    go f true =
+        omega (
+          arith,
+          length-append (answer (view l) g v) (answers (before ++ (g ∷ [])) (settled l g v) (groups rs)),
+          answer-within (view l) g v (h .0) (long-take (leading rs) rs (h .1)),
+          length-take (leading rs) rs,
+          f (before ++ (g ∷ [])) (settled l g v),
+        )
+    go f false = omega (arith, f before l)
+
+file-within : (l : Book) (s : List ℕ) → length (answers [] l (fileGroups s)) ≤ length s
+unfolding fileGroups records
+file-within l s =
+    omega (
+      arith,
+      answers-within [] l (recordsFrom s 0 (length s / 321)) (long-records s 0 (length s / 321) (omega arith)),
+      length-records s 0 (length s / 321),
+    )
+
+-- ---- no call writes past the output lent to it
+clear-causes : (l : Book) (c : Call) → cause l c ≡ Clear → first (causes (view l) c) ≡ Clear
+unfolding cause
+clear-causes l c e = go (sound l) e
+  where
+    go : (b : Bool) → cond b (first (causes (view l) c)) (Stop 2) ≡ Clear → first (causes (view l) c) ≡ Clear
+    go true h = h
+    go false h = let z : _≡_ {A = ℕ} 0 1 = cc in absurd (omega arith)
+
+bil-within : (b : Bil) (room : ℕ) → ltb room 642 ≡ false → length (bil b) ≤ room
+bil-within b room e = omega (arith, length-bil b, ltb-false room 642 e)
+
+cxl-within : (x : Cxl) (room : ℕ) → ltb room 642 ≡ false → length (cxl x) ≤ room
+cxl-within x room e = omega (arith, length-cxl x, ltb-false room 642 e)
+
+pub written-within : (l : Book) (c : Call) → cause l c ≡ Clear → length (nextWritten l c) ≤ roomOf c
+unfolding causes requestCauses cancelCauses nextWritten
+written-within l (request r room) e = bil-within _ room (clear-off (causes (view l) (request r room)) (clear-causes l (request r room) e) .1 .0)
+written-within l (file s room) e =
+    omega (arith, file-within l s, clear-room s room (l .tracking) (l .confirmation) (clear-causes l (file s room) e))
+written-within l (cancel id room) e = cxl-within _ room (clear-off (causes (view l) (cancel id room)) (clear-causes l (cancel id room) e) .1 .0)
+written-within l (close d) e = omega arith

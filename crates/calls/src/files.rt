@@ -1,0 +1,71 @@
+// The file call: causes 2, 11, 1 and 12, then the file's groups on the ledger.
+ghost use mathlib.Core.Path.{_≡_};
+ghost use Prim.Native.Nat.{_≤_};
+ghost use lib.ListN.{length};
+ghost use Rattle.fields.specs.Put.{put};
+ghost use Rattle.verdict.specs.Rules.{first};
+ghost use Rattle.calls.specs.Causes.{file, fileCauses};
+ghost use Rattle.calls.specs.Machine.{stepIn, called};
+use crate::Answer;
+use crate::Called;
+use crate::Returned;
+use ledger::Ledger;
+use verdict::Check;
+
+// Causes 11, 1 and 12 of a file: room is the length of the output lent for its answers.
+fn file_check(s: &[u8], room: usize, tracking: u64, confirmation: u64) -> Check
+    requires { ⌜ (tracking ≤ 1000000000) × (confirmation ≤ 1000000000) ⌝ }
+    ensures { λ r. ⌜ r ≡ first (fileCauses (now (s .entry)) room tracking confirmation) ⌝ }
+{
+    if !file::good_file(s) {
+        return Check::Stop(11);
+    }
+    let len = s.len();
+    if room < len {
+        return Check::Stop(1);
+    }
+    let needs = file::count_groups(s, len / 321);
+    if crate::causes::lacks(
+        tracking,
+        confirmation,
+        needs.ids as u64,
+        needs.groups as u64,
+    ) {
+        return Check::Stop(12);
+    }
+    Check::Clear
+}
+
+// Takes a supplier file: its answers go to out.
+pub fn take_file(l: Ledger, out: &mut [u8], s: &[u8]) -> Called
+    ensures { λ a. ⌜ (a ≡ called l (file (now (s .entry)) (length (now (out .entry))))) × (now (out .exit) ≡ put (now (out .entry)) 0 (stepIn l (file (now (s .entry)) (length (now (out .entry)))) .written)) ⌝ }
+{
+    if !l.sound() {
+        return Called {
+            ledger: l,
+            answer: Answer::Refused(2),
+        };
+    }
+    let check = file_check(s, out.len(), l.next_tracking, l.next_confirmation);
+    match check {
+        Check::Stop(n) => Called {
+            ledger: l,
+            answer: Answer::Refused(n),
+        },
+        Check::Clear => {
+            let c = groups::clear(l, out, s, s.len() / 321);
+            let next = c.ledger;
+            let returned = Returned {
+                change: c.change,
+                written: c.written,
+                accepted: c.accepted,
+                rejected: c.rejected,
+                closed: 0,
+            };
+            Called {
+                ledger: next,
+                answer: Answer::Done(returned),
+            }
+        }
+    }
+}
