@@ -1,20 +1,20 @@
 -- What a request and a cancel do to the struct is what the machine says of the book. Assumes nothing.
-use Prim.Native.Nat.{ℕ, suc, _+_, _≤_, _<_, _^_}
+use Prim.Native.Nat.{ℕ, _+_, _≤_, _<_, _^_}
 use mathlib.Core.Path.{_≡_, refl, sym, ap, _∙_, subst}
 use mathlib.Core.Bool.{true, false, true≢false}
 use mathlib.Core.List.{List, [], _∷_, _++_, map}
 use native.Mathlib.Omega.{arith}
-use lib.ListN.{length, getD, set, drop, take-append-drop, length-set, length-map}
-use lib.Seq.{getD-take, drop-set-lt}
+use lib.ListN.{length, set, drop, take-append-drop, length-set, length-map}
+use lib.Seq.{drop-set-lt}
 use lib.IntN.{ℤ, pos, _-ℤ_}
-use borrow.Author.Tests.{ltb-true, ltb-false, leb-false, eqb-false}
+use borrow.Author.Tests.{ltb-true}
 use Rattle.units.specs.declared.Cents.{Cents}
 use Rattle.ledger.specs.declared.Identity.{Identity}
 use Rattle.ledger.specs.declared.Bill.{Bill}
 use Rattle.ledger.specs.declared.Ledger.{Ledger}
 use Rattle.ledger.specs.declared.Found.{Found}
 use Rattle.ledger.specs.declared.Found.the-variants.{At, Nothing}
-use Rattle.ledger.specs.Lists.{find, update}
+use Rattle.ledger.specs.Lists.{update}
 use Rattle.ledger.specs.Bills.{chargeOf, renewed, cancelledBill, blankBill}
 use Rattle.ledger.specs.Books.{Book, book, live, stored, ofId, placeOf, termsIn, billCharge, totalOf, appended, replaced}
 use Rattle.ledger.specs.Sound.{holdsId, soundBill, soundLedger}
@@ -25,38 +25,25 @@ use Rattle.verdict.specs.declared.Check.{Check}
 use Rattle.verdict.specs.declared.Check.the-variants.{Clear}
 use Rattle.verdict.specs.declared.Sought.{Sought}
 use Rattle.verdict.specs.declared.Sought.the-variants as sought
-use Rattle.verdict.specs.Rules.{Rule, first}
+use Rattle.verdict.specs.Rules.{first}
 use Rattle.notices.specs.Notices.{bil, cxl}
 use Rattle.notices.proofs.NoticeLaws.{length-bil, length-cxl}
 use Rattle.groups.specs.Groups.{soughtIn}
 use Rattle.groups.specs.Steps.{billAt, soughtAt}
 use Rattle.groups.proofs.PlaceLaws.{cases, Held, nowhere, somewhere, held, sought-is}
-use Rattle.groups.proofs.TurnLaws.{every-held, clear-off}
+use Rattle.groups.proofs.TurnLaws.{every-held}
 use Rattle.groups.proofs.ReadyLaws.{sound-ready}
 use Rattle.calls.specs.declared.Request.{Request}
 use Rattle.calls.specs.declared.Answer.{Answer}
-use Rattle.calls.specs.Causes.{request, cancel, billCauses, requestCauses, cancelCauses, causes}
+use Rattle.calls.specs.Causes.{request, cancel, requestCauses, cancelCauses, causes}
 use Rattle.calls.specs.Machine.{latestOf, newBill, billOf, asked, numbered, next, nextWritten, nextVerdicts, nextClosed, total, outcome, answerBy, causeIn, stepIn, called}
 use Rattle.calls.specs.BillSteps.{billFound, askedAt, storedAt, counted, noticed, HasPlace, CanRenew}
+use Rattle.verdict.specs.Lines.{isNothing}
+use Rattle.calls.proofs.CauseLaws.{Asks, asks, Cancels, cancels}
+use Rattle.calls.proofs.PlaceOfLaws.{first-of, spot, spot-none}
 use Rattle.calls.proofs.CallLaws.{cause-sound, clear-sound, clear-first, written-clear, called-clear}
 
 -- ---- where a bill is
--- whether the bill of an identity stands among bs, which are counted from n, and the bill
-data Known (id : Identity) (n : ℕ) (bs : List Bill) : Type 0 where
-  unknown : find (ofId id) n bs ≡ Nothing → holdsId id bs ≡ false → billOf id bs ≡ blankBill → Known id n bs
-  known : (p : ℕ) → find (ofId id) n bs ≡ At (n + p) → holdsId id bs ≡ true → billOf id bs ≡ getD bs p blankBill → Known id n bs
-
-knows : (id : Identity) (n : ℕ) (bs : List Bill) → Known id n bs
-knows id n [] = unknown refl refl refl
-knows id n (b ∷ bs) = cases (ofId id b) here (λ e. there e (knows id (suc n) bs))
-  where
-    here : ofId id b ≡ true → Known id n (b ∷ bs)
-    here e = known 0 (rw e (ap At (omega arith))) (rw e) (rw e)
-
-    there : ofId id b ≡ false → Known id (suc n) bs → Known id n (b ∷ bs)
-    there e (unknown x y z) = unknown (rw e x) (rw e y) (rw e z)
-    there e (known p x y z) = let m : suc n + p ≡ n + suc p = omega arith in known (suc p) (rw e (x ∙ ap At m)) (rw e y) (rw e z)
-
 -- all that is known of a bill by its place in the struct
 pub data Placed (l : Ledger) (id : Identity) : Type 0 where
   new : placeOf id (live l) ≡ Nothing → holdsId id (live l) ≡ false → billOf id (live l) ≡ blankBill
@@ -66,16 +53,11 @@ pub data Placed (l : Ledger) (id : Identity) : Type 0 where
       → ((f : Bill → Bill) → update (ofId id) f (live l) ≡ set (live l) p (f (billAt l p))) → Placed l id
 
 pub placed : (l : Ledger) (id : Identity) → Placed l id
-placed l id = go (held l id) (knows id 0 (live l))
+placed l id = go (held l id)
   where
-    go : Held l id → Known id 0 (live l) → Placed l id
-    go (nowhere x y) (unknown a b c) = new x b c y
-    go (nowhere x y) (known p a b c) = let z : _≡_ {A = ℕ} 0 1 = cc in absurd (omega arith)
-    go (somewhere p h x y z) (unknown a b c) = let w : _≡_ {A = ℕ} 0 1 = cc in absurd (omega arith)
-    go (somewhere p h x y z) (known q a b c) =
-        let e : p ≡ 0 + q = cc in
-        let f : q ≡ p = omega arith in
-        old p h x b (c ∙ ap (λ (i : ℕ). getD (live l) i blankBill) f ∙ getD-take (l .count) (l .bills) p blankBill h) y z
+    go : Held l id → Placed l id
+    go (nowhere x y) = let n = spot-none (ofId id) l x in new x (n .0) (first-of id (live l) ∙ n .1) y
+    go (somewhere p h x y z) = let s = spot (ofId id) l p x in old p h x (s .some) (first-of id (live l) ∙ s .bill) y z
 
 -- the bill that was found is the bill of the identity
 pub found-is : (l : Ledger) (id : Identity) → billFound l (placeOf id (live l)) ≡ billOf id (live l)
@@ -153,31 +135,23 @@ module _ (l : Ledger) (long : length (l .bills) ≡ 128) (r : Request) (room : �
   asks-sound : soundLedger l ≡ true
   asks-sound = clear-sound l (request r room) z
 
-  abbrev asksFor : Sought → List Rule
-  asksFor b = requestCauses r room (l .today) (l .«next_tracking») (l .«next_confirmation») (length (map termsIn (live l))) b
+  abbrev wanted : Sought
+  wanted = soughtIn (r .identity) (map termsIn (live l))
 
-  asks-clear : first (asksFor (soughtIn (r .identity) (map termsIn (live l)))) ≡ Clear
+  asks-facts : Asks r room (l .today) (l .«next_tracking») (l .«next_confirmation») (length (map termsIn (live l))) wanted
   unfolding causes
-  asks-clear = clear-first l (request r room) z
+  asks-facts = asks r room (l .today) (l .«next_tracking») (l .«next_confirmation») _ wanted (clear-first l (request r room) z)
 
   pub request-room : 642 ≤ room
-  unfolding requestCauses
-  request-room = ltb-false room 642 (clear-off (asksFor (soughtIn (r .identity) (map termsIn (live l)))) asks-clear .1 .0)
+  request-room = asks-facts .wide
 
   -- a new bill has room
-  asks-new : soughtIn (r .identity) (map termsIn (live l)) ≡ sought.Nothing → l .count < 128
-  unfolding requestCauses billCauses
-  asks-new y =
-      let c = subst (λ (b : Sought). first (asksFor b) ≡ Clear) y asks-clear in
-      omega (arith, held-length l long asks-sound, leb-false 128 (length (map termsIn (live l))) (clear-off (asksFor sought.Nothing) c .1 .1 .1 .0))
+  asks-new : wanted ≡ sought.Nothing → l .count < 128
+  asks-new y = omega (arith, held-length l long asks-sound, asks-facts .new y)
 
   -- the sequence of a known one has room
-  asks-old : (p : ℕ) → p < l .count → soughtIn (r .identity) (map termsIn (live l)) ≡ sought.Bill (billAt l p .terms) → billAt l p .terms .sequence < 999
-  unfolding requestCauses billCauses
-  asks-old p h y =
-      let c = subst (λ (b : Sought). first (asksFor b) ≡ Clear) y asks-clear in
-      let n = eqb-false (billAt l p .terms .sequence) 999 (clear-off (asksFor (sought.Bill (billAt l p .terms))) c .1 .1 .1 .1 .1 .1 .0) in
-      omega (arith, n, facts-at l long asks-sound p h .sequence)
+  asks-old : (p : ℕ) → p < l .count → wanted ≡ sought.Bill (billAt l p .terms) → billAt l p .terms .sequence < 999
+  asks-old p h y = omega (arith, asks-facts .known (billAt l p .terms) y .1, facts-at l long asks-sound p h .sequence)
 
   pub request-place : HasPlace l (placeOf (r .identity) (live l))
   request-place = go (placed l (r .identity))
@@ -209,23 +183,16 @@ module _ (l : Ledger) (long : length (l .bills) ≡ 128) (id : Identity) (room :
   ends-sound : soundLedger l ≡ true
   ends-sound = clear-sound l (cancel id room) z
 
-  abbrev endsFor : Sought → List Rule
-  endsFor b = cancelCauses id room (l .«next_tracking») (l .«next_confirmation») b
-
-  ends-clear : first (endsFor (soughtIn id (map termsIn (live l)))) ≡ Clear
+  ends-facts : Cancels id room (l .«next_tracking») (l .«next_confirmation») (soughtIn id (map termsIn (live l)))
   unfolding causes
-  ends-clear = clear-first l (cancel id room) z
+  ends-facts = cancels id room (l .«next_tracking») (l .«next_confirmation») _ (clear-first l (cancel id room) z)
 
   pub cancel-room : 642 ≤ room
-  unfolding cancelCauses
-  cancel-room = ltb-false room 642 (clear-off (endsFor (soughtIn id (map termsIn (live l)))) ends-clear .1 .0)
+  cancel-room = ends-facts .wide
 
   -- there is a bill
   ends-none : soughtIn id (map termsIn (live l)) ≡ sought.Nothing → ⊥
-  unfolding cancelCauses
-  ends-none y =
-      let c = subst (λ (b : Sought). first (endsFor b) ≡ Clear) y ends-clear in
-      true≢false (clear-off (endsFor sought.Nothing) c .1 .1 .0)
+  ends-none y = true≢false (subst (λ (b : Sought). isNothing b ≡ false) y (ends-facts .known))
 
   pub cancel-place : HasPlace l (placeOf id (live l))
   cancel-place = go (placed l id)

@@ -12,6 +12,7 @@ use Rattle.ledger.specs.Sound.{soundLedger}
 use Rattle.verdict.specs.declared.Check.{Check}
 use Rattle.verdict.specs.declared.Check.the-variants.{Clear, Stop}
 use Rattle.verdict.specs.Rules.{first}
+use Rattle.calls.specs.declared.Called.{Called}
 use Rattle.calls.specs.declared.Answer.{Answer}
 use Rattle.calls.specs.declared.Answer.the-variants.{Refused}
 use Rattle.calls.specs.Causes.{Call, causes}
@@ -45,9 +46,12 @@ module _ (l : Ledger) (c : Call) (n : ℕ) (e : causeIn l c ≡ Stop n) where
   unfolding called leftBy answerBy
   called-stop = rw e
 
-  pub written-stop : (out : List ℕ) → out ≡ put out 0 (stepIn l c .written)
+  written-stop : (out : List ℕ) → out ≡ put out 0 (stepIn l c .written)
   unfolding stepIn outcome
   written-stop out = rw e (put-nil out 0)
+
+  pub stopped : (out : List ℕ) → (_≡_ {A = Called} (record { ledger = l; answer = Refused n }) (called l c)) × (out ≡ put out 0 (stepIn l c .written))
+  stopped out = (called-stop, written-stop out)
 
 -- ---- a call that is carried out
 module _ (l : Ledger) (c : Call) (e : causeIn l c ≡ Clear) where

@@ -1,5 +1,5 @@
--- Laws of a refused call, of fresh, and of close of day. Assumes nothing.
-use Prim.Native.Nat.{ℕ, suc, _+_, _≤_, _<_}
+-- Laws of fresh and of close of day. Assumes nothing.
+use Prim.Native.Nat.{ℕ, _+_, _≤_, _<_}
 use mathlib.Core.Path.{_≡_, refl, sym}
 use mathlib.Core.Bool.{Bool, true, false, cond, not, _&&_}
 use mathlib.Core.List.{List, [], _∷_}
@@ -14,32 +14,18 @@ use Rattle.units.specs.declared.Date.{Date}
 use Rattle.units.specs.Calendar.{isDate}
 use Rattle.ledger.specs.declared.Ledger.{Ledger}
 use Rattle.ledger.specs.Lists.{count}
-use Rattle.ledger.specs.Books.{book, view, live, totalOf}
+use Rattle.ledger.specs.Books.{book, live, totalOf}
 use Rattle.ledger.specs.Sound.{isNext, distinct, soundLedger}
 use Rattle.ledger.proofs.ListLaws.{all-on, all-joined, slice-step}
 use Rattle.ledger.proofs.SoundLaws.{facts-sound}
 use Rattle.verdict.specs.declared.Check.the-variants.{Clear, Stop}
 use Rattle.verdict.specs.Rules.{first}
 use Rattle.groups.proofs.TurnLaws.{clear-off}
+use Rattle.groups.proofs.FileSound.{count-step}
 use Rattle.calls.specs.declared.Start.{Start}
-use Rattle.calls.specs.declared.Answer.the-variants.{Refused}
-use Rattle.calls.specs.Causes.{Call, close, isNumber, startTests, freshCauses, causes}
+use Rattle.calls.specs.Causes.{close, isNumber, startTests, freshCauses}
 use Rattle.calls.specs.Machine.{fresh, next, nextWritten, nextVerdicts, nextClosed, closes, outcome, causeIn, stepIn, leftBy, answerBy, called}
 use Rattle.calls.specs.Days.{freshLedger, quietAnswer}
-
--- ---- a refused call
-module _ (l : Ledger) (c : Call) where
-  pub cause-unsound : soundLedger l ≡ false → causeIn l c ≡ Stop 2
-  unfolding causeIn
-  cause-unsound e = rw e
-
-  pub cause-sound : soundLedger l ≡ true → causeIn l c ≡ first (causes (view (book l)) c)
-  unfolding causeIn
-  cause-sound e = rw e
-
-  pub called-stop : (n : ℕ) → causeIn l c ≡ Stop n → called l c ≡ record { ledger = l; answer = Refused n }
-  unfolding called leftBy answerBy
-  called-stop n e = rw e
 
 -- ---- fresh
 -- the struct that fresh leaves holds the book that it begins with
@@ -79,13 +65,9 @@ fresh-sound s e =
 
 -- ---- close of day
 -- one turn of the walk that counts
-counts : (b : Bool) (n : ℕ) → cond b (suc n) n ≡ cond b 1 0 + n
-counts true n = omega arith
-counts false n = omega arith
-
 module _ {A : Type 0} (n i : ℕ) (xs : List A) (d : A) (h : i < n) (k : n ≤ length xs) where
-  pub count-step : (p : A → Bool) → count p (slice i n xs) ≡ cond (p (getD xs i d)) 1 0 + count p (slice (i + 1) n xs)
-  count-step p = rw (slice-step n i xs d h k) (counts (p (getD xs i d)) (count p (slice (i + 1) n xs)))
+  pub count-turn : (p : A → Bool) → count p (slice i n xs) ≡ cond (p (getD xs i d)) 1 0 + count p (slice (i + 1) n xs)
+  count-turn p = rw (slice-step n i xs d h k) (count-step (p (getD xs i d)) (count p (slice (i + 1) n xs)))
 
 -- the struct with another date
 abbrev pub dated : Ledger → Date → Ledger

@@ -1,14 +1,13 @@
 -- Laws of the file call. Assumes nothing.
 use Prim.Native.Nat.{ℕ, zero, suc, _+_, _*_, _/_, _%_, _≤_}
 use mathlib.Core.Path.{_≡_, refl, sym, ap, _∙_}
-use mathlib.Core.Bool.{Bool, true, false, cond, _&&_, _||_, false≢true}
+use mathlib.Core.Bool.{Bool, true, false, cond, _&&_}
 use mathlib.Core.List.{List, [], _∷_, _++_}
 use native.Mathlib.Omega.{arith}
 use lib.Dec.{eqb, leb, ltb}
 use lib.ListN.{length, take, length-append, length-take}
-use borrow.Author.Tests.{leb-true, ltb-false, not-false}
+use borrow.Author.Tests.{leb-true}
 use Rattle.fields.specs.Put.{put}
-use Rattle.fields.proofs.PutLaws.{put-nil}
 use Rattle.fields.proofs.BoolLaws.{and-left, and-right}
 use Rattle.ledger.specs.declared.Ledger.{Ledger}
 use Rattle.ledger.specs.Lists.{every, count}
@@ -33,11 +32,10 @@ use Rattle.verdict.specs.Rules.{first}
 use Rattle.groups.specs.declared.Clearing.{Clearing}
 use Rattle.groups.specs.Groups.{verdictHere, settled, answer, answers}
 use Rattle.groups.specs.Steps.{Cleared}
-use Rattle.groups.proofs.TurnLaws.{clear-off}
-use Rattle.groups.proofs.FileSound.{file-sound}
 use Rattle.calls.specs.declared.Called.{Called}
-use Rattle.calls.specs.declared.Answer.the-variants.{Done, Refused}
-use Rattle.calls.specs.Causes.{Call, request, file, cancel, close, lacks, requestCauses, cancelCauses, fileCauses, causes}
+use Rattle.calls.specs.declared.Answer.the-variants.{Done}
+use Rattle.calls.specs.Causes.{Call, request, file, cancel, close, lacks, fileCauses, causes}
+use Rattle.calls.proofs.CauseLaws.{asks, sends, cancels}
 use Rattle.calls.specs.Machine.{cause, roomOf, causeIn, outcome, stepIn, leftBy, answerBy, called, next, nextWritten, nextVerdicts, nextClosed}
 
 -- ---- how long a file is, and how many groups it has
@@ -118,34 +116,11 @@ module _ (s : List ℕ) (room tracking confirmation : ℕ) where
   unfolding fileCauses
   no-cause a b c = rw (a, b, c)
 
-  -- what a file with no cause against it has
-  pub clear-good : asked ≡ Clear → goodFile s ≡ true
-  unfolding fileCauses
-  clear-good e = not-false _ (clear-off (fileCauses s room tracking confirmation) e .0)
-
-  pub clear-room : asked ≡ Clear → length s ≤ room
-  unfolding fileCauses
-  clear-room e = ltb-false _ _ (clear-off (fileCauses s room tracking confirmation) e .1 .0)
-
-  pub clear-numbers : asked ≡ Clear → short s tracking confirmation ≡ false
-  unfolding fileCauses
-  clear-numbers e = clear-off (fileCauses s room tracking confirmation) e .1 .1 .0
-
 -- ---- the call
-pub cause-unsound : (l : Ledger) (c : Call) → soundLedger l ≡ false → causeIn l c ≡ Stop 2
-unfolding causeIn
-cause-unsound l c h = rw h
-
 pub cause-file : (l : Ledger) (s : List ℕ) (room : ℕ) (v : Check) → soundLedger l ≡ true
     → v ≡ first (fileCauses s room (l .«next_tracking») (l .«next_confirmation»)) → causeIn l (file s room) ≡ v
 unfolding causeIn causes
 cause-file l s room v h e = rw h (sym e)
-
--- a refusal leaves the ledger and the output
-pub stopped : (l : Ledger) (c : Call) (out : List ℕ) (n : ℕ) → causeIn l c ≡ Stop n
-    → (_≡_ {A = Called} (record { ledger = l; answer = Refused n }) (called l c)) × (out ≡ put out 0 (stepIn l c .written))
-unfolding called leftBy answerBy stepIn outcome
-stopped l c out n e = rw e (refl, put-nil out 0)
 
 -- what a file that was taken leaves and returns
 pub passed : (l : Ledger) (s out out′ : List ℕ) (r : Clearing) → causeIn l (file s (length out)) ≡ Clear
@@ -161,20 +136,6 @@ pub passed : (l : Ledger) (s out out′ : List ℕ) (r : Clearing) → causeIn l
     × (out′ ≡ put out 0 (stepIn l (file s (length out)) .written))
 unfolding called leftBy answerBy stepIn outcome next nextWritten nextVerdicts nextClosed fileGroups records
 passed l s out out′ r e k = rw e (rw (k .ledger, k .change, k .written, k .accepted, k .rejected), k .bytes)
-
--- ---- a file that is taken leaves a sound ledger
-or-both : (a b : Bool) → (a || b) ≡ false → (a ≡ false) × (b ≡ false)
-or-both true b e = absurd (false≢true (sym e))
-or-both false b e = (refl, e)
-
-pub next-sound : (l : Book) (s : List ℕ) (room : ℕ) → sound l ≡ true → first (causes (view l) (file s room)) ≡ Clear
-    → sound (next l (file s room)) ≡ true
-unfolding causes next
-next-sound l s room h e =
-    let t = l .tracking + count asksId (fileGroups s) in
-    let c = l .confirmation + length (fileGroups s) in
-    let o = or-both (ltb 1000000000 t) (ltb 1000000000 c) (clear-numbers s room (l .tracking) (l .confirmation) e) in
-    file-sound l (fileGroups s) h (ltb-false 1000000000 c (o .1)) (ltb-false 1000000000 t (o .0))
 
 -- ---- the answers to a file are at most as long as the file
 abbrev Long : List (List ℕ) → Type 0
@@ -260,16 +221,18 @@ clear-causes l c e = go (sound l) e
     go true h = h
     go false h = let z : _≡_ {A = ℕ} 0 1 = cc in absurd (omega arith)
 
-bil-within : (b : Bil) (room : ℕ) → ltb room 642 ≡ false → length (bil b) ≤ room
-bil-within b room e = omega (arith, length-bil b, ltb-false room 642 e)
+bil-within : (b : Bil) (room : ℕ) → 642 ≤ room → length (bil b) ≤ room
+bil-within b room h = omega (arith, length-bil b)
 
-cxl-within : (x : Cxl) (room : ℕ) → ltb room 642 ≡ false → length (cxl x) ≤ room
-cxl-within x room e = omega (arith, length-cxl x, ltb-false room 642 e)
+cxl-within : (x : Cxl) (room : ℕ) → 642 ≤ room → length (cxl x) ≤ room
+cxl-within x room h = omega (arith, length-cxl x)
 
 pub written-within : (l : Book) (c : Call) → cause l c ≡ Clear → length (nextWritten l c) ≤ roomOf c
-unfolding causes requestCauses cancelCauses nextWritten
-written-within l (request r room) e = bil-within _ room (clear-off (causes (view l) (request r room)) (clear-causes l (request r room) e) .1 .0)
+unfolding causes nextWritten
+written-within l (request r room) e =
+    bil-within _ room (asks r room (l .today) (l .tracking) (l .confirmation) _ _ (clear-causes l (request r room) e) .wide)
 written-within l (file s room) e =
-    omega (arith, file-within l s, clear-room s room (l .tracking) (l .confirmation) (clear-causes l (file s room) e))
-written-within l (cancel id room) e = cxl-within _ room (clear-off (causes (view l) (cancel id room)) (clear-causes l (cancel id room) e) .1 .0)
+    omega (arith, file-within l s, sends s room (l .tracking) (l .confirmation) (clear-causes l (file s room) e) .wide)
+written-within l (cancel id room) e =
+    cxl-within _ room (cancels id room (l .tracking) (l .confirmation) _ (clear-causes l (cancel id room) e) .wide)
 written-within l (close d) e = omega arith

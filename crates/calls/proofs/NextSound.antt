@@ -1,13 +1,13 @@
 -- A call that is carried out leaves a sound ledger sound. Assumes nothing.
 use Prim.Native.Nat.{ℕ, _+_, _≤_}
 use mathlib.Core.Path.{_≡_, refl, sym, _∙_}
-use mathlib.Core.Bool.{true, false, not, _&&_, _||_}
+use mathlib.Core.Bool.{true, false, not, false≢true}
 use mathlib.Core.List.{List, [], _∷_, _++_, map}
 use lib.Dec.{eqb, leb}
 use lib.ListN.{length, getD, length-append, length-map}
 use native.Mathlib.Omega.{arith}
 use borrow.Author.Tests.{leb-true, ltb-true, eqb-true, eqb-false, eq-eqb, ne-eqb, not-true}
-use Rattle.fields.specs.Digits.{fits, isDigit}
+use Rattle.fields.specs.Digits.{fits}
 use Rattle.fields.proofs.BoolLaws.{and-left, and-right, or-both}
 use Rattle.ledger.specs.declared.Identity.{Identity}
 use Rattle.ledger.specs.declared.Terms.{Terms}
@@ -15,7 +15,7 @@ use Rattle.ledger.specs.declared.Bill as bill
 use Rattle.ledger.specs.declared.Posted.{Posted}
 use Rattle.ledger.specs.declared.Posted.the-variants as posted
 use Rattle.ledger.specs.Lists.{all, has, every}
-use Rattle.ledger.specs.Bills.{isOf, isLetter, isRateCode, codeBytes, renewed, cancelledBill}
+use Rattle.ledger.specs.Bills.{isOf, isRateCode, codeBytes, renewed, cancelledBill}
 use Rattle.ledger.specs.Books.{Book, view, termsIn, ofId}
 use Rattle.ledger.specs.Sound.{soundTerms, soundAmounts, soundBill, holdsId, distinct, sound}
 use Rattle.ledger.proofs.ListLaws.{all-on, every-append}
@@ -32,6 +32,7 @@ use Rattle.groups.proofs.FileSound.{bills-kept, distinct-kept, next-up, file-so
 use Rattle.calls.specs.declared.Request.{Request}
 use Rattle.calls.specs.Causes.{Call, request, file, cancel, close, requestTests, causes}
 use Rattle.calls.specs.Machine.{codeOf, latestOf, newBill, numbered, next}
+use Rattle.calls.proofs.CodeLaws.{good-five}
 use Rattle.calls.proofs.CauseLaws.{asks, sends, cancels, closes-on}
 
 -- ---- a bill
@@ -46,17 +47,9 @@ amounts-same t u (posted.Prepay charge applied owed) c e = rw (c, e)
 code-kept : (s : List ℕ) → isRateCode s ≡ true → isRateCode (codeBytes (codeOf s)) ≡ true
 unfolding isRateCode
 code-kept s h =
-    let a = eqb (length s) 5 in
-    let b = isLetter (getD s 0 0) || isDigit (getD s 0 0) in
-    let c = isLetter (getD s 1 0) || isDigit (getD s 1 0) in
-    let d = eqb (getD s 2 0) 67 in
-    let e = isDigit (getD s 3 0) in
-    let f = isDigit (getD s 4 0) in
-    let h₅ = and-left (a && b && c && d && e) f h in
-    let h₄ = and-left (a && b && c && d) e h₅ in
-    let h₃ = and-left (a && b && c) d h₄ in
-    let h₂ = and-left (a && b) c h₃ in
-    rw (and-right a b h₂, and-right (a && b) c h₃, and-right (a && b && c && d) e h₅, and-right (a && b && c && d && e) f h)
+    cases (eqb (length s) 5)
+    (λ e. and-left (isRateCode (codeBytes (codeOf s))) (eqb (getD s 2 0) 67) (good-five s (eqb-true _ _ e) ∙ h))
+    (λ e. absurd (false≢true (rw e at h)))
 
 -- ---- a request
 module _ (l : Book) (r : Request) (f : BookFacts l) (g : all (requestTests r) ≡ true) (small : l .tracking + 1 ≤ 1000000000) where

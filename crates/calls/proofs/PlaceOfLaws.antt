@@ -28,19 +28,19 @@ first-of id (b ∷ bs) = rw (first-of id bs)
 
 -- what a search from n on comes to
 data Search (p : Bill → Bool) (n : ℕ) (bs : List Bill) : Type 0 where
-  fails : find p n bs ≡ Nothing → has p bs ≡ false → Search p n bs
+  fails : find p n bs ≡ Nothing → has p bs ≡ false → firstOf p bs ≡ blankBill → Search p n bs
   hits : (i : ℕ) → i < length bs → find p n bs ≡ At (n + i) → has p bs ≡ true → p (getD bs i blankBill) ≡ true
       → firstOf p bs ≡ getD bs i blankBill → Search p n bs
 
 search-from : (p : Bill → Bool) (n : ℕ) (bs : List Bill) → Search p n bs
-search-from p n [] = fails refl refl
+search-from p n [] = fails refl refl refl
 search-from p n (b ∷ bs) = cases (p b) here (λ e. there e (search-from p (suc n) bs))
   where
     here : p b ≡ true → Search p n (b ∷ bs)
     here e = hits 0 (omega arith) (rw e (ap At (omega arith))) (rw e) e (rw e)
 
     there : p b ≡ false → Search p (suc n) bs → Search p n (b ∷ bs)
-    there e (fails x y) = fails (rw e x) (rw e y)
+    there e (fails x y z) = fails (rw e x) (rw e y) (rw e z)
     there e (hits i h x y z w) =
         let m : suc n + i ≡ n + suc i = omega arith in
         hits (suc i) (omega arith) (rw e (x ∙ ap At m)) (rw e y) z (rw e w)
@@ -53,11 +53,11 @@ pub record Spot (p : Bill → Bool) (l : Ledger) (i : ℕ) : Type 0 where
   pub bill : firstOf p (live l) ≡ billAt l i
 
 module _ (p : Bill → Bool) (l : Ledger) where
-  pub spot-none : find p 0 (live l) ≡ Nothing → has p (live l) ≡ false
+  pub spot-none : find p 0 (live l) ≡ Nothing → (has p (live l) ≡ false) × (firstOf p (live l) ≡ blankBill)
   spot-none e = go (search-from p 0 (live l))
     where
-      go : Search p 0 (live l) → has p (live l) ≡ false
-      go (fails x y) = y
+      go : Search p 0 (live l) → (has p (live l) ≡ false) × (firstOf p (live l) ≡ blankBill)
+      go (fails x y z) = (y, z)
       go (hits i h x y z w) = let q : _≡_ {A = ℕ} 0 1 = cc in absurd (omega arith)
 
   pub spot : (i : ℕ) → find p 0 (live l) ≡ At i → Spot p l i
@@ -71,5 +71,5 @@ module _ (p : Bill → Bool) (l : Ledger) where
           record { below = lo; some = y; passes = ap p (sym g) ∙ z; bill = w ∙ g }
 
       go : Search p 0 (live l) → Spot p l i
-      go (fails x y) = let q : _≡_ {A = ℕ} 0 1 = cc in absurd (omega arith)
+      go (fails x y z) = let q : _≡_ {A = ℕ} 0 1 = cc in absurd (omega arith)
       go (hits j h x y z w) = let q : 0 + j ≡ i = cc in at j (omega arith) h y z w

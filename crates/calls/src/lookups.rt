@@ -4,6 +4,7 @@ ghost use Prim.Native.Nat.{_≤_};
 ghost use Rattle.ledger.specs.Lists.{find};
 ghost use Rattle.ledger.specs.Books.{live};
 ghost use Rattle.calls.specs.Lookups.{isOpenOf, OpenBill, countedBy, amountsIn};
+use crate::causes;
 use ledger::Bill;
 use ledger::Found;
 use ledger::Identity;
@@ -88,8 +89,7 @@ pub fn amounts_of(l: Ledger, id: Identity) -> Amounts
     if !l.sound() {
         return Amounts::Refused(2);
     }
-    let good = (id.account < 1000000000000) & (id.key < 10000);
-    if !good {
+    if !causes::good_identity(id) {
         return Amounts::Refused(2);
     }
     let f = l.find(id);

@@ -3,16 +3,10 @@ use Prim.Native.Nat.{ℕ, _+_}
 use mathlib.Core.Path.{_≡_, refl, sym, ap, _∙_}
 use mathlib.Core.Bool.{Bool, true, false, false≢true}
 use mathlib.Core.List.{List, [], _∷_, _++_, map}
-use native.Mathlib.Omega.{arith}
-use lib.Dec.{leb}
 use lib.IntN.{+ℤ-idl}
-use borrow.Author.Tests.{leb-true, le-leb, not-false}
-use Rattle.fields.proofs.BoolLaws.{and-left, and-right}
 use Rattle.ledger.specs.Lists.{count}
 use Rattle.ledger.specs.Books.{Book, View, view}
-use Rattle.ledger.specs.Sound.{isNext}
-use Rattle.ledger.proofs.ListLaws.{all-on}
-use Rattle.ledger.proofs.SoundLaws.{facts-sound}
+use Rattle.ledger.proofs.SoundLaws.{book-facts, facts-sound, ledger-book}
 use Rattle.file.specs.File.{Group, fileGroups, line3}
 use Rattle.verdict.specs.declared.Check.{Check}
 use Rattle.verdict.specs.declared.Check.the-variants.{Clear, Stop}
@@ -20,13 +14,15 @@ use Rattle.verdict.specs.declared.Verdict.{Verdict}
 use Rattle.verdict.specs.declared.Verdict.the-variants.{Accepted, Rejected}
 use Rattle.verdict.specs.Rules.{first}
 use Rattle.groups.specs.Groups.{settled, verdictBy, verdictHere, answers, verdicts, isAccepted}
-use Rattle.groups.proofs.TurnLaws.{clear-off}
 use Rattle.calls.specs.declared.Start.{Start}
-use Rattle.calls.specs.Causes.{Call, request, file, cancel, close, isNumber, startTests, freshCauses}
+use Rattle.calls.specs.Causes.{Call, request, file, cancel, close, freshCauses}
 use Rattle.calls.specs.Machine.{cause, nextWritten, nextVerdicts, Outcome, outcome, step, fresh, after, outcomes}
+use Rattle.calls.specs.Days.{freshLedger, freshBy, freshCalled}
+use Rattle.calls.proofs.DayLaws.{fresh-sound}
+use Rattle.calls.proofs.RunLaws.{runs}
 use Rattle.history.specs.History.{History, begun, decided, Decided, verdictOn, decisions, hCause, hStep, hAfter, callDecisions, hDecisions}
 use Rattle.history.specs.Written.{acfsIn}
-use Rattle.history.specs.Claim.{All, assigned, changes, accepts, acfsOf, Lawful, SumFromHistory}
+use Rattle.history.specs.Claim.{All, assigned, changes, accepts, acfsOf, Lawful, SumFromHistory, SumByValue}
 use Rattle.history.proofs.RecordLaws.{Formed, formed-file}
 use Rattle.history.proofs.WrittenLaws.{bil-no-acf, cxl-no-acf, none-acf, acfFor, answer-acfs}
 use Rattle.history.proofs.Accepted.{accepted-exists, accepted-alive, accepted-in-time}
@@ -152,29 +148,13 @@ all-lawful [] h = tt
 all-lawful (c ∷ cs) h = (call-lawful h c (hCause h c), all-lawful cs (hStep h c))
 
 -- ---- the claim
-number-next : (n : ℕ) → isNumber n ≡ true → isNext n ≡ true
-number-next n e =
-    let low = and-left (leb 1 n) (leb n 999999999) e in
-    let high = leb-true n 999999999 (and-right (leb 1 n) (leb n 999999999) e) in
-    rw (low, le-leb n 1000000000 (omega arith))
-
 fresh-follows : (s : Start) → first (freshCauses s) ≡ Clear → Follows (fresh s) (begun s)
-unfolding freshCauses startTests Rattle.ledger.specs.Sound.distinct
 fresh-follows s e =
-    let o = all-on (startTests s) (not-false _ (clear-off (freshCauses s) e .0)) in
     record {
       now = refl;
       sums = tt;
       unposted = λ t h. refl;
-      sound =
-          record {
-            today = o .0;
-            tracking = number-next (s .tracking) (o .1 .0);
-            confirmation = number-next (s .confirmation) (o .1 .1 .0);
-            few = omega arith;
-            bills = refl;
-            once = refl;
-          };
+      sound = book-facts (fresh s) (ledger-book (freshLedger s) (fresh-sound s e));
     }
 
 pub claim : SumFromHistory
@@ -196,3 +176,7 @@ claim s ok cs =
       once = row-once (s .tracking) (after l cs .tracking) (assigned (outcomes l cs)) (row-all cs l h f₀);
       kept = facts-sound (after l cs) (f .sound);
     }
+
+pub claim-by-value : SumByValue
+unfolding freshCalled freshBy
+claim-by-value l s ok cs = rw ok (record { runs = runs (freshLedger s) (fresh-sound s ok) cs; claims = claim s ok cs })

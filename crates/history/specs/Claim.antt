@@ -5,8 +5,9 @@ use mathlib.Core.Bool.{Bool, true, false}
 use mathlib.Core.List.{List, [], _∷_, map, _++_}
 use lib.ListN.{length, getD}
 use lib.IntN.{ℤ, pos, _+ℤ_}
+use Rattle.ledger.specs.declared.Ledger.{Ledger}
 use Rattle.ledger.specs.Lists.{count}
-use Rattle.ledger.specs.Books.{Book, view}
+use Rattle.ledger.specs.Books.{Book, book, view}
 use Rattle.ledger.specs.Sound.{sound}
 use Rattle.notices.specs.Layout.{isRsp}
 use Rattle.verdict.specs.declared.Check.the-variants.{Clear}
@@ -15,7 +16,8 @@ use Rattle.verdict.specs.Lines.{isNothing, termsOf}
 use Rattle.groups.specs.Groups.{sought, answer, isAccepted}
 use Rattle.calls.specs.declared.Start.{Start}
 use Rattle.calls.specs.Causes.{Call, freshCauses}
-use Rattle.calls.specs.Machine.{Outcome, total, fresh, after, outcomes}
+use Rattle.calls.specs.Machine.{Outcome, total, fresh, after, outcomes, Runs}
+use Rattle.calls.specs.Days.{freshCalled}
 use Rattle.history.specs.History.{History, begun, historySum, hAfter, hCauses, Decided, hDecisions}
 use Rattle.history.specs.Written.{keep, assignedIn, acfsIn}
 
@@ -74,3 +76,11 @@ pub record Claims (l : Book) (h : History) (cs : List Call) : Type 0 where
 
 abbrev pub SumFromHistory : Type 0
 SumFromHistory = (s : Start) → first (freshCauses s) ≡ Clear → (cs : List Call) → Claims (fresh s) (begun s) cs
+
+-- ---- the same of the calls by value, after a fresh on any ledger: they do what the machine does, and of that the claim holds
+pub record ByValue (l : Ledger) (h : History) (cs : List Call) : Type 0 where
+  pub runs : Runs l cs
+  pub claims : Claims (book l) h cs
+
+abbrev pub SumByValue : Type 0
+SumByValue = (l : Ledger) (s : Start) → first (freshCauses s) ≡ Clear → (cs : List Call) → ByValue (freshCalled l s .ledger) (begun s) cs

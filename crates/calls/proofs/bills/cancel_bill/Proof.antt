@@ -9,7 +9,7 @@ use Rattle.groups.specs.Steps.{InPlace}
 use Rattle.groups.proofs.PlaceLaws.{in-place}
 use Rattle.groups.proofs.ReadyLaws.{sound-ready}
 use Rattle.calls.specs.Causes.{cancel}
-use Rattle.calls.proofs.CallLaws.{cause-unsound, called-stop, written-stop}
+use Rattle.calls.proofs.CallLaws.{cause-unsound, stopped}
 use Rattle.calls.proofs.BillLaws.{cancel-cause}
 use Rattle.calls.proofs.bills.cancel_bill.Statement.{statement}
 use Rattle.calls.proofs.bills.cancel_bill.Tie as tie
@@ -21,7 +21,7 @@ returns : tie.Need-returns
 returns c =
     let a = c .before .before .before .args in
     let e = cause-unsound (a .l) (cancel (a .id) (length (a .out .now))) (sym (c .before .sound .ensures) ∙ not-true _ (c .if1 .taken)) in
-    (called-stop (a .l) (cancel (a .id) (length (a .out .now))) 2 e, written-stop (a .l) (cancel (a .id) (length (a .out .now))) 2 e (a .out .now))
+    stopped (a .l) (cancel (a .id) (length (a .out .now))) 2 e (a .out .now)
 
 find-requires : tie.Need-find-requires
 find-requires c κs = ledger-count (c .before .before .before .args .l) (sym (c .before .sound .ensures) ∙ not-false _ (c .if1 .left))
@@ -54,7 +54,7 @@ returns-2 c =
     let a = c .before .before .before .before .before .before .before .before .before .args in
     let s = sym (c .before .before .before .before .before .before .before .sound .ensures) ∙ not-false _ (c .before .before .before .before .before .before .if1 .left) in
     let e = cancel-cause (a .l) (places (a .l) _ (c .before .before .before .before .before .before .before .before .before .good .0)) s (a .id) (length (a .out .now)) (c .before .before .before .before .before .find .ensures) (c .before .before .before .before .sought-at .ensures) (sym (c .before .check .given .1) ∙ c .before .before .before .cancel-check .ensures) in
-    (called-stop (a .l) (cancel (a .id) (length (a .out .now))) _ e, written-stop (a .l) (cancel (a .id) (length (a .out .now))) _ e (a .out .now))
+    stopped (a .l) (cancel (a .id) (length (a .out .now))) _ e (a .out .now)
 
 same-length : tie.Need-same-length
 same-length c = search needs

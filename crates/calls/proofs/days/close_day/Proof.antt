@@ -8,7 +8,8 @@ use borrow.Author.Tests.{not-true, not-false}
 use Rattle.ledger.proofs.BookLaws.{places}
 use Rattle.ledger.proofs.SoundLaws.{ledger-count}
 use Rattle.calls.specs.Causes.{close, causes}
-use Rattle.calls.proofs.DayLaws.{cause-unsound, cause-sound, called-stop, close-done}
+use Rattle.calls.proofs.CallLaws.{cause-unsound, cause-sound, called-stop}
+use Rattle.calls.proofs.DayLaws.{close-done}
 use Rattle.calls.proofs.days.close_day.Statement.{statement}
 use Rattle.calls.proofs.days.close_day.Tie as tie
 
@@ -17,7 +18,7 @@ sound-requires c κs = search needs
 
 returns : tie.Need-returns
 returns c =
-    sym (called-stop (c .before .before .args .l) (close (c .before .before .args .d)) 2 (cause-unsound (c .before .before .args .l) (close (c .before .before .args .d)) (sym (c .before .sound .ensures) ∙ not-true _ (c .if1 .taken))))
+    called-stop (c .before .before .args .l) (close (c .before .before .args .d)) 2 (cause-unsound (c .before .before .args .l) (close (c .before .before .args .d)) (sym (c .before .sound .ensures) ∙ not-true _ (c .if1 .taken)))
 
 close-check-requires : tie.Need-close-check-requires
 close-check-requires c κs = search needs
@@ -38,7 +39,7 @@ returns-2 : tie.Need-returns-2
 unfolding causes
 returns-2 c =
     let s = sym (c .before .before .before .before .before .before .sound .ensures) ∙ not-false _ (c .before .before .before .before .before .if1 .left) in
-    sym (called-stop (c .before .before .before .before .before .before .before .args .l) (close (c .before .before .before .before .before .before .before .args .d)) _ (cause-sound (c .before .before .before .before .before .before .before .args .l) (close (c .before .before .before .before .before .before .before .args .d)) s ∙ sym (c .before .before .before .close-check .ensures) ∙ c .before .check .given .1))
+    called-stop (c .before .before .before .before .before .before .before .args .l) (close (c .before .before .before .before .before .before .before .args .d)) _ (cause-sound (c .before .before .before .before .before .before .before .args .l) (close (c .before .before .before .before .before .before .before .args .d)) s ∙ sym (c .before .before .before .close-check .ensures) ∙ c .before .check .given .1)
 
 returns-3 : tie.Need-returns-3
 unfolding causes

@@ -14,7 +14,7 @@ use Rattle.ledger.specs.Books.{live}
 use Rattle.ledger.proofs.BookLaws.{places}
 use Rattle.ledger.proofs.ListLaws.{slice-end}
 use Rattle.calls.specs.Machine.{closes}
-use Rattle.calls.proofs.DayLaws.{count-step}
+use Rattle.calls.proofs.DayLaws.{count-turn}
 use Rattle.calls.proofs.days.closed_by.Statement.{statement}
 use Rattle.calls.proofs.days.closed_by.Tie as tie
 
@@ -64,7 +64,7 @@ module _ (c : tie.After-one-closed Inv-loop μ-loop) where
 
   step : count (closes (l .today) d) (slice i (l .count) (l .bills)) ≡ c .one-closed .result + count (closes (l .today) d) (slice (i + 1) (l .count) (l .bills))
   step =
-      count-step _ _ (l .bills) blankBill (c .before .before .loop-test .taken) within (closes (l .today) d)
+      count-turn _ _ (l .bills) blankBill (c .before .before .loop-test .taken) within (closes (l .today) d)
       ∙ ap (λ (x : ℕ). x + count (closes (l .today) d) (slice (i + 1) (l .count) (l .bills))) (sym (c .one-closed .ensures))
 
 add-closed : tie.Need-add-closed Inv-loop μ-loop

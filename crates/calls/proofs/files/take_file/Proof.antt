@@ -6,7 +6,9 @@ use mathlib.Core.Path.{sym, _∙_}
 use mir.Syntax.{w64}
 use mir.ValLaws.{toZ-ofZ}
 use Rattle.groups.proofs.ReadyLaws.{sound-ready}
-use Rattle.calls.proofs.FileCallLaws.{good-short, clear-good, clear-room, cause-unsound, cause-file, stopped, passed}
+use Rattle.calls.proofs.CauseLaws.{sends}
+use Rattle.calls.proofs.CallLaws.{cause-unsound, stopped}
+use Rattle.calls.proofs.FileCallLaws.{good-short, cause-file, passed}
 use Rattle.calls.proofs.files.take_file.Statement.{statement}
 use Rattle.calls.proofs.files.take_file.Tie as tie
 
@@ -16,7 +18,7 @@ sound-requires c κs = search needs
 returns : tie.Need-returns
 returns c =
     let a = c .before .before .before .before .args in
-    stopped (a .l) _ _ 2 (cause-unsound (a .l) _ (sym (c .before .sound .ensures) ∙ not-true _ (c .if1 .taken)))
+    stopped (a .l) _ 2 (cause-unsound (a .l) _ (sym (c .before .sound .ensures) ∙ not-true _ (c .if1 .taken))) _
 
 file-check-requires : tie.Need-file-check-requires
 file-check-requires c κs =
@@ -34,8 +36,9 @@ clear-requires c κs =
     let at = c .before .before .before .before in
     let a = at .before .before .before .before .args in
     let e = sym (c .before .before .before .file-check .ensures) ∙ c .before .enum-told .given .1 in
-    let g = good-short (a .s .now) (clear-good (a .s .now) _ _ _ e) in
-    let o = clear-room (a .s .now) _ _ _ e in
+    let f = sends (a .s .now) _ _ _ e in
+    let g = good-short (a .s .now) (f .good) in
+    let o = f .wide in
     ((omega arith, omega arith, omega arith), sound-ready (a .l) (sym (at .before .sound .ensures) ∙ not-false _ (at .if1 .left)))
 
 returns-2 : tie.Need-returns-2
@@ -43,7 +46,7 @@ returns-2 c =
     let at = c .before .before .before .before in
     let a = at .before .before .before .before .args in
     let h = sym (at .before .sound .ensures) ∙ not-false _ (at .if1 .left) in
-    stopped (a .l) _ _ _ (cause-file (a .l) (a .s .now) _ _ h (c .before .before .before .file-check .ensures) ∙ c .before .check .given .1)
+    stopped (a .l) _ _ (cause-file (a .l) (a .s .now) _ _ h (c .before .before .before .file-check .ensures) ∙ c .before .check .given .1) _
 
 same-length : tie.Need-same-length
 same-length c = search needs

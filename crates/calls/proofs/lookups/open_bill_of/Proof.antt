@@ -41,7 +41,7 @@ returns-4 : tie.Need-returns-4
 unfolding openCauses
 returns-4 c =
     let n = spot-none (isOpenOf (c .before .before .before .before .before .before .args .account) (c .before .before .before .before .before .before .args .l .today)) (c .before .before .before .before .before .before .args .l) (sym (c .before .before .find-open .ensures) ∙ c .enum-told .given .1) in
-    record { number = rw (sym (c .before .before .before .before .before .sound .ensures) ∙ not-false _ (c .before .before .before .before .if1 .left), lt-ltb _ _ (c .before .before .before .if2 .left), n); bill = tt }
+    record { number = rw (sym (c .before .before .before .before .before .sound .ensures) ∙ not-false _ (c .before .before .before .before .if1 .left), lt-ltb _ _ (c .before .before .before .if2 .left), n .0); bill = tt }
 
 pub open-bill-of-spec : {M : Type 1} → statement M
 open-bill-of-spec =
