@@ -1,10 +1,10 @@
 -- A call that is carried out leaves a sound ledger sound. Assumes nothing.
 use Prim.Native.Nat.{ℕ, _+_, _≤_}
 use mathlib.Core.Path.{_≡_, refl, sym, _∙_}
-use mathlib.Core.Bool.{true, false, not, false≢true}
+use mathlib.Core.Bool.{true, false, not}
 use mathlib.Core.List.{List, [], _∷_, _++_, map}
 use lib.Dec.{eqb, leb}
-use lib.ListN.{length, getD, length-append, length-map}
+use lib.ListN.{length, length-append, length-map}
 use native.Mathlib.Omega.{arith}
 use borrow.Author.Tests.{leb-true, ltb-true, eqb-true, eqb-false, eq-eqb, ne-eqb, not-true}
 use Rattle.fields.specs.Digits.{fits}
@@ -29,8 +29,9 @@ use Rattle.groups.specs.Groups.{soughtIn}
 use Rattle.groups.proofs.PlaceLaws.{cases}
 use Rattle.groups.proofs.GroupWalk.{length-update}
 use Rattle.groups.proofs.FileSound.{bills-kept, distinct-kept, next-up, file-sound}
+use Rattle.calls.specs.declared.CodeField.{CodeField}
 use Rattle.calls.specs.declared.Request.{Request}
-use Rattle.calls.specs.Causes.{Call, request, file, cancel, close, requestTests, causes}
+use Rattle.calls.specs.Causes.{fiveOf, Call, request, file, cancel, close, requestTests, causes}
 use Rattle.calls.specs.Machine.{codeOf, latestOf, newBill, numbered, next}
 use Rattle.calls.proofs.CodeLaws.{good-five}
 use Rattle.calls.proofs.CauseLaws.{asks, sends, cancels, closes-on}
@@ -44,12 +45,8 @@ amounts-same t u (posted.BillReady charge) c e = rw (c, e)
 amounts-same t u (posted.Prepay charge applied owed) c e = rw (c, e)
 
 -- the bytes of the code that five good bytes hold are good
-code-kept : (s : List ℕ) → isRateCode s ≡ true → isRateCode (codeBytes (codeOf s)) ≡ true
-unfolding isRateCode
-code-kept s h =
-    cases (eqb (length s) 5)
-    (λ e. and-left (isRateCode (codeBytes (codeOf s))) (eqb (getD s 2 0) 67) (good-five s (eqb-true _ _ e) ∙ h))
-    (λ e. absurd (false≢true (rw e at h)))
+code-kept : (x : CodeField) → isRateCode (fiveOf x) ≡ true → isRateCode (codeBytes (codeOf x)) ≡ true
+code-kept x h = and-left (isRateCode (codeBytes (codeOf x))) (eqb (x .third) 67) (good-five x ∙ h)
 
 -- ---- a request
 module _ (l : Book) (r : Request) (f : BookFacts l) (g : all (requestTests r) ≡ true) (small : l .tracking + 1 ≤ 1000000000) where

@@ -22,6 +22,7 @@ use Rattle.verdict.specs.Rules.{Rule, rule}
 use Rattle.verdict.specs.Lines.{isNothing, termsOf}
 use Rattle.groups.specs.Groups.{soughtIn}
 use Rattle.calls.specs.declared.Start.{Start}
+use Rattle.calls.specs.declared.CodeField.{CodeField}
 use Rattle.calls.specs.declared.Request.{Request}
 
 -- "The list holds each call with its arguments, file bytes and the length of the output lent to it": room is that length
@@ -49,9 +50,13 @@ productByte product.Prepay = 80
 abbrev pub isProduct : ℕ → Bool
 isProduct x = eqb x (productByte product.BillReady) || eqb x (productByte product.Prepay)
 
+-- the five bytes of a rate code's field
+abbrev pub fiveOf : CodeField → List ℕ
+fiveOf x = x .first ∷ x .second ∷ x .third ∷ x .tens ∷ x .ones ∷ []
+
 unfoldable pub requestTests : Request → List Bool
 requestTests r =
-    isRateCode (r .code)
+    isRateCode (fiveOf (r .code))
     ∷ goodIdentity (r .identity)
     ∷ isProduct (r .product)
     ∷ isDate (r .billing .0)
@@ -73,7 +78,7 @@ freshCauses s = rule (not (all (startTests s))) 2 ∷ []
 unfoldable pub billCauses : Request → ℕ → Sought → List Rule
 billCauses r held (Bill t) =
     rule (t .cancelled) 5
-    ∷ rule (not (sameList (r .code) (codeBytes (t .code)) && eqb (r .product) (productByte (t .product)))) 6
+    ∷ rule (not (sameList (fiveOf (r .code)) (codeBytes (t .code)) && eqb (r .product) (productByte (t .product)))) 6
     ∷ rule (eqb (r .consumption .0) (t .latest .consumption .0)) 7
     ∷ rule (eqb (t .sequence) 999) 8
     ∷ []

@@ -4,7 +4,7 @@ use mathlib.Core.Path.{_≡_}
 use mathlib.Core.Bool.{Bool, true, cond, not, _&&_}
 use mathlib.Core.List.{List, [], _∷_, _++_, map}
 use lib.Dec.{eqb}
-use lib.ListN.{length, getD}
+use lib.ListN.{length}
 use lib.IntN.{ℤ, pos, _-ℤ_}
 use Rattle.units.specs.declared.Date.{Date}
 use Rattle.ledger.specs.declared.Identity.{Identity}
@@ -26,6 +26,7 @@ use Rattle.verdict.specs.declared.Verdict.{Verdict}
 use Rattle.verdict.specs.Rules.{first}
 use Rattle.groups.specs.Groups.{taken, answers, verdicts, isAccepted, isRejected}
 use Rattle.calls.specs.declared.Start.{Start}
+use Rattle.calls.specs.declared.CodeField.{CodeField}
 use Rattle.calls.specs.declared.Request.{Request}
 use Rattle.calls.specs.declared.Called.{Called}
 use Rattle.calls.specs.declared.Answer.{Answer}
@@ -38,8 +39,8 @@ cause l c = cond (sound l) (first (causes (view l) c)) (Stop 2)
 
 -- ---- what a request gives a bill
 -- the rate code that five bytes hold, and the product that a byte holds
-abbrev pub codeOf : List ℕ → RateCode
-codeOf s = record { first = getD s 0 0; second = getD s 1 0; tens = getD s 3 0; ones = getD s 4 0 }
+abbrev pub codeOf : CodeField → RateCode
+codeOf x = record { first = x .first; second = x .second; tens = x .tens; ones = x .ones }
 
 abbrev pub productOf : ℕ → Product
 productOf x = cond (eqb x (productByte product.Prepay)) product.Prepay product.BillReady

@@ -5,8 +5,9 @@ ghost use Rattle.fields.specs.Put.{sameList};
 ghost use Rattle.ledger.specs.Lists.{all};
 ghost use Rattle.ledger.specs.Bills.{isRateCode, codeBytes};
 ghost use Rattle.verdict.specs.Rules.{first};
-ghost use Rattle.calls.specs.Causes.{goodIdentity, productByte, isProduct, requestTests, lacks, billCauses, requestCauses, cancelCauses};
+ghost use Rattle.calls.specs.Causes.{goodIdentity, fiveOf, productByte, isProduct, requestTests, lacks, billCauses, requestCauses, cancelCauses};
 ghost use Rattle.calls.specs.Machine.{codeOf};
+use crate::CodeField;
 use crate::Request;
 use ledger::Identity;
 use ledger::Product;
@@ -31,35 +32,33 @@ pub fn good_identity(id: Identity) -> bool
 }
 
 // The rate code that five bytes hold.
-pub fn code_of(code: [u8; 5]) -> RateCode
-    ensures { λ r. ⌜ r ≡ codeOf code ⌝ }
+pub fn code_of(x: CodeField) -> RateCode
+    ensures { λ r. ⌜ r ≡ codeOf x ⌝ }
 {
     RateCode {
-        first: code[0],
-        second: code[1],
-        tens: code[3],
-        ones: code[4],
+        first: x.first,
+        second: x.second,
+        tens: x.tens,
+        ones: x.ones,
     }
 }
 
 // Whether five bytes hold a rate code.
-fn good_code(code: [u8; 5]) -> bool
-    ensures { λ r. ⌜ r ≡ isRateCode code ⌝ }
+fn good_code(x: CodeField) -> bool
+    ensures { λ r. ⌜ r ≡ isRateCode (fiveOf x) ⌝ }
 {
-    let third = code[2];
-    code_of(code).valid() & (third == 67)
+    code_of(x).valid() & (x.third == 67)
 }
 
 // Whether five bytes hold this rate code.
-fn same_code(code: [u8; 5], c: RateCode) -> bool
-    ensures { λ r. ⌜ r ≡ sameList code (codeBytes c) ⌝ }
+fn same_code(x: CodeField, c: RateCode) -> bool
+    ensures { λ r. ⌜ r ≡ sameList (fiveOf x) (codeBytes c) ⌝ }
 {
-    let first = code[0];
-    let second = code[1];
-    let third = code[2];
-    let tens = code[3];
-    let ones = code[4];
-    (first == c.first) & (second == c.second) & (third == 67) & (tens == c.tens) & (ones == c.ones)
+    (x.first == c.first)
+        & (x.second == c.second)
+        & (x.third == 67)
+        & (x.tens == c.tens)
+        & (x.ones == c.ones)
 }
 
 // B or P.

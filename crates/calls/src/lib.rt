@@ -17,9 +17,18 @@ pub struct Start {
     pub confirmation: u64,
 }
 
+// Five bytes that may hold a rate code.
+pub struct CodeField {
+    pub first: u8,
+    pub second: u8,
+    pub third: u8,
+    pub tens: u8,
+    pub ones: u8,
+}
+
 // What a request takes: the rate code in five bytes, the product as B or P.
 pub struct Request {
-    pub code: [u8; 5],
+    pub code: CodeField,
     pub identity: Identity,
     pub product: u8,
     pub billing: Date,

@@ -102,7 +102,7 @@ sup = record { sup = true; tracking = 0; sequence = 0; first = 60; second = 25; 
 abbrev asking : Identity → Product → Request
 asking id p =
     record {
-      code = text "ZZC40";
+      code = record { first = 90; second = 90; third = 67; tens = 52; ones = 48 };
       identity = id;
       product = productByte p;
       billing = day 20171113;

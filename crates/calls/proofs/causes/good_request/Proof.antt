@@ -2,7 +2,7 @@
 use lib.ListN.{drop}
 use Rattle.ledger.specs.Bills.{isRateCode}
 use Rattle.ledger.proofs.ListLaws.{all-joined}
-use Rattle.calls.specs.Causes.{requestTests}
+use Rattle.calls.specs.Causes.{fiveOf, requestTests}
 use borrow.Author.Needs.{needs}
 use Rattle.calls.proofs.causes.good_request.Statement.{statement}
 use Rattle.calls.proofs.causes.good_request.Tie as tie
@@ -33,7 +33,7 @@ unfolding requestTests
 returns c =
     let r = c .before .before .before .before .before .before .before .before .before .before .before .before .before .args .r in
     rw (c .before .before .before .before .before .before .good-code .ensures, c .before .before .before .before .before .good-identity .ensures, c .before .before .before .before .good-product .ensures, c .before .before .before .valid .ensures, c .before .before .valid2 .ensures, c .before .fits2 .ensures, c .valid3 .ensures)
-    (all-joined (isRateCode (r .code)) (drop 1 (requestTests r)))
+    (all-joined (isRateCode (fiveOf (r .code))) (drop 1 (requestTests r)))
 
 pub good-request-spec : {M : Type 1} → statement M
 good-request-spec =
