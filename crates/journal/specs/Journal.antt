@@ -1,0 +1,86 @@
+-- A journal: the entries that it holds, the calls that they make, and how it ends. Assumes nothing.
+use Prim.Native.Nat.{ℕ, zero, suc, _+_, _-_}
+use mathlib.Core.Bool.{Bool, true, false, _||_}
+use mathlib.Core.List.{List, [], _∷_, _++_}
+use lib.Dec.{eqb, ltb}
+use lib.ListN.{length, drop}
+use Rattle.fields.specs.Put.{part}
+use Rattle.ledger.specs.Books.{Book}
+use Rattle.calls.specs.Causes.{Call, request, file, cancel, close}
+use Rattle.calls.specs.Machine.{fresh, after}
+use Rattle.journal.specs.declared.Body.{Body}
+use Rattle.journal.specs.declared.Body.the-variants as body
+use Rattle.journal.specs.declared.Head.{Head}
+use Rattle.journal.specs.declared.Head.the-variants.{Cut, Bad, Whole}
+use Rattle.journal.specs.Entries.{headOf}
+
+-- an entry: what its body holds, and the body's bytes
+pub record Entry : Type 0 where
+  pub body : Body
+  pub bytes : List ℕ
+
+-- the whole entries at the start of some bytes, whether a bad one follows, and the bytes that are left
+pub record Parsed : Type 0 where
+  pub entries : List Entry
+  pub stopped : Bool
+  pub rest : List ℕ
+
+abbrev pub more : Entry → Parsed → Parsed
+more e p = record { entries = e ∷ p .entries; stopped = p .stopped; rest = p .rest }
+
+-- by what stands at the start of s; next reads on after an entry of so many bytes
+abbrev pub onHead : Head → List ℕ → (ℕ → Parsed) → Parsed
+onHead Cut s next = record { entries = []; stopped = false; rest = s }
+onHead Bad s next = record { entries = []; stopped = true; rest = s }
+onHead (Whole b n) s next = more (record { body = b; bytes = part s 3 (n - 3) }) (next n)
+
+-- at most so many entries, where seen came before
+unfoldable pub parseUpTo : ℕ → ℕ → List ℕ → Parsed
+parseUpTo zero seen s = record { entries = []; stopped = false; rest = s }
+parseUpTo (suc fuel) seen s = onHead (headOf seen s) s (λ n. parseUpTo fuel (seen + 1) (drop n s))
+
+-- all of them: each has a byte at least, so there are no more entries than bytes
+unfoldable pub parse : ℕ → List ℕ → Parsed
+parse seen s = parseUpTo (length s) seen s
+
+-- ---- what the entries make
+-- "Each call's output there is 64,200 bytes": the call of an entry; "A refused call is passed over", and so is one that can't be read
+abbrev pub callOf : Body → List ℕ → List Call
+callOf (body.Fresh s) bytes = []
+callOf (body.Request r) bytes = request r 64200 ∷ []
+callOf body.File bytes = file bytes 64200 ∷ []
+callOf (body.Cancel id) bytes = cancel id 64200 ∷ []
+callOf (body.Close d) bytes = close d ∷ []
+callOf body.Unread bytes = []
+
+abbrev pub callsOf : List Entry → List Call
+callsOf [] = []
+callsOf (e ∷ es) = callOf (e .body) (e .bytes) ++ callsOf es
+
+-- the ledger that an entry leaves
+abbrev pub made : Body → List ℕ → Book → Book
+made (body.Fresh s) bytes k = fresh s
+made (body.Request r) bytes k = after k (callOf (body.Request r) bytes)
+made body.File bytes k = after k (callOf body.File bytes)
+made (body.Cancel id) bytes k = after k (callOf (body.Cancel id) bytes)
+made (body.Close d) bytes k = after k (callOf (body.Close d) bytes)
+made body.Unread bytes k = k
+
+unfoldable pub makes : Book → List Entry → Book
+makes k [] = k
+makes k (e ∷ es) = makes (made (e .body) (e .bytes) k) es
+
+-- "A bad entry stops it"; bytes that are left are an entry cut short; "An empty journal .. counts as a bad entry"
+unfoldable pub endsBad : Bool → ℕ → ℕ → Bool
+endsBad stopped left seen = stopped || ltb 0 left || eqb seen 0
+
+-- before the first entry there is no bill
+abbrev pub noBook : Book
+noBook = fresh (record { today = record { 0 = 19000101 }; tracking = 1; confirmation = 1 })
+
+-- the ledger that a journal leaves, and whether it ends bad
+unfoldable pub ledgerOf : List ℕ → Book
+ledgerOf s = makes noBook (parse 0 s .entries)
+
+unfoldable pub isBad : List ℕ → Bool
+isBad s = endsBad (parse 0 s .stopped) (length (parse 0 s .rest)) (length (parse 0 s .entries))

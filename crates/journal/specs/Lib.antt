@@ -1,0 +1,3 @@
+-- "Lookups, journal and table": the entries of a journal, and what a journal comes to.
+pub mod Entries
+pub mod Journal
