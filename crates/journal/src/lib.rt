@@ -1,4 +1,6 @@
 // Journal entries: what stands at the start of some bytes.
+pub mod make;
+
 use calls::Request;
 use calls::Start;
 use ledger::Identity;
