@@ -1,0 +1,60 @@
+-- `table::put_amounts` meets its contract: three writes, one after the other.
+use borrow.Author.Needs.{needs}
+use native.Mathlib.Omega.{arith}
+use mathlib.Core.Path.{sym}
+use Rattle.fields.proofs.PutLaws.{first, next}
+use Rattle.table.specs.Table.{amountCells}
+use Rattle.table.proofs.TableLaws.{length-number}
+use Rattle.table.proofs.put_amounts.Statement.{statement}
+use Rattle.table.proofs.put_amounts.Tie as tie
+
+charge-requires : tie.Need-charge-requires
+charge-requires c κs = search needs
+
+applied-requires : tie.Need-applied-requires
+applied-requires c κs = search needs
+
+owed-requires : tie.Need-owed-requires
+owed-requires c κs = search needs
+
+put-cell-requires : tie.Need-put-cell-requires
+put-cell-requires c κs = search needs
+
+add-put-cell : tie.Need-add-put-cell
+add-put-cell c = search needs
+
+put-cell-requires-2 : tie.Need-put-cell-requires-2
+put-cell-requires-2 c κs = search needs
+
+add-put-cell-2 : tie.Need-add-put-cell-2
+add-put-cell-2 c = search needs
+
+put-cell-requires-3 : tie.Need-put-cell-requires-3
+put-cell-requires-3 c κs = search needs
+
+same-length : tie.Need-same-length
+same-length c = search needs
+
+returns : tie.Need-returns
+unfolding amountCells
+returns c =
+    rw (sym (c .before .before .before .before .before .before .before .before .before .before .before .before .before .before .charge .ensures), sym (c .before .before .before .before .before .before .before .before .before .before .before .before .before .applied .ensures), sym (c .before .before .before .before .before .before .before .before .before .before .before .before .owed .ensures))
+    (let a = c .before .before .before .before .before .before .before .before .before .before .before .before .before .before .before .before .args in
+    let w1 = first (a .out .now) (a .at) _ (omega (arith, c .before .before .before .before .before .before .before .before .before .before .before .before .before .before .before .before .pre)) (c .before .before .before .before .before .before .before .before .before .before .put-cell .ensures) (length-number 13 _) in
+    let w2 = next w1 _ (c .before .before .before .before .before .before .put-cell2 .ensures) (length-number 13 _) in
+    next w2 _ (c .before .before .put-cell3 .ensures) (length-number 13 _) .same)
+
+pub put-amounts-spec : {M : Type 1} → statement M
+put-amounts-spec =
+    tie.close
+    (tie.spec
+    charge-requires
+    applied-requires
+    owed-requires
+    put-cell-requires
+    add-put-cell
+    put-cell-requires-2
+    add-put-cell-2
+    put-cell-requires-3
+    same-length
+    returns)

@@ -1,0 +1,64 @@
+-- `table::put_terms` meets its contract: five writes, one after the other.
+use borrow.Author.Needs.{needs}
+use native.Mathlib.Omega.{arith}
+use Rattle.fields.proofs.PutLaws.{first, next}
+use Rattle.table.specs.Table.{termsCells}
+use Rattle.table.proofs.TableLaws.{length-number, length-cell}
+use Rattle.table.proofs.put_terms.Statement.{statement}
+use Rattle.table.proofs.put_terms.Tie as tie
+
+put-cell-requires : tie.Need-put-cell-requires
+put-cell-requires c κs = search needs
+
+add-put-cell : tie.Need-add-put-cell
+add-put-cell c = search needs
+
+put-cell-requires-2 : tie.Need-put-cell-requires-2
+put-cell-requires-2 c κs = search needs
+
+add-put-code : tie.Need-add-put-code
+add-put-code c = search needs
+
+put-code-requires : tie.Need-put-code-requires
+put-code-requires c κs = search needs
+
+add-put-kind : tie.Need-add-put-kind
+add-put-kind c = search needs
+
+put-kind-requires : tie.Need-put-kind-requires
+put-kind-requires c κs = search needs
+
+add-put-cell-2 : tie.Need-add-put-cell-2
+add-put-cell-2 c = search needs
+
+put-cell-requires-3 : tie.Need-put-cell-requires-3
+put-cell-requires-3 c κs = search needs
+
+same-length : tie.Need-same-length
+same-length c = search needs
+
+returns : tie.Need-returns
+unfolding termsCells
+returns c =
+    let a = c .before .before .before .before .before .before .before .before .before .before .before .before .before .before .before .before .before .before .before .before .before .before .before .args in
+    let w1 = first (a .out .now) (a .at) _ (omega (arith, c .before .before .before .before .before .before .before .before .before .before .before .before .before .before .before .before .before .before .before .before .before .before .before .pre)) (c .before .before .before .before .before .before .before .before .before .before .before .before .before .before .before .before .before .before .put-cell .ensures) (length-number 12 _) in
+    let w2 = next w1 _ (c .before .before .before .before .before .before .before .before .before .before .before .before .before .before .put-cell2 .ensures) (length-number 4 _) in
+    let w3 = next w2 _ (c .before .before .before .before .before .before .before .before .before .before .put-code .ensures) (length-cell _) in
+    let w4 = next w3 _ (c .before .before .before .before .before .before .put-kind .ensures) (length-cell _) in
+    next w4 _ (c .before .before .put-cell3 .ensures) (length-number 3 _) .same
+
+pub put-terms-spec : {M : Type 1} → statement M
+put-terms-spec =
+    tie.close
+    (tie.spec
+    put-cell-requires
+    add-put-cell
+    put-cell-requires-2
+    add-put-code
+    put-code-requires
+    add-put-kind
+    put-kind-requires
+    add-put-cell-2
+    put-cell-requires-3
+    same-length
+    returns)

@@ -1,0 +1,3 @@
+-- "Lookups, journal and table": the posted table, and document 01's example of it.
+pub mod Table
+pub mod Example

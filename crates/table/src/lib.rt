@@ -1,0 +1,181 @@
+// The posted table, written into the lent output.
+ghost use mathlib.Core.Path.{_≡_};
+ghost use mathlib.Core.Bool.{true};
+ghost use mathlib.Core.List.{[], _∷_};
+ghost use Prim.Native.Nat.{_+_, _*_, _≤_};
+ghost use lib.ListN.{length};
+ghost use Rattle.fields.specs.Digits.{digits};
+ghost use Rattle.fields.specs.Put.{put};
+ghost use Rattle.ledger.specs.Lists.{every};
+ghost use Rattle.ledger.specs.Bills.{codeBytes};
+ghost use Rattle.ledger.specs.Books.{book, live, smallCharge};
+ghost use Rattle.table.specs.Table.{cell, productByte, stateByte, termsCells, amountCells, stateCell, lineOf, linesOf, totalLine, stopLine, tableOf};
+use ledger::Bill;
+use ledger::Ledger;
+use ledger::Posted;
+use ledger::Product;
+use ledger::RateCode;
+use ledger::State;
+use ledger::Terms;
+use units::Cents;
+use units::Date;
+
+// B or P.
+pub fn product_byte(p: Product) -> u8
+    ensures { λ r. ⌜ r ≡ productByte p ⌝ }
+{
+    match p {
+        Product::BillReady => 66,
+        Product::Prepay => 80,
+    }
+}
+
+// O, I or C.
+fn state_byte(s: State) -> u8
+    ensures { λ r. ⌜ r ≡ stateByte s ⌝ }
+{
+    match s {
+        State::Open => 79,
+        State::Issued => 73,
+        State::Cancelled => 67,
+    }
+}
+
+// Writes a number in so many digits and a comma.
+fn put_cell(out: &mut [u8], at: usize, width: usize, n: u64)
+    requires { ⌜ at + width + 1 ≤ length (now out) ⌝ }
+    ensures { λ _. ⌜ now (out .exit) ≡ put (now (out .entry)) at (cell (digits width n)) ⌝ }
+{
+    fields::put_digits(out, at, width, n);
+    fields::put_bytes(out, at + width, b",");
+}
+
+// Writes a rate code and a comma, 6 bytes.
+fn put_code(out: &mut [u8], at: usize, c: RateCode)
+    requires { ⌜ at + 6 ≤ length (now out) ⌝ }
+    ensures { λ _. ⌜ now (out .exit) ≡ put (now (out .entry)) at (cell (codeBytes c)) ⌝ }
+{
+    let code = [c.first, c.second, 67, c.tens, c.ones, 44];
+    fields::put_bytes(out, at, &code);
+}
+
+// Writes a product and a comma, 2 bytes.
+fn put_kind(out: &mut [u8], at: usize, p: Product)
+    requires { ⌜ at + 2 ≤ length (now out) ⌝ }
+    ensures { λ _. ⌜ now (out .exit) ≡ put (now (out .entry)) at (cell (productByte p ∷ [])) ⌝ }
+{
+    let kind = [product_byte(p), 44];
+    fields::put_bytes(out, at, &kind);
+}
+
+// Writes account, key, code, kind and sequence, 30 bytes.
+fn put_terms(out: &mut [u8], at: usize, t: Terms)
+    requires { ⌜ at + 30 ≤ length (now out) ⌝ }
+    ensures { λ _. ⌜ now (out .exit) ≡ put (now (out .entry)) at (termsCells t) ⌝ }
+{
+    let id = t.identity;
+    let code = t.code;
+    let product = t.product;
+    put_cell(out, at, 12, id.account);
+    put_cell(out, at + 13, 4, id.key);
+    put_code(out, at + 18, code);
+    put_kind(out, at + 24, product);
+    put_cell(out, at + 26, 3, t.sequence);
+}
+
+// Writes charge, applied and owed, 42 bytes.
+fn put_amounts(out: &mut [u8], at: usize, p: Posted)
+    requires { ⌜ at + 42 ≤ length (now out) ⌝ }
+    ensures { λ _. ⌜ now (out .exit) ≡ put (now (out .entry)) at (amountCells p) ⌝ }
+{
+    let charge = p.charge();
+    let applied = p.applied();
+    let owed = p.owed();
+    put_cell(out, at, 13, charge.0);
+    put_cell(out, at + 14, 13, applied.0);
+    put_cell(out, at + 28, 13, owed.0);
+}
+
+// Writes the state and byte 10, 2 bytes.
+fn put_state(out: &mut [u8], at: usize, t: Terms, today: Date)
+    requires { ⌜ at + 2 ≤ length (now out) ⌝ }
+    ensures { λ _. ⌜ now (out .exit) ≡ put (now (out .entry)) at (stateCell today t) ⌝ }
+{
+    let state = t.state(today);
+    let end = [state_byte(state), 10];
+    fields::put_bytes(out, at, &end);
+}
+
+// Writes a bill's line, 85 bytes.
+fn put_line(out: &mut [u8], at: usize, b: Bill, today: Date)
+    requires { ⌜ at + 85 ≤ length (now out) ⌝ }
+    ensures { λ _. ⌜ now (out .exit) ≡ put (now (out .entry)) at (lineOf today b) ⌝ }
+{
+    let terms = b.terms;
+    let posted = b.posted;
+    let ccf = terms.latest.consumption;
+    put_terms(out, at, terms);
+    put_cell(out, at + 30, 10, ccf.0);
+    put_amounts(out, at + 41, posted);
+    put_state(out, at + 83, terms, today);
+}
+
+// Writes the bills' lines, and answers where they end.
+fn put_lines(out: &mut [u8], at: usize, l: Ledger) -> usize
+    requires { ⌜ (l .count ≤ 128) × (at + 10880 ≤ length (now out)) ⌝ }
+    ensures { λ r. ⌜ r ≡ at + 85 * l .count ⌝ }
+    ensures { λ _. ⌜ now (out .exit) ≡ put (now (out .entry)) at (linesOf (l .today) (live l)) ⌝ }
+{
+    let n = l.count;
+    let today = l.today;
+    let mut end = at;
+    let mut i = 0;
+    while i < n {
+        let b = l.bills[i];
+        put_line(out, end, b, today);
+        end += 85;
+        i += 1;
+    }
+    end
+}
+
+// Writes the total's line, 23 bytes.
+fn put_total(out: &mut [u8], at: usize, total: Cents)
+    requires { ⌜ at + 23 ≤ length (now out) ⌝ }
+    ensures { λ _. ⌜ now (out .exit) ≡ put (now (out .entry)) at (totalLine (total .0)) ⌝ }
+{
+    fields::put_bytes(out, at, b"total,");
+    fields::put_digits(out, at + 6, 16, total.0);
+    fields::put_bytes(out, at + 22, b"\n");
+}
+
+// Writes the line after a bad entry, if there is one, and answers where it ends.
+fn put_stop(out: &mut [u8], at: usize, stopped: bool) -> usize
+    requires { ⌜ at + 11 ≤ length (now out) ⌝ }
+    ensures { λ r. ⌜ r ≡ at + length (stopLine stopped) ⌝ }
+    ensures { λ _. ⌜ now (out .exit) ≡ put (now (out .entry)) at (stopLine stopped) ⌝ }
+{
+    if stopped {
+        fields::put_bytes(out, at, b"stopped,13\n");
+        return at + 11;
+    }
+    at
+}
+
+// Writes the table, and answers how many bytes it has.
+pub fn write(out: &mut [u8], l: Ledger, stopped: bool) -> usize
+    requires { ⌜ (l .count ≤ 128) × (every smallCharge (live l) ≡ true) × (10970 ≤ length (now out)) ⌝ }
+    ensures { λ r. ⌜ r ≡ length (tableOf (book l) stopped) ⌝ }
+    ensures { λ _. ⌜ now (out .exit) ≡ put (now (out .entry)) 0 (tableOf (book l) stopped) ⌝ }
+    ensures { λ r. ⌜ r ≤ 10970 ⌝ }
+{
+    fields::put_bytes(
+        out,
+        0,
+        b"account,key,code,kind,seq,ccf,charge,applied,owed,state\n",
+    );
+    let end = put_lines(out, 56, l);
+    let total = l.total();
+    put_total(out, end, total);
+    put_stop(out, end + 23, stopped)
+}
