@@ -10,10 +10,9 @@ use Rattle.units.specs.declared.Date.{Date}
 use Rattle.units.specs.Units.{fitsCcf}
 use Rattle.units.specs.Calendar.{isDate}
 use Rattle.ledger.specs.declared.Identity.{Identity}
-use Rattle.ledger.specs.declared.Product.{Product}
 use Rattle.ledger.specs.declared.Product.the-variants as product
 use Rattle.ledger.specs.Lists.{count, all}
-use Rattle.ledger.specs.Bills.{isRateCode, codeBytes}
+use Rattle.ledger.specs.Bills.{isRateCode, codeBytes, productByte}
 use Rattle.ledger.specs.Books.{View}
 use Rattle.file.specs.File.{goodFile, fileGroups, asksId}
 use Rattle.verdict.specs.declared.Sought.{Sought}
@@ -41,11 +40,6 @@ startTests s = isDate (s .today .0) ∷ isNumber (s .tracking) ∷ isNumber (s .
 
 abbrev pub goodIdentity : Identity → Bool
 goodIdentity id = fits 12 (id .account) && fits 4 (id .key)
-
--- B or P
-abbrev pub productByte : Product → ℕ
-productByte product.BillReady = 66
-productByte product.Prepay = 80
 
 abbrev pub isProduct : ℕ → Bool
 isProduct x = eqb x (productByte product.BillReady) || eqb x (productByte product.Prepay)

@@ -15,7 +15,7 @@ use Rattle.ledger.specs.declared.Latest.{Latest}
 use Rattle.ledger.specs.declared.Bill.{Bill}
 use Rattle.ledger.specs.declared.Ledger.{Ledger}
 use Rattle.ledger.specs.Lists.{count, update}
-use Rattle.ledger.specs.Bills.{isOpen, firstBill, renewed, cancelledBill, blankBill}
+use Rattle.ledger.specs.Bills.{productByte, isOpen, firstBill, renewed, cancelledBill, blankBill}
 use Rattle.ledger.specs.Books.{Book, book, view, stored, ofId, totalOf}
 use Rattle.ledger.specs.Sound.{holdsId, sound, soundLedger}
 use Rattle.notices.specs.Notices.{bil, cxl}
@@ -31,7 +31,7 @@ use Rattle.calls.specs.declared.Request.{Request}
 use Rattle.calls.specs.declared.Called.{Called}
 use Rattle.calls.specs.declared.Answer.{Answer}
 use Rattle.calls.specs.declared.Answer.the-variants.{Done, Refused}
-use Rattle.calls.specs.Causes.{Call, request, file, cancel, close, productByte, causes}
+use Rattle.calls.specs.Causes.{Call, request, file, cancel, close, causes}
 
 -- "a ledger that isn't sound" is 2; then the causes of the call in their order
 unfoldable pub cause : Book → Call → Check

@@ -5,12 +5,11 @@ ghost use Rattle.fields.specs.Put.{sameList};
 ghost use Rattle.ledger.specs.Lists.{all};
 ghost use Rattle.ledger.specs.Bills.{isRateCode, codeBytes};
 ghost use Rattle.verdict.specs.Rules.{first};
-ghost use Rattle.calls.specs.Causes.{goodIdentity, fiveOf, productByte, isProduct, requestTests, lacks, billCauses, requestCauses, cancelCauses};
+ghost use Rattle.calls.specs.Causes.{goodIdentity, fiveOf, isProduct, requestTests, lacks, billCauses, requestCauses, cancelCauses};
 ghost use Rattle.calls.specs.Machine.{codeOf};
 use crate::CodeField;
 use crate::Request;
 use ledger::Identity;
-use ledger::Product;
 use ledger::RateCode;
 use units::Date;
 use verdict::Check;
@@ -61,16 +60,6 @@ fn same_code(x: CodeField, c: RateCode) -> bool
         & (x.ones == c.ones)
 }
 
-// B or P.
-fn product_byte(p: Product) -> u8
-    ensures { λ r. ⌜ r ≡ productByte p ⌝ }
-{
-    match p {
-        Product::BillReady => 66,
-        Product::Prepay => 80,
-    }
-}
-
 fn good_product(x: u8) -> bool
     ensures { λ r. ⌜ r ≡ isProduct x ⌝ }
 {
@@ -112,7 +101,7 @@ fn bill_check(r: Request, held: usize, b: Sought) -> Check
     }
     let code = r.code;
     let product = t.product;
-    if !(same_code(code, t.code) & (r.product == product_byte(product))) {
+    if !(same_code(code, t.code) & (r.product == product.byte())) {
         return Check::Stop(6);
     }
     let consumption = r.consumption;

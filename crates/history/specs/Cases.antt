@@ -14,7 +14,7 @@ use Rattle.ledger.specs.declared.Bill.{Bill}
 use Rattle.ledger.specs.declared.Product.{Product}
 use Rattle.ledger.specs.declared.Product.the-variants as product
 use Rattle.ledger.specs.declared.Posted.the-variants as posted
-use Rattle.ledger.specs.Bills.{cents}
+use Rattle.ledger.specs.Bills.{productByte, cents}
 use Rattle.ledger.specs.Books.{Book}
 use Rattle.notices.specs.declared.Lead.{Lead}
 use Rattle.notices.specs.Notices.{lead, ending}
@@ -23,7 +23,7 @@ use Rattle.verdict.specs.declared.Check.the-variants.{Clear, Stop}
 use Rattle.verdict.specs.declared.Verdict.{Verdict}
 use Rattle.verdict.specs.declared.Verdict.the-variants.{Accepted, Rejected}
 use Rattle.calls.specs.declared.Request.{Request}
-use Rattle.calls.specs.Causes.{Call, request, file, cancel, close, productByte}
+use Rattle.calls.specs.Causes.{Call, request, file, cancel, close}
 use Rattle.calls.specs.Machine.{newBill, Outcome, fresh, after, outcomes}
 use Rattle.history.specs.Claim.{assigned}
 

@@ -45,6 +45,11 @@ abbrev pub isPrepay : Product → Bool
 isPrepay product.BillReady = false
 isPrepay product.Prepay = true
 
+-- "B or P"
+abbrev pub productByte : Product → ℕ
+productByte product.BillReady = 66
+productByte product.Prepay = 80
+
 -- ---- its state
 -- "open while today is at or before the Scheduled Date", if it is not cancelled
 abbrev pub isOpen : Date → Terms → Bool

@@ -1,7 +1,7 @@
 // One bill: what its amounts count for, its state, and how a request, a posting and a cancel change it.
 ghost use mathlib.Core.Path.{_≡_};
 ghost use Prim.Native.Nat.{_<_, _≤_};
-ghost use Rattle.ledger.specs.Bills.{isPrepay, chargeOf, appliedOf, owedOf, isOf, isOpen, stateOf, blankBill, firstBill, renewed, posting, cancelledBill};
+ghost use Rattle.ledger.specs.Bills.{isPrepay, productByte, chargeOf, appliedOf, owedOf, isOf, isOpen, stateOf, blankBill, firstBill, renewed, posting, cancelledBill};
 use crate::Bill;
 use crate::Identity;
 use crate::Latest;
@@ -21,6 +21,16 @@ impl Product {
         match self {
             Product::BillReady => false,
             Product::Prepay => true,
+        }
+    }
+
+    // B or P.
+    pub fn byte(self) -> u8
+        ensures { λ r. ⌜ r ≡ productByte self ⌝ }
+    {
+        match self {
+            Product::BillReady => 66,
+            Product::Prepay => 80,
         }
     }
 }

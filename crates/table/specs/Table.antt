@@ -5,14 +5,12 @@ use mathlib.Core.List.{List, [], _∷_, _++_}
 use Rattle.fields.specs.Text.{text}
 use Rattle.fields.specs.Digits.{digits}
 use Rattle.units.specs.declared.Date.{Date}
-use Rattle.ledger.specs.declared.Product.{Product}
-use Rattle.ledger.specs.declared.Product.the-variants as product
 use Rattle.ledger.specs.declared.Posted.{Posted}
 use Rattle.ledger.specs.declared.State.{State}
 use Rattle.ledger.specs.declared.State.the-variants.{Open, Issued, Cancelled}
 use Rattle.ledger.specs.declared.Terms.{Terms}
 use Rattle.ledger.specs.declared.Bill.{Bill}
-use Rattle.ledger.specs.Bills.{codeBytes, chargeOf, appliedOf, owedOf, stateOf}
+use Rattle.ledger.specs.Bills.{productByte, codeBytes, chargeOf, appliedOf, owedOf, stateOf}
 use Rattle.ledger.specs.Books.{Book, totalOf}
 
 -- ---- cells and lines
@@ -27,12 +25,6 @@ ended xs = xs ++ (10 ∷ [])
 -- the heading, always printed
 unfoldable pub heading : List ℕ
 heading = ended (text "account,key,code,kind,seq,ccf,charge,applied,owed,state")
-
--- ---- a bill's line
--- "kind is the product": B or P
-abbrev pub productByte : Product → ℕ
-productByte product.BillReady = 66
-productByte product.Prepay = 80
 
 -- "state O, I (issued) or C"
 abbrev pub stateByte : State → ℕ

@@ -7,9 +7,9 @@ ghost use lib.ListN.{length};
 ghost use Rattle.fields.specs.Digits.{digits};
 ghost use Rattle.fields.specs.Put.{put};
 ghost use Rattle.ledger.specs.Lists.{every};
-ghost use Rattle.ledger.specs.Bills.{codeBytes};
+ghost use Rattle.ledger.specs.Bills.{codeBytes, productByte};
 ghost use Rattle.ledger.specs.Books.{book, live, smallCharge};
-ghost use Rattle.table.specs.Table.{cell, productByte, stateByte, termsCells, amountCells, stateCell, lineOf, linesOf, totalLine, stopLine, tableOf};
+ghost use Rattle.table.specs.Table.{cell, stateByte, termsCells, amountCells, stateCell, lineOf, linesOf, totalLine, stopLine, tableOf};
 use ledger::Bill;
 use ledger::Ledger;
 use ledger::Posted;
@@ -19,16 +19,6 @@ use ledger::State;
 use ledger::Terms;
 use units::Cents;
 use units::Date;
-
-// B or P.
-pub fn product_byte(p: Product) -> u8
-    ensures { λ r. ⌜ r ≡ productByte p ⌝ }
-{
-    match p {
-        Product::BillReady => 66,
-        Product::Prepay => 80,
-    }
-}
 
 // O, I or C.
 fn state_byte(s: State) -> u8
@@ -64,7 +54,7 @@ fn put_kind(out: &mut [u8], at: usize, p: Product)
     requires { ⌜ at + 2 ≤ length (now out) ⌝ }
     ensures { λ _. ⌜ now (out .exit) ≡ put (now (out .entry)) at (cell (productByte p ∷ [])) ⌝ }
 {
-    let kind = [product_byte(p), 44];
+    let kind = [p.byte(), 44];
     fields::put_bytes(out, at, &kind);
 }
 

@@ -4,8 +4,8 @@ use Rattle.table.specs.Table.{cell}
 use Rattle.table.proofs.put_kind.Statement.{statement}
 use Rattle.table.proofs.put_kind.Tie as tie
 
-product-byte-requires : tie.Need-product-byte-requires
-product-byte-requires c κs = search needs
+byte-requires : tie.Need-byte-requires
+byte-requires c κs = search needs
 
 slice-aggregate-put-bytes : tie.Need-slice-aggregate-put-bytes
 slice-aggregate-put-bytes c = search needs
@@ -18,13 +18,13 @@ same-length c = search needs
 
 returns : tie.Need-returns
 unfolding cell
-returns c = rw (c .before .before .before .before .before .product-byte .ensures) at (c .before .before .put-bytes .ensures)
+returns c = rw (c .before .before .before .before .before .byte .ensures) at (c .before .before .put-bytes .ensures)
 
 pub put-kind-spec : {M : Type 1} → statement M
 put-kind-spec =
     tie.close
     (tie.spec
-    product-byte-requires
+    byte-requires
     slice-aggregate-put-bytes
     put-bytes-requires
     same-length

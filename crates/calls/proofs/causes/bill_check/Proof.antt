@@ -27,27 +27,27 @@ returns-3 c = rw (c .before .before .b .given .1, c .if2 .taken)
 same-code-requires : tie.Need-same-code-requires
 same-code-requires c κs = search needs
 
-product-byte-requires : tie.Need-product-byte-requires
-product-byte-requires c κs = search needs
+byte-requires : tie.Need-byte-requires
+byte-requires c κs = search needs
 
 returns-4 : tie.Need-returns-4
 unfolding billCauses
-returns-4 c = rw (c .before .before .before .before .before .before .before .b .given .1, c .before .before .before .before .before .if2 .left, rw (c .before .before .before .same-code .ensures, c .before .before .product-byte .ensures) at (c .if3 .taken))
+returns-4 c = rw (c .before .before .before .before .before .before .before .b .given .1, c .before .before .before .before .before .if2 .left, rw (c .before .before .before .same-code .ensures, c .before .before .byte .ensures) at (c .if3 .taken))
 
 same-requires : tie.Need-same-requires
 same-requires c κs = search needs
 
 returns-5 : tie.Need-returns-5
 unfolding billCauses
-returns-5 c = rw (c .before .before .before .before .before .before .before .before .before .before .b .given .1, c .before .before .before .before .before .before .before .before .if2 .left, rw (c .before .before .before .before .before .before .same-code .ensures, c .before .before .before .before .before .product-byte .ensures) at (c .before .before .before .if3 .left), sym (c .before .same .ensures) ∙ c .if4 .taken)
+returns-5 c = rw (c .before .before .before .before .before .before .before .before .before .before .b .given .1, c .before .before .before .before .before .before .before .before .if2 .left, rw (c .before .before .before .before .before .before .same-code .ensures, c .before .before .before .before .before .byte .ensures) at (c .before .before .before .if3 .left), sym (c .before .same .ensures) ∙ c .if4 .taken)
 
 returns-6 : tie.Need-returns-6
 unfolding billCauses
-returns-6 c = rw (c .before .before .before .before .before .before .before .before .before .before .before .before .b .given .1, c .before .before .before .before .before .before .before .before .before .before .if2 .left, rw (c .before .before .before .before .before .before .before .before .same-code .ensures, c .before .before .before .before .before .before .before .product-byte .ensures) at (c .before .before .before .before .before .if3 .left), sym (c .before .before .before .same .ensures) ∙ c .before .before .if4 .left, eq-eqb _ _ (c .if5 .taken))
+returns-6 c = rw (c .before .before .before .before .before .before .before .before .before .before .before .before .b .given .1, c .before .before .before .before .before .before .before .before .before .before .if2 .left, rw (c .before .before .before .before .before .before .before .before .same-code .ensures, c .before .before .before .before .before .before .before .byte .ensures) at (c .before .before .before .before .before .if3 .left), sym (c .before .before .before .same .ensures) ∙ c .before .before .if4 .left, eq-eqb _ _ (c .if5 .taken))
 
 returns-7 : tie.Need-returns-7
 unfolding billCauses
-returns-7 c = rw (c .before .before .before .before .before .before .before .before .before .before .before .before .b .given .1, c .before .before .before .before .before .before .before .before .before .before .if2 .left, rw (c .before .before .before .before .before .before .before .before .same-code .ensures, c .before .before .before .before .before .before .before .product-byte .ensures) at (c .before .before .before .before .before .if3 .left), sym (c .before .before .before .same .ensures) ∙ c .before .before .if4 .left, ne-eqb _ _ (c .if5 .left))
+returns-7 c = rw (c .before .before .before .before .before .before .before .before .before .before .before .before .b .given .1, c .before .before .before .before .before .before .before .before .before .before .if2 .left, rw (c .before .before .before .before .before .before .before .before .same-code .ensures, c .before .before .before .before .before .before .before .byte .ensures) at (c .before .before .before .before .before .if3 .left), sym (c .before .before .before .same .ensures) ∙ c .before .before .if4 .left, ne-eqb _ _ (c .if5 .left))
 
 pub bill-check-spec : {M : Type 1} → statement M
 bill-check-spec =
@@ -59,7 +59,7 @@ bill-check-spec =
     returns-2
     returns-3
     same-code-requires
-    product-byte-requires
+    byte-requires
     returns-4
     same-requires
     returns-5
