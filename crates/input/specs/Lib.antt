@@ -1,0 +1,2 @@
+-- What the contract of `fill` cites.
+pub mod Filled
