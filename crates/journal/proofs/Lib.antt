@@ -1,5 +1,8 @@
 -- Laws that belong to no one function.
-pub mod MakeLaws
+pub mod EntryLaws
 pub mod MadeLaws
 pub mod BodyLaws
 pub mod MoveLaws
+pub mod HeadLaws
+pub mod JournalLaws
+pub mod MakeLaws

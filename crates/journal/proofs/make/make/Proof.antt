@@ -4,7 +4,7 @@ use Prim.Native.Nat.{ℕ}
 use mathlib.Core.Path.{refl}
 use Rattle.fields.proofs.PutLaws.{put-nil}
 use Rattle.calls.specs.Causes.{request, file, cancel}
-use Rattle.journal.proofs.MakeLaws.{lent}
+use Rattle.journal.proofs.EntryLaws.{lent}
 use Rattle.journal.proofs.make.make.Statement.{statement}
 use Rattle.journal.proofs.make.make.Tie as tie
 
