@@ -1,13 +1,19 @@
 -- The calls of a journal's entries on the struct, and the notices that they write. Assumes nothing.
-use Prim.Native.Nat.{ℕ}
+use Prim.Native.Nat.{ℕ, _-_}
+use mathlib.Core.Bool.{true, false}
 use mathlib.Core.List.{List, [], _∷_, _++_}
+use Rattle.fields.specs.Put.{part}
 use Rattle.ledger.specs.declared.Ledger.{Ledger}
 use Rattle.ledger.specs.Books.{Book}
 use Rattle.calls.specs.declared.Called.{Called}
-use Rattle.calls.specs.declared.Answer.the-variants.{Refused}
+use Rattle.calls.specs.declared.Answer.{Answer}
+use Rattle.calls.specs.declared.Answer.the-variants.{Done, Refused}
 use Rattle.calls.specs.Causes.{Call, request, file, cancel, close}
 use Rattle.calls.specs.Machine.{Outcome, outcomes, called, stepIn}
 use Rattle.calls.specs.Days.{freshCalled}
+use Rattle.journal.specs.declared.make.Turned.{Turned}
+use Rattle.journal.specs.declared.Head.{Head}
+use Rattle.journal.specs.declared.Head.the-variants.{Cut, Bad, Whole}
 use Rattle.journal.specs.declared.Body.{Body}
 use Rattle.journal.specs.declared.Body.the-variants as body
 use Rattle.journal.specs.Journal.{Entry, made, callOf, parse, noBook}
@@ -29,6 +35,28 @@ writtenIn l body.File bytes = stepIn l (file bytes 64200) .written
 writtenIn l (body.Cancel id) bytes = stepIn l (cancel id 64200) .written
 writtenIn l (body.Close d) bytes = []
 writtenIn l body.Unread bytes = []
+
+-- how many bytes an answer says were written
+abbrev pub lengthOf : Answer → ℕ
+lengthOf (Done r) = r .written
+lengthOf (Refused n) = 0
+
+-- ---- the entry that stands before a reader
+abbrev pub turnedOn : Head → Ledger → List ℕ → Turned
+turnedOn Cut l s = record { ledger = l; used = 0; written = 0; stopped = false }
+turnedOn Bad l s = record { ledger = l; used = 0; written = 0; stopped = true }
+turnedOn (Whole b n) l s =
+    record {
+      ledger = madeIn l b (part s 3 (n - 3)) .ledger;
+      used = n;
+      written = lengthOf (madeIn l b (part s 3 (n - 3)) .answer);
+      stopped = false;
+    }
+
+abbrev pub turnWritten : Head → Ledger → List ℕ → List ℕ
+turnWritten Cut l s = []
+turnWritten Bad l s = []
+turnWritten (Whole b n) l s = writtenIn l b (part s 3 (n - 3))
 
 -- ---- a BRN file: "the notices of every call carried out, in order"
 -- the bytes that calls wrote

@@ -2,8 +2,10 @@
 ghost use mathlib.Core.Path.{_≡_};
 ghost use lib.ListN.{length};
 ghost use Rattle.fields.specs.Put.{put};
-ghost use Rattle.journal.specs.Made.{madeIn, writtenIn};
+ghost use Rattle.journal.specs.Entries.{headOf};
+ghost use Rattle.journal.specs.Made.{madeIn, writtenIn, lengthOf, turnedOn, turnWritten};
 use crate::Body;
+use crate::Head;
 use calls::Answer;
 use calls::Called;
 use ledger::Ledger;
@@ -23,5 +25,57 @@ pub fn make(l: Ledger, out: &mut [u8], bytes: &[u8], b: Body) -> Called
             ledger: l,
             answer: Answer::Refused(2),
         },
+    }
+}
+
+// How many bytes a call wrote.
+fn written(a: Answer) -> usize
+    ensures { λ n. ⌜ n ≡ lengthOf a ⌝ }
+{
+    match a {
+        Answer::Done(r) => r.written,
+        Answer::Refused(_) => 0,
+    }
+}
+
+// What comes of the bytes that stand before a reader: the ledger, how many bytes are done with (0 where no entry is whole), how
+// many were written, and whether a bad entry came.
+pub struct Turned {
+    pub ledger: Ledger,
+    pub used: usize,
+    pub written: usize,
+    pub stopped: bool,
+}
+
+// Makes the call of the entry at the start of s, after so many entries.
+pub fn next_entry(l: Ledger, out: &mut [u8], s: &[u8], seen: u64) -> Turned
+    requires { ⌜ length (now out) ≡ 64200 ⌝ }
+    ensures { λ r. ⌜ (r ≡ turnedOn (headOf seen (now (s .entry))) l (now (s .entry))) × (now (out .exit) ≡ put (now (out .entry)) 0 (turnWritten (headOf seen (now (s .entry))) l (now (s .entry)))) ⌝ }
+{
+    let h = crate::head_at(s, seen);
+    match h {
+        Head::Cut => Turned {
+            ledger: l,
+            used: 0,
+            written: 0,
+            stopped: false,
+        },
+        Head::Bad => Turned {
+            ledger: l,
+            used: 0,
+            written: 0,
+            stopped: true,
+        },
+        Head::Whole(b, n) => {
+            let c = make(l, out, &s[3..n], b);
+            let next = c.ledger;
+            let answer = c.answer;
+            Turned {
+                ledger: next,
+                used: n,
+                written: written(answer),
+                stopped: false,
+            }
+        }
     }
 }
