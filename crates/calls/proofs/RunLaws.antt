@@ -26,7 +26,7 @@ result-is l c (Stop n) = refl
 
 -- ---- one call
 module _ (l : Ledger) (c : Call) (h : soundLedger l ≡ true) where
-  cause-in : causeIn l c ≡ cause (book l) c
+  pub cause-in : causeIn l c ≡ cause (book l) c
   unfolding causeIn cause
   cause-in = rw (h, ledger-book l h)
 

@@ -6,3 +6,4 @@ pub mod MoveLaws
 pub mod HeadLaws
 pub mod JournalLaws
 pub mod MakeLaws
+pub mod ShortLaws
