@@ -102,8 +102,8 @@ turnedAt l p x =
     }
 
 -- ---- an entry
--- how many records of a file are to be taken: none of one that is refused
-abbrev recordsBy : Check → ℕ → ℕ
+-- how many of n records of a file are to be taken: none of one that is refused
+abbrev pub recordsBy : Check → ℕ → ℕ
 recordsBy Clear n = n
 recordsBy (Stop m) n = 0
 

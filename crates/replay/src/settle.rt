@@ -1,9 +1,10 @@
 // One entry on small values: the top of the ledger, and the bill at the entry's place.
 ghost use mathlib.Core.Path.{_≡_};
-ghost use Prim.Native.Nat.{_+_, _≤_};
-ghost use Rattle.replay.specs.Steps.{soughtBy, toTake, SoundAt, RenewsAt, askedBy, grown, usedBy, closeBy, freshTop, requestBy, cancelBy, leftBy};
+ghost use Prim.Native.Nat.{_+_, _/_, _≤_};
+ghost use lib.ListN.{length};
+ghost use Rattle.replay.specs.Steps.{soughtBy, recordsBy, toTake, SoundAt, RenewsAt, askedBy, grown, usedBy, closeBy, freshTop, requestBy, cancelBy, leftBy};
 ghost use Rattle.verdict.specs.Rules.{first};
-ghost use Rattle.calls.specs.Causes.{requestCauses, cancelCauses, closeCauses};
+ghost use Rattle.calls.specs.Causes.{requestCauses, fileCauses, cancelCauses, closeCauses};
 use crate::turns;
 use calls::Request;
 use calls::Start;
@@ -28,18 +29,30 @@ pub struct Left {
     pub bill: Bill,
 }
 
-// How many records of an entry's file are to be taken: none of a file that is refused.
-pub fn records_to_take(body: Body, s: &[u8], tracking: u64, confirmation: u64) -> usize
+// How many records of a file are to be taken: none of one that is refused.
+fn file_records(s: &[u8], tracking: u64, confirmation: u64) -> usize
     requires { ⌜ (tracking ≤ 1000000000) × (confirmation ≤ 1000000000) ⌝ }
-    ensures { λ r. ⌜ r ≡ toTake body (now (s .entry)) tracking confirmation ⌝ }
+    ensures { λ r. ⌜ r ≡ recordsBy (first (fileCauses (now (s .entry)) 64200 tracking confirmation)) (length (now (s .entry)) / 321) ⌝ }
 {
-    let Body::File = body else {
-        return 0;
-    };
     let check = calls::files::file_check(s, 64200, tracking, confirmation);
     match check {
         Check::Stop(_) => 0,
         Check::Clear => s.len() / 321,
+    }
+}
+
+// How many records of an entry are to be taken.
+pub fn records_to_take(body: Body, s: &[u8], tracking: u64, confirmation: u64) -> usize
+    requires { ⌜ (tracking ≤ 1000000000) × (confirmation ≤ 1000000000) ⌝ }
+    ensures { λ r. ⌜ r ≡ toTake body (now (s .entry)) tracking confirmation ⌝ }
+{
+    match body {
+        Body::File => file_records(s, tracking, confirmation),
+        Body::Fresh(_) => 0,
+        Body::Request(_) => 0,
+        Body::Cancel(_) => 0,
+        Body::Close(_) => 0,
+        Body::Unread => 0,
     }
 }
 

@@ -1,53 +1,54 @@
+-- `replay::search::place` meets its contract: the search from i on is the whole search.
+use Prim.Native.Nat.{_-_, _≤_}
+use mathlib.Core.Path.{_≡_, sym, _∙_}
+use native.Mathlib.Omega.{arith}
+use borrow.Author.Needs.{needs}
+use lib.ListN.{take}
+use lib.Seq.{slice}
+use Rattle.ledger.specs.declared.Identity.{Identity}
+use Rattle.replay.specs.Steps.{findIn}
+use Rattle.replay.proofs.SearchLaws.{long, find-hit, find-miss, find-end}
 use Rattle.replay.proofs.search.place.Statement.{statement}
 use Rattle.replay.proofs.search.place.Tie as tie
-use Rattle.replay.proofs.search.place.Reads as reads
-use Rattle.replay.proofs.search.place.Lts as lts
 
 abbrev Inv-loop : tie.InvT-loop
-Inv-loop accounts keys n account key i₀ i = ?
+Inv-loop accounts keys n account key i₀ i =
+    (i ≤ n)
+    × (findIn (record { account = account; key = key }) i (slice i n accounts) (slice i n keys)
+    ≡ findIn (record { account = account; key = key }) 0 (take n accounts) (take n keys))
 
 abbrev μ-loop : tie.MeasureT-loop
-μ-loop accounts keys n account key i₀ i = ?
+μ-loop accounts keys n account key i₀ i = n - i
 
--- src/search.rt:23:5
 loop-holds : tie.Need-loop-holds Inv-loop μ-loop
-loop-holds c = ?
+loop-holds c = search needs
 
--- src/search.rt:24:21
 mul-same : tie.Need-mul-same Inv-loop μ-loop
-mul-same c = ?
+mul-same c = search needs
 
--- src/search.rt:24:21
 element-copy-out-same : tie.Need-element-copy-out-same Inv-loop μ-loop
-element-copy-out-same c = ?
+element-copy-out-same c = search needs
 
--- src/search.rt:24:48
 mul-same-2 : tie.Need-mul-same-2 Inv-loop μ-loop
-mul-same-2 c = ?
+mul-same-2 c = search needs
 
--- src/search.rt:24:48
 element-copy-out-same-2 : tie.Need-element-copy-out-same-2 Inv-loop μ-loop
-element-copy-out-same-2 c = ?
+element-copy-out-same-2 c = search needs
 
--- src/search.rt:26:13
 returns : tie.Need-returns Inv-loop μ-loop
-returns c = ?
+returns c = sym (find-hit _ _ _ _ _ (c .before .before .before .loop-test .taken) (long (c .before .before .before .before .before .args .accounts .now) (c .before .before .before .before .before .pre .1) (c .before .before .before .before .before .pre .0)) (long (c .before .before .before .before .before .args .keys .now) (c .before .before .before .before .before .pre .2) (c .before .before .before .before .before .pre .0)) (c .if1 .taken)) ∙ c .before .before .before .before .loop .inv .1
 
--- src/search.rt:28:9
 add-i : tie.Need-add-i Inv-loop μ-loop
-add-i c = ?
+add-i c = search needs
 
--- src/search.rt:23:5
 loop-less : tie.Need-loop-less Inv-loop μ-loop
-loop-less c = ?
+loop-less c = search needs
 
--- src/search.rt:23:5
 loop-again : tie.Need-loop-again Inv-loop μ-loop
-loop-again c = ?
+loop-again c = (omega arith, sym (find-miss _ _ _ _ _ (c .before .before .before .loop-test .taken) (long (c .before .before .before .before .before .args .accounts .now) (c .before .before .before .before .before .pre .1) (c .before .before .before .before .before .pre .0)) (long (c .before .before .before .before .before .args .keys .now) (c .before .before .before .before .before .pre .2) (c .before .before .before .before .before .pre .0)) (c .if1 .left)) ∙ c .before .before .before .before .loop .inv .1)
 
--- src/search.rt:11:1
 returns-2 : tie.Need-returns-2 Inv-loop μ-loop
-returns-2 c = ?
+returns-2 c = sym (find-end _ _ _ _ _ (c .before .loop .inv .0) (c .loop-test .left)) ∙ c .before .loop .inv .1
 
 pub place-spec : {M : Type 1} → statement M
 place-spec =

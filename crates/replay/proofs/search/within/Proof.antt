@@ -1,15 +1,14 @@
+-- `replay::search::within` meets its contract.
+use native.Mathlib.Omega.{arith}
+use borrow.Author.Tests.{lt-ltb, le-ltb}
 use Rattle.replay.proofs.search.within.Statement.{statement}
 use Rattle.replay.proofs.search.within.Tie as tie
-use Rattle.replay.proofs.search.within.Reads as reads
-use Rattle.replay.proofs.search.within.Lts as lts
 
--- src/search.rt:53:1
 returns : tie.Need-returns
-returns c = ?
+returns c = (rw (lt-ltb _ _ (c .if1 .taken)), c .if1 .taken)
 
--- src/search.rt:53:1
 returns-2 : tie.Need-returns-2
-returns-2 c = ?
+returns-2 c = (rw (le-ltb _ _ (c .if1 .left)), omega arith)
 
 pub within-spec : {M : Type 1} → statement M
 within-spec = tie.close (tie.spec returns returns-2)

@@ -1,61 +1,52 @@
+-- `replay::turns::identity_at` meets its contract.
+use native.Mathlib.Omega.{arith}
+use borrow.Author.Tests.{le-leb, lt-leb}
+use Rattle.file.proofs.WalkLaws.{lent-head, lent-next}
+use Rattle.replay.specs.Steps.{identityAt}
 use borrow.Author.Needs.{needs}
 use Rattle.replay.proofs.turns.identity_at.Statement.{statement}
 use Rattle.replay.proofs.turns.identity_at.Tie as tie
-use Rattle.replay.proofs.turns.identity_at.Reads as reads
-use Rattle.replay.proofs.turns.identity_at.Lts as lts
-use Rattle.groups.proofs.identity_of.Reads as identity-of-reads
 
--- src/turns.rt:27:13
 add-j : tie.Need-add-j
 add-j c = search needs
 
--- src/turns.rt:29:9
 returns : tie.Need-returns
-returns c = ?
+unfolding identityAt
+returns c = rw (le-leb _ _ (c .if1 .taken))
 
--- src/turns.rt:31:13
 mul-a : tie.Need-mul-a
 mul-a c = search needs
 
--- src/turns.rt:32:13
 mul-b : tie.Need-mul-b
 mul-b c = search needs
 
--- src/turns.rt:33:13
 add-e : tie.Need-add-e
 add-e c = search needs
 
--- src/turns.rt:34:25
 sub-identity-of : tie.Need-sub-identity-of
 sub-identity-of c = search needs
 
--- src/turns.rt:34:25
 part-identity-of-start : tie.Need-part-identity-of-start
 part-identity-of-start c = search needs
 
--- src/turns.rt:34:25
 part-identity-of-end : tie.Need-part-identity-of-end
 part-identity-of-end c = search needs
 
--- src/turns.rt:34:35
 sub-identity-of-2 : tie.Need-sub-identity-of-2
 sub-identity-of-2 c = search needs
 
--- src/turns.rt:34:35
 part-identity-of-start-2 : tie.Need-part-identity-of-start-2
 part-identity-of-start-2 c = search needs
 
--- src/turns.rt:34:35
 part-identity-of-end-2 : tie.Need-part-identity-of-end-2
 part-identity-of-end-2 c = search needs
 
--- src/turns.rt:34:5
 identity-of-requires : tie.Need-identity-of-requires
 identity-of-requires c κs = search needs
 
--- src/turns.rt:23:1
 returns-2 : tie.Need-returns-2
-returns-2 c = ?
+unfolding identityAt
+returns-2 c = rw (lt-leb _ _ (c .before .before .before .if1 .left), ← lent-head (c .before .before .before .before .before .args .s .now) (c .before .before .before .before .before .args .i), ← lent-next (c .before .before .before .before .before .args .s .now) (c .before .before .before .before .before .args .i)) (c .identity-of .ensures)
 
 pub identity-at-spec : {M : Type 1} → statement M
 identity-at-spec =

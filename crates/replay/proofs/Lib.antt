@@ -1,0 +1,3 @@
+pub mod SearchLaws
+pub mod GroupTurns
+pub mod EntryLaws
