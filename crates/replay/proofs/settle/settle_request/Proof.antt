@@ -24,7 +24,7 @@ use-numbers-requires : tie.Need-use-numbers-requires
 use-numbers-requires c κs = search needs
 
 asked-requires : tie.Need-asked-requires
-asked-requires c κs = renews _ _ _ _ _ _ _ _ (c .before .before .before .before .before .before .before .pre .1) (rw (c .before .before .before .before .before .sought-by .ensures) at (sym (c .before .before .before .before .request-check .ensures) ∙ c .before .before .enum-told2 .given .1))
+asked-requires c κs = renews _ _ _ _ _ _ (c .before .before .before .before .before .before .before .args .f) (c .before .before .before .before .before .before .before .args .b) (c .before .before .before .before .before .before .before .pre .1) (rw (c .before .before .before .before .before .sought-by .ensures) at (sym (c .before .before .before .before .request-check .ensures) ∙ c .before .before .enum-told2 .given .1))
 
 returns : tie.Need-returns
 returns c = rw (← c .before .before .before .sought-by .ensures, sym (c .before .before .request-check .ensures) ∙ c .enum-told .given .1)

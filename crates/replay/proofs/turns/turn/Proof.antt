@@ -18,10 +18,10 @@ decide-requires : tie.Need-decide-requires
 decide-requires c κs = search needs
 
 post-requires : tie.Need-post-requires
-post-requires c κs = can-post _ _ _ _ _ _ (c .before .before .before .before .pre .1) (rw (c .before .sought-by .ensures) at (c .decide .ensures))
+post-requires c κs = can-post _ _ (c .before .before .before .before .args .f) (c .before .before .before .before .args .b) _ _ (c .before .before .before .before .pre .1) (rw (c .before .sought-by .ensures) at (c .decide .ensures))
 
 returns : tie.Need-returns
-returns c = turns-by _ _ _ _ _ _ _ _ (c .before .before .before .sup-at .ensures ∙ ap isSup (sym (header-is (c .before .before .before .before .before .args .s .now) (c .before .before .before .before .before .args .i) (c .before .before .before .before .before .args .n)))) (rw (c .before .before .sought-by .ensures) at (c .before .decide .ensures)) (c .post .ensures)
+returns c = turns-by _ _ (c .before .before .before .before .before .args .f) (c .before .before .before .before .before .args .b) _ _ _ _ (c .before .before .before .sup-at .ensures ∙ ap isSup (sym (header-is (c .before .before .before .before .before .args .s .now) (c .before .before .before .before .before .args .i) (c .before .before .before .before .before .args .n)))) (rw (c .before .before .sought-by .ensures) at (c .before .decide .ensures)) (c .post .ensures)
 
 pub turn-spec : {M : Type 1} → statement M
 turn-spec =
