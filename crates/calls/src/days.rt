@@ -25,7 +25,7 @@ fn is_number(n: u64) -> bool
 }
 
 // The cause against a fresh, if there is one.
-fn fresh_check(s: Start) -> Check
+pub fn fresh_check(s: Start) -> Check
     ensures { λ r. ⌜ r ≡ first (freshCauses s) ⌝ }
 {
     let today = s.today;

@@ -41,7 +41,7 @@ freshBody s =
     body.Unread
 
 -- "1 request (code 5, account 12, key 4, B or P, Billing 8, From 8, consumption 10, Scheduled 8)"
-abbrev codeIn : List ℕ → CodeField
+abbrev pub codeIn : List ℕ → CodeField
 codeIn s = record { first = byteIn s 1; second = byteIn s 2; third = byteIn s 3; tens = byteIn s 4; ones = byteIn s 5 }
 
 unfoldable pub requestBody : List ℕ → Body

@@ -1,8 +1,18 @@
 // Journal entries: what stands at the start of some bytes.
+ghost use mathlib.Core.Path.{_≡_};
+ghost use mathlib.Core.Bool.{true};
+ghost use Prim.Native.Nat.{_+_, _-_, _≤_, _<_};
+ghost use lib.ListN.{length, take, drop};
+ghost use Rattle.fields.specs.Put.{part};
+ghost use Rattle.journal.specs.Entries.{codeIn, freshBody, requestBody, cancelBody, closeBody, bodyOf, goodLength, inTurn, wholeOf, headBy, headOf};
+use calls::CodeField;
 use calls::Request;
 use calls::Start;
+use fields::Field;
 use ledger::Identity;
+use units::Ccf;
 use units::Date;
+use verdict::Check;
 
 // What an entry's body holds. Unread: a field that should be digits is not, so the call is refused with 2.
 pub enum Body {
@@ -19,4 +29,200 @@ pub enum Head {
     Cut,
     Bad,
     Whole(Body, usize),
+}
+
+// The body of a fresh: today, Tracking, Confirmation.
+fn fresh_body(s: &[u8]) -> Body
+    requires { ⌜ 26 ≤ length (now s) ⌝ }
+    ensures { λ r. ⌜ r ≡ freshBody (now (s .entry)) ⌝ }
+{
+    let Field::Number(today) = fields::read_field(s, 0, 8) else {
+        return Body::Unread;
+    };
+    let Field::Number(tracking) = fields::read_field(s, 8, 9) else {
+        return Body::Unread;
+    };
+    let Field::Number(confirmation) = fields::read_field(s, 17, 9) else {
+        return Body::Unread;
+    };
+    Body::Fresh(Start {
+        today: Date(today),
+        tracking,
+        confirmation,
+    })
+}
+
+// The rate code's field of a request, as it stands.
+fn code_at(s: &[u8]) -> CodeField
+    requires { ⌜ 5 ≤ length (now s) ⌝ }
+    ensures { λ r. ⌜ r ≡ codeIn (now (s .entry)) ⌝ }
+{
+    CodeField {
+        first: s[0],
+        second: s[1],
+        third: s[2],
+        tens: s[3],
+        ones: s[4],
+    }
+}
+
+// The body of a request: code, account, key, B or P, Billing, From, consumption, Scheduled.
+fn request_body(s: &[u8]) -> Body
+    requires { ⌜ 56 ≤ length (now s) ⌝ }
+    ensures { λ r. ⌜ r ≡ requestBody (now (s .entry)) ⌝ }
+{
+    let Field::Number(account) = fields::read_field(s, 5, 12) else {
+        return Body::Unread;
+    };
+    let Field::Number(key) = fields::read_field(s, 17, 4) else {
+        return Body::Unread;
+    };
+    let Field::Number(billing) = fields::read_field(s, 22, 8) else {
+        return Body::Unread;
+    };
+    let Field::Number(from) = fields::read_field(s, 30, 8) else {
+        return Body::Unread;
+    };
+    let Field::Number(consumption) = fields::read_field(s, 38, 10) else {
+        return Body::Unread;
+    };
+    let Field::Number(scheduled) = fields::read_field(s, 48, 8) else {
+        return Body::Unread;
+    };
+    Body::Request(Request {
+        code: code_at(s),
+        identity: Identity { account, key },
+        product: s[21],
+        billing: Date(billing),
+        from: Date(from),
+        consumption: Ccf(consumption),
+        scheduled: Date(scheduled),
+    })
+}
+
+// The body of a cancel: account, key.
+fn cancel_body(s: &[u8]) -> Body
+    requires { ⌜ 16 ≤ length (now s) ⌝ }
+    ensures { λ r. ⌜ r ≡ cancelBody (now (s .entry)) ⌝ }
+{
+    let Field::Number(account) = fields::read_field(s, 0, 12) else {
+        return Body::Unread;
+    };
+    let Field::Number(key) = fields::read_field(s, 12, 4) else {
+        return Body::Unread;
+    };
+    Body::Cancel(Identity { account, key })
+}
+
+// The body of a close: the new today.
+fn close_body(s: &[u8]) -> Body
+    requires { ⌜ 8 ≤ length (now s) ⌝ }
+    ensures { λ r. ⌜ r ≡ closeBody (now (s .entry)) ⌝ }
+{
+    let Field::Number(today) = fields::read_field(s, 0, 8) else {
+        return Body::Unread;
+    };
+    Body::Close(Date(today))
+}
+
+// Whether an entry with this tag may have this length.
+fn good_length(tag: u8, n: usize) -> bool
+    ensures { λ r. ⌜ r ≡ goodLength tag n ⌝ }
+{
+    match tag {
+        0 => n == 26,
+        1 => n == 56,
+        2 => n <= 64200,
+        3 => n == 16,
+        4 => n == 8,
+        _ => false,
+    }
+}
+
+// Tag 0 stands first and nowhere else.
+fn in_turn(seen: u64, tag: u8) -> bool
+    ensures { λ r. ⌜ r ≡ inTurn seen tag ⌝ }
+{
+    if seen == 0 {
+        return tag == 0;
+    }
+    tag != 0
+}
+
+// A refused fresh counts as a bad entry.
+fn fresh_head(b: Body, end: usize) -> Head
+    ensures { λ r. ⌜ r ≡ wholeOf 0 b end ⌝ }
+{
+    let Body::Fresh(start) = b else {
+        return Head::Bad;
+    };
+    let check = calls::days::fresh_check(start);
+    match check {
+        Check::Stop(_) => Head::Bad,
+        Check::Clear => Head::Whole(b, end),
+    }
+}
+
+// An entry with this tag and length whose bytes are all there.
+fn whole_at(s: &[u8], tag: u8, n: usize) -> Head
+    requires { ⌜ (goodLength tag n ≡ true) × (n + 3 ≤ length (now s)) ⌝ }
+    ensures { λ r. ⌜ r ≡ wholeOf tag (bodyOf tag (part (now (s .entry)) 3 n)) (n + 3) ⌝ }
+{
+    let end = n + 3;
+    let body = &s[3..end];
+    match tag {
+        0 => fresh_head(fresh_body(body), end),
+        1 => Head::Whole(request_body(body), end),
+        2 => Head::Whole(Body::File, end),
+        3 => Head::Whole(cancel_body(body), end),
+        _ => Head::Whole(close_body(body), end),
+    }
+}
+
+// An entry with this tag and length, after so many entries.
+fn head_by(s: &[u8], seen: u64, tag: u8, n: usize) -> Head
+    requires { ⌜ n < 65536 ⌝ }
+    ensures { λ r. ⌜ r ≡ headBy seen (now (s .entry)) tag n ⌝ }
+{
+    let good = (seen < 1000000000) & in_turn(seen, tag) & good_length(tag, n);
+    if !good {
+        return Head::Bad;
+    }
+    if s.len() < n + 3 {
+        return Head::Cut;
+    }
+    whole_at(s, tag, n)
+}
+
+fn wide(x: u8) -> usize
+    ensures { λ r. ⌜ (r ≡ x) × (r < 256) ⌝ }
+{
+    x as usize
+}
+
+// What stands at the start of s, after so many entries.
+pub fn head_at(s: &[u8], seen: u64) -> Head
+    ensures { λ r. ⌜ r ≡ headOf seen (now (s .entry)) ⌝ }
+{
+    if s.len() < 3 {
+        return Head::Cut;
+    }
+    let high = wide(s[1]);
+    let low = wide(s[2]);
+    head_by(s, seen, s[0], high * 256 + low)
+}
+
+// Moves the bytes from index `from` up to n to the start, and answers how many there are.
+pub fn keep(buf: &mut [u8], from: usize, n: usize) -> usize
+    requires { ⌜ (from ≤ n) × (n ≤ length (now buf)) ⌝ }
+    ensures { λ r. ⌜ (r ≡ n - from) × (take r (now (buf .exit)) ≡ take r (drop from (now (buf .entry)))) ⌝ }
+{
+    let mut i = 0;
+    let mut j = from;
+    while j < n {
+        buf[i] = buf[j];
+        i += 1;
+        j += 1;
+    }
+    i
 }

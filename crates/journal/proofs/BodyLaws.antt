@@ -1,0 +1,60 @@
+-- What a field of a body that was read says of its bytes, and the length that goes with a tag. Assumes nothing.
+use Prim.Native.Nat.{ℕ, _+_, _-_, _≤_}
+use mathlib.Core.Path.{_≡_, ap, _∙_}
+use mathlib.Core.Logic.{_≢_}
+use mathlib.Core.Bool.{true, false, cond, false≢true}
+use mathlib.Core.List.{List}
+use native.Mathlib.Omega.{arith}
+use native.Mathlib.Nat.{add-zero}
+use lib.Dec.{eqb}
+use lib.ListN.{length, getD, take, drop, length-take, length-drop}
+use lib.Seq.{getD-take, getD-drop}
+use borrow.Author.Tests.{eqb-true, ne-eqb}
+use Rattle.fields.specs.Digits.{number, numeric}
+use Rattle.fields.specs.Put.{part}
+use Rattle.fields.specs.Field.{fieldOf}
+use Rattle.fields.specs.declared.Field.the-variants.{Number}
+use Rattle.fields.proofs.HoldLaws.{field-is}
+use Rattle.groups.proofs.PlaceLaws.{cases}
+use Rattle.journal.specs.Entries.{goodLength}
+
+-- the w bytes of s from index at on are digits, and stand for n
+pub record Holds (s : List ℕ) (at w n : ℕ) : Type 0 where
+  pub digits : numeric (part s at w) ≡ true
+  pub number : n ≡ number (part s at w)
+
+pub holds : (s : List ℕ) (at w n : ℕ) → fieldOf (part s at w) ≡ Number n → Holds s at w n
+holds s at w n e = record { digits = field-is _ _ e .0; number = field-is _ _ e .1 }
+
+-- the byte at a position
+pub byte-at : (s : List ℕ) (at : ℕ) → getD (part s at 1) 0 0 ≡ getD s at 0
+unfolding part
+byte-at s at =
+    getD-take 1 (drop at s) 0 0 (omega arith) ∙ getD-drop at s 0 0 ∙ ap (λ (k : ℕ). getD s k 0) (add-zero at)
+
+-- ---- the length that goes with a tag
+pub fresh-length : (tag n : ℕ) → tag ≡ 0 → goodLength tag n ≡ true → n ≡ 26
+unfolding goodLength
+fresh-length tag n e g = eqb-true n 26 (rw e at g)
+
+pub request-length : (tag n : ℕ) → tag ≡ 1 → goodLength tag n ≡ true → n ≡ 56
+unfolding goodLength
+request-length tag n e g = eqb-true n 56 (rw e at g)
+
+pub cancel-length : (tag n : ℕ) → tag ≡ 3 → goodLength tag n ≡ true → n ≡ 16
+unfolding goodLength
+cancel-length tag n e g = eqb-true n 16 (rw e at g)
+
+pub close-length : (tag n : ℕ) → tag ≢ 0 → tag ≢ 1 → tag ≢ 2 → tag ≢ 3 → goodLength tag n ≡ true → n ≡ 8
+unfolding goodLength
+close-length tag n a b d e g =
+    let h : cond (eqb tag 4) (eqb n 8) false ≡ true = rw (ne-eqb tag 0 a, ne-eqb tag 1 b, ne-eqb tag 2 d, ne-eqb tag 3 e) at g in
+    cases (eqb tag 4) (λ k. eqb-true n 8 (rw k at h)) (λ k. absurd (false≢true (rw k at h)))
+
+-- the body's bytes, as they are lent
+pub lent-length : (s : List ℕ) (n : ℕ) → n + 3 ≤ length s → length (take (n + 3 - 3) (drop 3 s)) ≡ n
+lent-length s n h = omega (arith, length-take (n + 3 - 3) (drop 3 s), length-drop 3 s)
+
+pub lent-part : (s : List ℕ) (n : ℕ) → take (n + 3 - 3) (drop 3 s) ≡ part s 3 n
+unfolding part
+lent-part s n = let e : n + 3 - 3 ≡ n = omega arith in rw e
