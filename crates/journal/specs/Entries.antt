@@ -20,7 +20,7 @@ use Rattle.journal.specs.declared.Head.the-variants.{Cut, Bad, Whole}
 
 -- ---- the bodies: a field of digits is a number; a body with another field there is refused (2)
 -- the bytes at positions a to b hold digits only
-abbrev digitsIn : List ℕ → ℕ → ℕ → Bool
+abbrev pub digitsIn : List ℕ → ℕ → ℕ → Bool
 digitsIn s a b = numeric (positions s a b)
 
 abbrev numberIn : List ℕ → ℕ → ℕ → ℕ
