@@ -1,3 +1,6 @@
+-- Laws that belong to no one function.
 pub mod SearchLaws
+pub mod SpotLaws
 pub mod GroupTurns
+pub mod RecordWalk
 pub mod EntryLaws
