@@ -4,3 +4,4 @@ pub mod SpotLaws
 pub mod GroupTurns
 pub mod RecordWalk
 pub mod EntryLaws
+pub mod EntryWalk
