@@ -1,4 +1,5 @@
 -- Laws that belong to no one function.
+pub mod ReaderLaws
 pub mod SearchLaws
 pub mod SpotLaws
 pub mod GroupTurns

@@ -1,11 +1,11 @@
 -- The walk over a file's records on a ledger that is changed in place: the walk of `groups`, whose counts and output only the proof knows.
 -- Assumes nothing.
-use Prim.Native.Nat.{ℕ, _+_, _*_, _≤_, _<_}
+use Prim.Native.Nat.{ℕ, _+_, _-_, _*_, _≤_, _<_}
 use mathlib.Core.Path.{_≡_, refl, sym, ap, _∙_}
 use mathlib.Core.Bool.{Bool, true, false}
 use mathlib.Core.List.{List, []}
 use native.Mathlib.Omega.{arith}
-use lib.ListN.{length, take, replicate, length-replicate}
+use lib.ListN.{length, take, drop, replicate, length-replicate}
 use Rattle.fields.specs.Put.{put}
 use Rattle.fields.proofs.PutLaws.{length-put}
 use Rattle.ledger.specs.declared.Bill.{Bill}
@@ -106,3 +106,14 @@ module _ (s : List ℕ) (n : ℕ) (l₀ : Ledger) (ns ks : List ℕ) (l : Ledger
             out = put (w .out) (w .written) a;
             walk = rw applied-is u;
           }
+
+-- ---- the bytes of a file are those of src from index from up to end
+abbrev pub lent : List ℕ → ℕ → ℕ → List ℕ
+lent src from end = take (end - from) (drop from src)
+
+pub record Inner (src : List ℕ) (l₀ : Ledger) (ns ks : List ℕ) (from end n : ℕ) (l : Ledger) (i : ℕ) : Type 0 where
+  pub low : from ≤ end
+  pub high : end ≤ length src
+  pub few : n ≤ 200
+  pub long : n * 321 ≤ length (lent src from end)
+  pub taking : Taking (lent src from end) n l₀ ns ks l i
