@@ -10,4 +10,4 @@ use Rattle.replay.specs.declared.Reader.{Reader}
 use Rattle.replay.proofs.Reader.{the-row}
 
 pub reader-places : (r : Reader) (vs : List Val) → Is the-row r vs → length (r .ledger .bills) ≡ 128
-reader-places r vs p = places (r .ledger) _ (p .1 .0)
+reader-places r vs p = places (r .ledger) _ (p .1 .1 .0)

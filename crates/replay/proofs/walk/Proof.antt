@@ -1,6 +1,11 @@
+use Rattle.ledger.proofs.SoundLaws.{ledger-count}
+use Rattle.groups.proofs.ReadyLaws.{sound-ready}
+use Rattle.replay.proofs.ReaderLaws.{reader-places}
+use Rattle.replay.proofs.RecordWalk.{lent, taking-start}
+use Rattle.replay.proofs.EntryLaws.{to-take-few}
 -- `replay::walk` meets its contract. The outer invariant is `Going`, the inner one `Inner`.
 use borrow.Author.Needs.{needs}
-use Prim.Native.Nat.{_+_, _-_, _≤_, _<_}
+use Prim.Native.Nat.{_+_, _-_, _*_, _≤_, _<_}
 use mathlib.Core.Path.{_≡_, sym, _∙_}
 use native.Mathlib.Omega.{arith}
 use lib.ListN.{length}
@@ -30,8 +35,15 @@ whole c =
     fits _ (c .before .before .before .before .before .before .before .before .before .before .args .r) _ _ _ _ _ (c .before .before .before .before .before .entries .inv)
     (c .before .h .given .0 .0) _ (sym (c .before .before .before .head-at .ensures) ∙ c .before .h .given .1)
 
+-- what is to be taken is within the entry
+few : (c : tie.After-records-to-take Inv-records μ-records Inv-entries μ-entries) →
+    let w = c .before .before .before .before .before .before .before .entries in
+    let s = lent (c .before .before .before .before .before .before .before .before .before .before .before .before .args .src .now) (w .at + 3) (w .at + c .before .before .before .h .given .0 .1 .0) in
+    (c .records-to-take .result ≤ 200) × (c .records-to-take .result * 321 ≤ length s)
+few c = rw (c .records-to-take .ensures) (to-take-few (c .before .before .before .h .given .0 .0) _ _ _)
+
 entries-holds : tie.Need-entries-holds Inv-records μ-records Inv-entries μ-entries
-entries-holds c = going-start _ (c .before .before .before .before .args .r) ? (c .before .before .before .before .pre)
+entries-holds c = going-start _ (c .before .before .before .before .args .r) (reader-places (c .before .before .before .before .args .r) _ (c .before .before .before .before .good .1 .0)) (c .before .before .before .before .pre)
 
 sub-head-at : tie.Need-sub-head-at Inv-records μ-records Inv-entries μ-entries
 sub-head-at c = omega (arith, c .entries .inv .within)
@@ -64,64 +76,72 @@ add-from : tie.Need-add-from Inv-records μ-records Inv-entries μ-entries
 add-from c = omega (arith, whole c)
 
 add-end : tie.Need-add-end Inv-records μ-records Inv-entries μ-entries
-add-end c = ?
+add-end c = omega (arith, whole c, c .before .before .before .before .before .before .before .before .before .before .good)
 
 sub-records-to-take : tie.Need-sub-records-to-take Inv-records μ-records Inv-entries μ-entries
-sub-records-to-take c = ?
+sub-records-to-take c = omega (arith, whole c)
 
 part-records-to-take-start : tie.Need-part-records-to-take-start Inv-records μ-records Inv-entries μ-entries
-part-records-to-take-start c = ?
+part-records-to-take-start c = omega (arith, whole c)
 
 part-records-to-take-end : tie.Need-part-records-to-take-end Inv-records μ-records Inv-entries μ-entries
-part-records-to-take-end c = ?
+part-records-to-take-end c = omega (arith, whole c)
 
 records-to-take-requires : tie.Need-records-to-take-requires Inv-records μ-records Inv-entries μ-entries
-records-to-take-requires c κs = ?
+records-to-take-requires c κs = let r = sound-ready _ (c .before .before .before .before .before .before .entries .inv .sure) in (r .tracking, r .confirmation)
 
 sub-duplicates : tie.Need-sub-duplicates Inv-records μ-records Inv-entries μ-entries
-sub-duplicates c = ?
+sub-duplicates c = omega (arith, whole (c .before .before))
 
 part-duplicates-start : tie.Need-part-duplicates-start Inv-records μ-records Inv-entries μ-entries
-part-duplicates-start c = ?
+part-duplicates-start c = omega (arith, whole (c .before .before))
 
 part-duplicates-end : tie.Need-part-duplicates-end Inv-records μ-records Inv-entries μ-entries
-part-duplicates-end c = ?
+part-duplicates-end c = omega (arith, whole (c .before .before))
 
 duplicates-requires : tie.Need-duplicates-requires Inv-records μ-records Inv-entries μ-entries
-duplicates-requires c κs = ?
+duplicates-requires c κs = few (c .before)
 
 records-holds : tie.Need-records-holds Inv-records μ-records Inv-entries μ-entries
-records-holds c = ?
+records-holds c = let q = whole (c .before .before .before .before) in
+    let m = few (c .before .before) in
+    record {
+      low = omega (arith, q .0);
+      high = q .1;
+      few = m .0;
+      long = m .1;
+      taking = taking-start _ _ _ _ _ (c .before .before .before .before .before .before .before .before .before .entries .inv .lists) (c .before .before .before .before .before .before .before .before .before .entries .inv .places) (sound-ready _ (c .before .before .before .before .before .before .before .before .before .entries .inv .sure));
+    }
 
 sub-header-at : tie.Need-sub-header-at Inv-records μ-records Inv-entries μ-entries
-sub-header-at c = ?
+sub-header-at c = c .before .records .inv .low
 
 part-header-at-start : tie.Need-part-header-at-start Inv-records μ-records Inv-entries μ-entries
-part-header-at-start c = ?
+part-header-at-start c = omega (arith, c .before .records .inv .low)
 
 part-header-at-end : tie.Need-part-header-at-end Inv-records μ-records Inv-entries μ-entries
-part-header-at-end c = ?
+part-header-at-end c = omega (arith, c .before .records .inv .low, c .before .records .inv .high)
 
 header-at-requires : tie.Need-header-at-requires Inv-records μ-records Inv-entries μ-entries
-header-at-requires c κs = ?
+header-at-requires c κs = omega (arith, c .before .before .records .inv .long, c .before .records-test .taken)
 
 sub-identity-at : tie.Need-sub-identity-at Inv-records μ-records Inv-entries μ-entries
-sub-identity-at c = ?
+sub-identity-at c = c .before .before .before .before .records .inv .low
 
 part-identity-at-start : tie.Need-part-identity-at-start Inv-records μ-records Inv-entries μ-entries
-part-identity-at-start c = ?
+part-identity-at-start c = omega (arith, c .before .before .before .before .records .inv .low)
 
 part-identity-at-end : tie.Need-part-identity-at-end Inv-records μ-records Inv-entries μ-entries
-part-identity-at-end c = ?
+part-identity-at-end c = omega (arith, c .before .before .before .before .records .inv .low, c .before .before .before .before .records .inv .high)
 
 identity-at-requires : tie.Need-identity-at-requires Inv-records μ-records Inv-entries μ-entries
-identity-at-requires c κs = ?
+identity-at-requires c κs = (c .before .before .before .before .records-test .taken, c .before .before .before .before .before .records .inv .long)
 
 place-requires : tie.Need-place-requires Inv-records μ-records Inv-entries μ-entries
 place-requires c κs = ?
 
 slot-requires : tie.Need-slot-requires Inv-records μ-records Inv-entries μ-entries
-slot-requires c κs = ?
+slot-requires c κs = tt
 
 mul-old : tie.Need-mul-old Inv-records μ-records Inv-entries μ-entries
 mul-old c = ?
