@@ -44,7 +44,8 @@ use Rattle.journal.specs.declared.Body.the-variants as body
 use Rattle.journal.specs.Journal.{callOf, made}
 use Rattle.journal.proofs.MakeLaws as make
 use Rattle.replay.specs.Steps.{findFor, slotOf, soughtBy, SoundAt, RenewsAt, recordsBy, toTake, askedBy, grown, kept, usedBy, requestBy, cancelBy, closeBy, freshTop, leftBy, topOf, leftAt}
-use Rattle.replay.proofs.SpotLaws.{Lists, lists-find, Spots, none, some, spots, spot-sought}
+use Rattle.replay.proofs.SpotLaws.{Lists, lists-find, Spots, none, some, spots, spot-sought, spot-sound}
+use Rattle.replay.proofs.RecordWalk.{Taking, taking-end}
 
 -- a known bill that no cause is against has room for a request more
 pub renews : (r : Request) (room : ℕ) (today : Date) (tracking confirmation held : ℕ) (f : Found) (b : Bill) → SoundAt f b
@@ -117,6 +118,11 @@ module _ (l : Ledger) (long : length (l .bills) ≡ 128) (sure : soundLedger l �
   takes-filed (body.Cancel id) s = takes-none s
   takes-filed (body.Close d) s = takes-none s
   takes-filed body.Unread s = takes-none s
+
+-- what came of the walk over the records
+pub filed-by : (l : Ledger) (ns ks : List ℕ) (k : Ledger) (n i : ℕ) (b : Body) (s : List ℕ) → length (l .bills) ≡ 128 → soundLedger l ≡ true
+    → Taking s n l ns ks k i → n ≤ i → n ≡ toTake b s (l .«next_tracking») (l .«next_confirmation») → k ≡ filed b s l
+filed-by l ns ks k n i b s long sure w h e = taking-end s n l ns ks k i w h ∙ ap (takes l long sure s) e ∙ takes-filed l long sure b s
 
 pub filed-sound : (l : Ledger) → soundLedger l ≡ true → (b : Body) (s : List ℕ) → soundLedger (filed b s l) ≡ true
 filed-sound l h (body.Fresh x) s = h
@@ -208,6 +214,19 @@ fresh-entered : (x : Start) (s : List ℕ) (l : Ledger) (bs : List Bill) → fir
     → Entered (body.Fresh x) s l (record { today = x .today; «next_tracking» = x .tracking; «next_confirmation» = x .confirmation; count = 0; bills = bs })
 unfolding soundLedger
 fresh-entered x s l bs e = record { books = refl; sure = fresh-sound x e }
+
+-- the bill at an entry's place
+pub sound-for : (k : Ledger) → length (k .bills) ≡ 128 → soundLedger k ≡ true → (ns ks : List ℕ) → Lists k ns ks → (b : Body) (f : Found) (p : ℕ)
+    → f ≡ findFor b (take (k .count) ns) (take (k .count) ks) → p ≡ slotOf f (k .count) → SoundAt f (billAt k p)
+unfolding findFor
+sound-for k long h ns ks w (body.Fresh x) f p e q = rw e tt
+sound-for k long h ns ks w (body.Request r) f p e q =
+    spot-sound k long (ledger-count k h) f p h (spots k (ledger-count k h) (r .identity) f p (e ∙ lists-find k ns ks w (r .identity)) q)
+sound-for k long h ns ks w body.File f p e q = rw e tt
+sound-for k long h ns ks w (body.Cancel id) f p e q =
+    spot-sound k long (ledger-count k h) f p h (spots k (ledger-count k h) id f p (e ∙ lists-find k ns ks w id) q)
+sound-for k long h ns ks w (body.Close d) f p e q = rw e tt
+sound-for k long h ns ks w body.Unread f p e q = rw e tt
 
 -- the first entry is a fresh that is taken
 abbrev pub FreshTaken : Body → Type 0

@@ -8,6 +8,7 @@ use native.Mathlib.Omega.{arith}
 use lib.ListN.{length, take, drop, replicate, length-replicate}
 use Rattle.fields.specs.Put.{put}
 use Rattle.fields.proofs.PutLaws.{length-put}
+use Rattle.ledger.specs.declared.Identity.{Identity}
 use Rattle.ledger.specs.declared.Bill.{Bill}
 use Rattle.ledger.specs.declared.Ledger.{Ledger}
 use Rattle.ledger.specs.declared.Found.{Found}
@@ -117,3 +118,34 @@ pub record Inner (src : List ℕ) (l₀ : Ledger) (ns ks : List ℕ) (from end n
   pub few : n ≤ 200
   pub long : n * 321 ≤ length (lent src from end)
   pub taking : Taking (lent src from end) n l₀ ns ks l i
+
+module _ (src : List ℕ) (l₀ : Ledger) (ns ks : List ℕ) (from end n : ℕ) (l : Ledger) (i : ℕ) (w : Inner src l₀ ns ks from end n l i) (h : i < n) where
+  pub inner-detail : isHeader (recordAt (lent src from end) i) ≡ false → Inner src l₀ ns ks from end n l (i + 1)
+  inner-detail e =
+      record {
+        low = w .low;
+        high = w .high;
+        few = w .few;
+        long = w .long;
+        taking = taking-detail (lent src from end) n l₀ ns ks l i (w .taking) h e;
+      }
+
+  module _ (f : Found) (p : ℕ) (id : Identity) (d : id ≡ identityAt (lent src from end) i n)
+      (e : f ≡ findIn id 0 (take (l .count) ns) (take (l .count) ks)) (q : p ≡ slotOf f (l .count)) where
+    pub inner-calm : CalmAt f (billAt l p)
+    inner-calm = taking-calm (lent src from end) n l₀ ns ks l i (w .taking) f p (rw d at e) q
+
+    module _ (t : Bool) (x : Settled) (y : Turns t (l .today) f (billAt l p) (groupAt (lent src from end) i n) x) where
+      pub inner-ids : x .ids ≤ 1
+      inner-ids = taking-ids (lent src from end) n l₀ ns ks l i (w .taking) f p (rw d at e) q t x y
+
+      pub inner-group : isHeader (recordAt (lent src from end) i) ≡ true → t ≡ markAt (lent src from end) n i
+          → Inner src l₀ ns ks from end n (turnedAt l p x) (i + 1)
+      inner-group k m =
+          record {
+            low = w .low;
+            high = w .high;
+            few = w .few;
+            long = w .long;
+            taking = taking-group (lent src from end) n l₀ ns ks l i (w .taking) f p (rw d at e) q t x y h (w .long) k m;
+          }

@@ -1,3 +1,11 @@
+use mathlib.Core.Bool.{true}
+use mathlib.Core.List.{List}
+use mathlib.Core.Logic.{⊎-elim}
+use Rattle.ledger.specs.Sound.{soundLedger}
+use Rattle.replay.proofs.SpotLaws.{lists-long}
+use Rattle.replay.proofs.RecordWalk.{taking-places, inner-detail, inner-calm, inner-ids, inner-group}
+use Rattle.replay.proofs.EntryLaws.{filed, filed-by, filed-sound, sound-for}
+use Rattle.replay.proofs.EntryWalk.{went-on}
 use Rattle.ledger.proofs.SoundLaws.{ledger-count}
 use Rattle.groups.proofs.ReadyLaws.{sound-ready}
 use Rattle.replay.proofs.ReaderLaws.{reader-places}
@@ -5,7 +13,7 @@ use Rattle.replay.proofs.RecordWalk.{lent, taking-start}
 use Rattle.replay.proofs.EntryLaws.{to-take-few}
 -- `replay::walk` meets its contract. The outer invariant is `Going`, the inner one `Inner`.
 use borrow.Author.Needs.{needs}
-use Prim.Native.Nat.{_+_, _-_, _*_, _≤_, _<_}
+use Prim.Native.Nat.{ℕ, _+_, _-_, _*_, _≤_, _<_}
 use mathlib.Core.Path.{_≡_, sym, _∙_}
 use native.Mathlib.Omega.{arith}
 use lib.ListN.{length}
@@ -41,6 +49,22 @@ few : (c : tie.After-records-to-take Inv-records μ-records Inv-entries μ-entri
     let s = lent (c .before .before .before .before .before .before .before .before .before .before .before .before .args .src .now) (w .at + 3) (w .at + c .before .before .before .h .given .0 .1 .0) in
     (c .records-to-take .result ≤ 200) × (c .records-to-take .result * 321 ≤ length s)
 few c = rw (c .records-to-take .ensures) (to-take-few (c .before .before .before .h .given .0 .0) _ _ _)
+
+-- past the records: the ledger is that after the file, if the entry is one
+module _ (c : tie.After-records Inv-records μ-records Inv-entries μ-entries) where
+  abbrev bytes : List ℕ
+  bytes = lent (c .before .before .before .before .before .before .before .before .before .before .before .before .before .before .before .before .args .src .now) (c .before .before .before .before .before .before .before .before .before .before .before .entries .at + 3) (c .before .before .before .before .before .before .before .before .before .before .before .entries .at + c .before .before .before .before .before .before .before .h .given .0 .1 .0)
+
+  file-taken : c .before .records .l ≡ filed (c .before .before .before .before .before .before .before .h .given .0 .0) bytes (c .before .before .before .before .before .before .before .before .before .before .before .entries .l)
+  file-taken =
+      filed-by (c .before .before .before .before .before .before .before .before .before .before .before .entries .l) _ _ (c .before .records .l) _ _ (c .before .before .before .before .before .before .before .h .given .0 .0) bytes
+      (c .before .before .before .before .before .before .before .before .before .before .before .entries .inv .places) (c .before .before .before .before .before .before .before .before .before .before .before .entries .inv .sure)
+      (c .before .records .inv .taking) (omega (arith, c .records-test .left)) (c .before .before .before .before .records-to-take .ensures)
+
+  still-sound : soundLedger (c .before .records .l) ≡ true
+  still-sound =
+      rw file-taken
+      (filed-sound (c .before .before .before .before .before .before .before .before .before .before .before .entries .l) (c .before .before .before .before .before .before .before .before .before .before .before .entries .inv .sure) (c .before .before .before .before .before .before .before .h .given .0 .0) bytes)
 
 entries-holds : tie.Need-entries-holds Inv-records μ-records Inv-entries μ-entries
 entries-holds c = going-start _ (c .before .before .before .before .args .r) (reader-places (c .before .before .before .before .args .r) _ (c .before .before .before .before .good .1 .0)) (c .before .before .before .before .pre)
@@ -138,94 +162,105 @@ identity-at-requires : tie.Need-identity-at-requires Inv-records μ-records Inv-
 identity-at-requires c κs = (c .before .before .before .before .records-test .taken, c .before .before .before .before .before .records .inv .long)
 
 place-requires : tie.Need-place-requires Inv-records μ-records Inv-entries μ-entries
-place-requires c κs = ?
+place-requires c κs = let s = taking-places _ _ _ _ _ _ _ (c .before .before .before .before .before .before .before .before .records .inv .taking) in (c .before .before .before .before .before .before .before .before .records .inv .taking .walk .few, s .0, s .1)
 
 slot-requires : tie.Need-slot-requires Inv-records μ-records Inv-entries μ-entries
 slot-requires c κs = tt
 
 mul-old : tie.Need-mul-old Inv-records μ-records Inv-entries μ-entries
-mul-old c = ?
+mul-old c = omega (arith, c .slot .ensures .1)
 
 element-copy-out-old : tie.Need-element-copy-out-old Inv-records μ-records Inv-entries μ-entries
-element-copy-out-old c = ?
+element-copy-out-old c = c .slot .ensures .1
 
 sub-turn : tie.Need-sub-turn Inv-records μ-records Inv-entries μ-entries
-sub-turn c = ?
+sub-turn c = c .before .before .before .before .before .before .before .before .before .before .before .before .records .inv .low
 
 part-turn-start : tie.Need-part-turn-start Inv-records μ-records Inv-entries μ-entries
-part-turn-start c = ?
+part-turn-start c = omega (arith, c .before .before .before .before .before .before .before .before .before .before .before .before .records .inv .low)
 
 part-turn-end : tie.Need-part-turn-end Inv-records μ-records Inv-entries μ-entries
-part-turn-end c = ?
+part-turn-end c = omega (arith, c .before .before .before .before .before .before .before .before .before .before .before .before .records .inv .low, c .before .before .before .before .before .before .before .before .before .before .before .before .records .inv .high)
 
 array-read-turn : tie.Need-array-read-turn Inv-records μ-records Inv-entries μ-entries
-array-read-turn c = ?
+array-read-turn c = omega (arith, c .before .before .before .before .before .before .before .before .before .before .before .before .before .records .inv .few, c .before .before .before .before .before .before .before .before .before .before .before .before .records-test .taken)
 
 turn-requires : tie.Need-turn-requires Inv-records μ-records Inv-entries μ-entries
-turn-requires c κs = ?
+turn-requires c κs = ((c .before .before .before .before .before .before .before .before .before .before .before .before .records-test .taken, c .before .before .before .before .before .before .before .before .before .before .before .before .before .records .inv .long), inner-calm _ _ _ _ _ _ _ _ _ (c .before .before .before .before .before .before .before .before .before .before .before .before .before .records .inv) (c .before .before .before .before .before .before .before .before .before .before .before .before .records-test .taken) (c .before .before .before .before .place .result) (c .before .before .before .slot .result) (c .before .before .before .before .before .before .before .identity-at .result) (c .before .before .before .before .before .before .before .identity-at .ensures) (c .before .before .before .before .place .ensures) (c .before .before .before .slot .ensures .0))
 
 mul-new : tie.Need-mul-new Inv-records μ-records Inv-entries μ-entries
-mul-new c = ?
+mul-new c = omega (arith, c .before .before .before .before .before .slot .ensures .1)
 
 element-set-from-new : tie.Need-element-set-from-new Inv-records μ-records Inv-entries μ-entries
-element-set-from-new c = ?
+element-set-from-new c = c .before .before .before .before .before .slot .ensures .1
 
 add-l : tie.Need-add-l Inv-records μ-records Inv-entries μ-entries
-add-l c = ?
+add-l c = let h = c .before .before .before .before .before .before .before .before .before .before .before .before .before .before .before .before .records .inv .taking .walk in
+    let x = inner-ids _ _ _ _ _ _ _ _ _ (c .before .before .before .before .before .before .before .before .before .before .before .before .before .before .before .before .records .inv) (c .before .before .before .before .before .before .before .before .before .before .before .before .before .before .before .records-test .taken) (c .before .before .before .before .before .before .before .place .result) (c .before .before .before .before .before .before .slot .result) (c .before .before .before .before .before .before .before .before .before .before .identity-at .result) (c .before .before .before .before .before .before .before .before .before .before .identity-at .ensures) (c .before .before .before .before .before .before .before .place .ensures) (c .before .before .before .before .before .before .slot .ensures .0) _ (c .before .before .turn .result) (c .before .before .turn .ensures) in
+    omega (arith, h .tracking, x, c .before .before .before .before .before .before .before .before .before .before .before .before .before .before .before .before .records .inv .few, c .before .before .before .before .before .before .before .before .before .before .before .before .before .before .before .records-test .taken)
 
 add-l-2 : tie.Need-add-l-2 Inv-records μ-records Inv-entries μ-entries
-add-l-2 c = ?
+add-l-2 c = let h = c .before .before .before .before .before .before .before .before .before .before .before .before .before .before .before .before .records .inv .taking .walk in omega (arith, h .confirmation, c .before .before .before .before .before .before .before .before .before .before .before .before .before .before .before .before .records .inv .few, c .before .before .before .before .before .before .before .before .before .before .before .before .before .before .before .records-test .taken)
 
 add-i : tie.Need-add-i Inv-records μ-records Inv-entries μ-entries
-add-i c = ?
+add-i c = omega (arith, c .before .before .before .before .records .inv .few, c .before .before .before .records-test .taken)
 
 records-less : tie.Need-records-less Inv-records μ-records Inv-entries μ-entries
-records-less c = ?
+records-less c = omega (arith, c .before .before .before .records-test .taken)
 
 records-again : tie.Need-records-again Inv-records μ-records Inv-entries μ-entries
-records-again c = ?
+records-again c = let v = c .before .before .before .before .records .inv in
+    let h = c .before .before .before .records-test .taken in
+    ⊎-elim
+    (λ w.
+    rw (w .13)
+    (inner-group _ _ _ _ _ _ _ _ _ v h (w .5 .result) (w .6 .result) (w .2 .result) (w .2 .ensures) (w .5 .ensures) (w .6 .ensures .0) _ (w .10 .result) (w .10 .ensures)
+    (sym (c .before .header-at .ensures) ∙ w .0 .taken) (c .before .before .before .before .before .duplicates .ensures .0 _ h)))
+    (λ w. rw (w .1) (inner-detail _ _ _ _ _ _ _ _ _ v h (sym (c .before .header-at .ensures) ∙ w .0 .left)))
+    (c .if1 .came)
 
 place-for-requires : tie.Need-place-for-requires Inv-records μ-records Inv-entries μ-entries
-place-for-requires c κs = ?
+place-for-requires c κs = let s = taking-places _ _ _ _ _ _ _ (c .before .before .before .records .inv .taking) in (c .before .before .before .records .inv .taking .walk .few, s .0, s .1)
 
 slot-requires-2 : tie.Need-slot-requires-2 Inv-records μ-records Inv-entries μ-entries
-slot-requires-2 c κs = ?
+slot-requires-2 c κs = tt
 
 mul-b : tie.Need-mul-b Inv-records μ-records Inv-entries μ-entries
-mul-b c = ?
+mul-b c = omega (arith, c .before .slot2 .ensures .1)
 
 element-copy-out-b : tie.Need-element-copy-out-b Inv-records μ-records Inv-entries μ-entries
-element-copy-out-b c = ?
+element-copy-out-b c = c .before .slot2 .ensures .1
 
 settle-requires : tie.Need-settle-requires Inv-records μ-records Inv-entries μ-entries
-settle-requires c κs = ?
+settle-requires c κs = let r = sound-ready _ (still-sound (c .before .before .before .before .before .before)) in
+    ((r .tracking, r .confirmation, r .count), sound-for _ (c .before .before .before .before .before .before .before .records .inv .taking .walk .places) (still-sound (c .before .before .before .before .before .before)) _ _ (c .before .before .before .before .before .before .before .records .inv .taking .lists) (c .before .before .before .before .before .before .before .before .before .before .before .before .before .h .given .0 .0) (c .before .before .before .place-for .result) (c .before .before .slot2 .result) (c .before .before .before .place-for .ensures) (c .before .before .slot2 .ensures .0))
 
 mul-accounts : tie.Need-mul-accounts Inv-records μ-records Inv-entries μ-entries
-mul-accounts c = ?
+mul-accounts c = omega (arith, c .before .before .before .before .before .before .slot2 .ensures .1)
 
 array-write-accounts : tie.Need-array-write-accounts Inv-records μ-records Inv-entries μ-entries
-array-write-accounts c = ?
+array-write-accounts c = c .before .before .before .before .before .before .slot2 .ensures .1
 
 mul-keys : tie.Need-mul-keys Inv-records μ-records Inv-entries μ-entries
-mul-keys c = ?
+mul-keys c = omega (arith, c .before .before .before .before .before .before .slot2 .ensures .1)
 
 array-write-keys : tie.Need-array-write-keys Inv-records μ-records Inv-entries μ-entries
-array-write-keys c = ?
+array-write-keys c = c .before .before .before .before .before .before .slot2 .ensures .1
 
 mul-c : tie.Need-mul-c Inv-records μ-records Inv-entries μ-entries
-mul-c c = ?
+mul-c c = omega (arith, c .before .before .before .before .before .before .slot2 .ensures .1)
 
 element-set-from-c : tie.Need-element-set-from-c Inv-records μ-records Inv-entries μ-entries
-element-set-from-c c = ?
+element-set-from-c c = c .before .before .before .before .before .before .slot2 .ensures .1
 
 add-seen : tie.Need-add-seen Inv-records μ-records Inv-entries μ-entries
-add-seen c = ?
+add-seen c = omega (arith, whole (c .before .before .before .before .before .before .before .before .before .before .before .before .before .before .before .before) .2)
 
 entries-less : tie.Need-entries-less Inv-records μ-records Inv-entries μ-entries
-entries-less c = ?
+entries-less c = omega (arith, whole (c .before .before .before .before .before .before .before .before .before .before .before .before .before .before .before .before) .0, whole (c .before .before .before .before .before .before .before .before .before .before .before .before .before .before .before .before) .1)
 
 entries-again : tie.Need-entries-again Inv-records μ-records Inv-entries μ-entries
-entries-again c = ?
+entries-again c = went-on _ (c .before .before .before .before .before .before .before .before .before .before .before .before .before .before .before .before .before .before .before .before .before .before .before .before .before .before .args .r) _ _ _ _ _ (c .before .before .before .before .before .before .before .before .before .before .before .before .before .before .before .before .before .before .before .before .before .entries .inv) (c .before .before .before .before .before .before .before .before .before .before .before .before .before .before .before .before .before .h .given .0 .0) _ (sym (c .before .before .before .before .before .before .before .before .before .before .before .before .before .before .before .before .before .before .before .head-at .ensures) ∙ c .before .before .before .before .before .before .before .before .before .before .before .before .before .before .before .before .before .h .given .1) (c .before .before .before .before .before .before .before .before .before .before .before .records .l) (c .before .before .before .before .before .before .before .before .before .before .before .records .inv .taking .lists) (c .before .before .before .before .before .before .before .before .before .before .before .records .inv .taking .walk .places) (file-taken (c .before .before .before .before .before .before .before .before .before .before)) (c .before .before .before .before .before .before .before .place-for .result) (c .before .before .before .before .before .before .slot2 .result) (c .before .before .before .settle .result) (c .before .before .before .before .before .before .before .place-for .ensures) (c .before .before .before .before .before .before .slot2 .ensures .0) (c .before .before .before .settle .ensures)
 
 pub walk-spec : {M : Type 1} → statement M
 walk-spec =
