@@ -8,12 +8,7 @@ use ledger::Found;
 use ledger::Identity;
 
 // The place of an identity among the first n.
-pub fn place<'a>(
-    accounts: &'a [u64; 128],
-    keys: &'a [u64; 128],
-    n: usize,
-    id: Identity,
-) -> Found
+pub fn place<'a>(accounts: &'a [u64; 128], keys: &'a [u64; 128], n: usize, id: Identity) -> Found
     requires { ⌜ (n ≤ 128) × (length (now accounts) ≡ 128) × (length (now keys) ≡ 128) ⌝ }
     ensures { λ r. ⌜ r ≡ findIn id 0 (take n (now (accounts .entry))) (take n (now (keys .entry))) ⌝ }
 {
@@ -31,12 +26,7 @@ pub fn place<'a>(
 }
 
 // The place among the first n that an entry is about.
-pub fn place_for<'a>(
-    accounts: &'a [u64; 128],
-    keys: &'a [u64; 128],
-    n: usize,
-    body: Body,
-) -> Found
+pub fn place_for<'a>(accounts: &'a [u64; 128], keys: &'a [u64; 128], n: usize, body: Body) -> Found
     requires { ⌜ (n ≤ 128) × (length (now accounts) ≡ 128) × (length (now keys) ≡ 128) ⌝ }
     ensures { λ r. ⌜ r ≡ findFor body (take n (now (accounts .entry))) (take n (now (keys .entry))) ⌝ }
 {

@@ -46,14 +46,7 @@ pub fn sought_by(f: Found, b: Bill) -> Sought
 }
 
 // Lines 1 to 10 for the group whose header is record i; duplicate says what line 3 asks.
-fn decide(
-    s: &[u8],
-    i: usize,
-    n: usize,
-    duplicate: bool,
-    b: Sought,
-    today: Date,
-) -> Verdict
+fn decide(s: &[u8], i: usize, n: usize, duplicate: bool, b: Sought, today: Date) -> Verdict
     requires { ⌜ (i < n) × (n * 321 ≤ length (now s)) ⌝ }
     ensures { λ r. ⌜ Decides duplicate today b (groupAt (now (s .entry)) i n) r ⌝ }
 {
