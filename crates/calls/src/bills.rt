@@ -36,7 +36,7 @@ fn product_of(x: u8) -> Product
 }
 
 // What a bill has from a request that takes this Tracking ID.
-fn latest_of(r: Request, tracking: u64) -> Latest
+pub fn latest_of(r: Request, tracking: u64) -> Latest
     ensures { λ a. ⌜ a ≡ latestOf r tracking ⌝ }
 {
     let consumption = r.consumption;
@@ -53,7 +53,7 @@ fn latest_of(r: Request, tracking: u64) -> Latest
 }
 
 // The bill of a new identity.
-fn new_bill(r: Request, tracking: u64) -> Bill
+pub fn new_bill(r: Request, tracking: u64) -> Bill
     ensures { λ a. ⌜ a ≡ newBill r tracking ⌝ }
 {
     let code = r.code;

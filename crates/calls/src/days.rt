@@ -66,7 +66,7 @@ pub fn fresh(l: Ledger, s: Start) -> Called
 }
 
 // The cause against a close of day, if there is one.
-fn close_check(d: Date, today: Date) -> Check
+pub fn close_check(d: Date, today: Date) -> Check
     ensures { λ r. ⌜ r ≡ first (closeCauses d today) ⌝ }
 {
     if !d.valid() {

@@ -13,7 +13,7 @@ use ledger::Ledger;
 use verdict::Check;
 
 // Causes 11, 1 and 12 of a file: room is the length of the output lent for its answers.
-fn file_check(s: &[u8], room: usize, tracking: u64, confirmation: u64) -> Check
+pub fn file_check(s: &[u8], room: usize, tracking: u64, confirmation: u64) -> Check
     requires { ⌜ (tracking ≤ 1000000000) × (confirmation ≤ 1000000000) ⌝ }
     ensures { λ r. ⌜ r ≡ first (fileCauses (now (s .entry)) room tracking confirmation) ⌝ }
 {

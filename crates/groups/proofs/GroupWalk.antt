@@ -123,7 +123,7 @@ module _ (t : Bool) (l : Ledger) (g : Group) where
       go (Rejected n) = (omega arith, omega arith)
 
 -- the answer to the group of record i is at most as long as the group
-answer-long : (t : Bool) (l : Ledger) (s : List ℕ) (i n : ℕ) → i < n → n * 321 ≤ length s
+pub answer-long : (t : Bool) (l : Ledger) (s : List ℕ) (i n : ℕ) → i < n → n * 321 ≤ length s
     → length (answerBy t l (groupAt s i n)) ≤ (1 + leading (after s i n)) * 321
 unfolding answerTo
 answer-long t l s i n h b = go (comes t l (groupAt s i n))

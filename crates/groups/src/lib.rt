@@ -32,7 +32,7 @@ pub enum Decision {
 }
 
 // The identity that a header and a detail name.
-fn identity_of(h: &[u8], d: &[u8]) -> Identity
+pub fn identity_of(h: &[u8], d: &[u8]) -> Identity
     requires { ⌜ (321 ≤ length (now h)) × (321 ≤ length (now d)) ⌝ }
     ensures { λ r. ⌜ r ≡ identityIn (now (h .entry)) (now (d .entry)) ⌝ }
 {
@@ -116,7 +116,7 @@ fn takes_id(sup: bool, d: Decision) -> bool
     }
 }
 
-fn ids_used(takes: bool) -> u64
+pub fn ids_used(takes: bool) -> u64
     ensures { λ r. ⌜ (r ≡ cond takes 1 0) × (r ≤ 1) ⌝ }
 {
     if takes { 1 } else { 0 }

@@ -1,0 +1,253 @@
+-- What an entry does on small values and in place is what its call does. Assumes nothing.
+use Prim.Native.Nat.{ℕ, _+_, _*_, _/_, _≤_, _<_}
+use mathlib.Core.Path.{_≡_, refl, sym, ap, _∙_, subst}
+use mathlib.Core.Bool.{true, false, true≢false}
+use mathlib.Core.List.{List, [], _∷_}
+use native.Mathlib.Omega.{arith}
+use lib.ListN.{length, take}
+use lib.Seq.{set-getD}
+use borrow.Author.Tests.{lt-ltb}
+use Rattle.units.specs.declared.Date.{Date}
+use Rattle.ledger.specs.declared.Identity.{Identity}
+use Rattle.ledger.specs.declared.Bill.{Bill}
+use Rattle.ledger.specs.declared.Ledger.{Ledger}
+use Rattle.ledger.specs.declared.Found.{Found}
+use Rattle.ledger.specs.declared.Found.the-variants.{At, Nothing}
+use Rattle.ledger.specs.Bills.{cancelledBill, blankBill}
+use Rattle.ledger.specs.Books.{book, live, stored, placeOf}
+use Rattle.ledger.specs.Sound.{soundLedger}
+use Rattle.ledger.proofs.SoundLaws.{ledger-count}
+use Rattle.notices.specs.Layout.{recordsFrom}
+use Rattle.file.specs.File.{groups}
+use Rattle.verdict.specs.declared.Check.{Check}
+use Rattle.verdict.specs.declared.Check.the-variants.{Clear, Stop}
+use Rattle.verdict.specs.declared.Sought.{Sought}
+use Rattle.verdict.specs.Rules.{first}
+use Rattle.verdict.specs.Lines.{isNothing}
+use Rattle.groups.specs.Groups.{taken}
+use Rattle.groups.specs.Steps.{billAt}
+use Rattle.groups.proofs.TurnLaws.{stored-book}
+use Rattle.calls.specs.declared.Start.{Start}
+use Rattle.calls.specs.declared.Request.{Request}
+use Rattle.calls.specs.declared.Called.{Called}
+use Rattle.calls.specs.Causes.{Call, request, file, cancel, close, freshCauses, requestCauses, fileCauses, cancelCauses, closeCauses, causes}
+use Rattle.calls.specs.Machine.{next, causeIn, called, ran}
+use Rattle.calls.specs.BillSteps.{billFound, askedAt, storedAt, counted, HasPlace}
+use Rattle.calls.proofs.CallLaws.{cause-sound, called-stop, called-clear}
+use Rattle.calls.proofs.CauseLaws.{asks, sends, cancels}
+use Rattle.calls.proofs.BillLaws.{request-cause, request-place, request-left, cancel-cause, cancel-left}
+use Rattle.calls.proofs.DayLaws.{dated, close-done, fresh-sound}
+use Rattle.calls.proofs.FileCallLaws.{good-short, file-groups, cause-file}
+use Rattle.calls.proofs.RunLaws.{runs}
+use Rattle.journal.specs.declared.Body.{Body}
+use Rattle.journal.specs.declared.Body.the-variants as body
+use Rattle.journal.specs.Journal.{callOf, made}
+use Rattle.journal.proofs.MakeLaws as make
+use Rattle.replay.specs.Steps.{findFor, slotOf, soughtBy, SoundAt, RenewsAt, recordsBy, toTake, askedBy, grown, kept, usedBy, requestBy, cancelBy, closeBy, freshTop, leftBy, topOf, leftAt}
+use Rattle.replay.proofs.SpotLaws.{Lists, lists-find, Spots, none, some, spots, spot-sought, spot-sound}
+use Rattle.replay.proofs.RecordWalk.{Taking, taking-end}
+
+-- a known bill that no cause is against has room for a request more
+pub renews : (r : Request) (room : ℕ) (today : Date) (tracking confirmation held : ℕ) (f : Found) (b : Bill) → SoundAt f b
+    → first (requestCauses r room today tracking confirmation held (soughtBy f b)) ≡ Clear → RenewsAt f b
+renews r room today tracking confirmation held Nothing b h e = tt
+renews r room today tracking confirmation held (At p) b h e =
+    let n = asks r room today tracking confirmation held (soughtBy (At p) b) e .known (b .terms) refl .1 in
+    (h .0, omega (arith, h .1, n))
+
+-- ---- a file's groups, which are taken first
+-- those that are taken are within the entry's bytes
+pub to-take-few : (b : Body) (s : List ℕ) (tracking confirmation : ℕ)
+    → (toTake b s tracking confirmation ≤ 200) × (toTake b s tracking confirmation * 321 ≤ length s)
+unfolding toTake
+to-take-few (body.Fresh x) s t c = (omega arith, omega arith)
+to-take-few (body.Request r) s t c = (omega arith, omega arith)
+to-take-few (body.Cancel id) s t c = (omega arith, omega arith)
+to-take-few (body.Close d) s t c = (omega arith, omega arith)
+to-take-few body.Unread s t c = (omega arith, omega arith)
+to-take-few body.File s t c = go (first (fileCauses s 64200 t c)) refl
+  where
+    go : (k : Check) → first (fileCauses s 64200 t c) ≡ k
+        → (recordsBy (first (fileCauses s 64200 t c)) (length s / 321) ≤ 200)
+        × (recordsBy (first (fileCauses s 64200 t c)) (length s / 321) * 321 ≤ length s)
+    go Clear e = rw e (omega (arith, good-short s (sends s 64200 t c e .good)), omega arith)
+    go (Stop m) e = rw e (omega arith, omega arith)
+
+-- one call on the struct
+module _ (l : Ledger) (c : Call) where
+  ran-clear : causeIn l c ≡ Clear → ran l (c ∷ []) ≡ stored l (next (book l) c)
+  unfolding ran
+  ran-clear e = sym (ap (λ (r : Called). r .ledger) (called-clear l c e _ _ refl refl))
+
+  ran-stop : (n : ℕ) → causeIn l c ≡ Stop n → ran l (c ∷ []) ≡ l
+  unfolding ran
+  ran-stop n e = sym (ap (λ (r : Called). r .ledger) (called-stop l c n e))
+
+-- the struct after them: only a file has any
+abbrev pub filed : Body → List ℕ → Ledger → Ledger
+filed (body.Fresh x) s l = l
+filed (body.Request r) s l = l
+filed body.File s l = ran l (file s 64200 ∷ [])
+filed (body.Cancel id) s l = l
+filed (body.Close d) s l = l
+filed body.Unread s l = l
+
+module _ (l : Ledger) (long : length (l .bills) ≡ 128) (sure : soundLedger l ≡ true) where
+  fits : l .count ≤ length (l .bills)
+  fits = omega (arith, ledger-count l sure)
+
+  abbrev takes : List ℕ → ℕ → Ledger
+  takes s n = stored l (taken [] (book l) (groups (recordsFrom s 0 n)))
+
+  takes-none : (s : List ℕ) → takes s 0 ≡ l
+  unfolding recordsFrom groups taken
+  takes-none s = stored-book l fits
+
+  file-filed : (s : List ℕ) (k : Check) → first (fileCauses s 64200 (l .«next_tracking») (l .«next_confirmation»)) ≡ k
+      → takes s (recordsBy k (length s / 321)) ≡ ran l (file s 64200 ∷ [])
+  unfolding next
+  file-filed s Clear e =
+      sym (ran-clear l (file s 64200) (cause-file l s 64200 Clear sure (sym e)) ∙ ap (λ gs. stored l (taken [] (book l) gs)) (file-groups s))
+  file-filed s (Stop n) e = takes-none s ∙ sym (ran-stop l (file s 64200) n (cause-file l s 64200 (Stop n) sure (sym e)))
+
+  pub takes-filed : (b : Body) (s : List ℕ) → takes s (toTake b s (l .«next_tracking») (l .«next_confirmation»)) ≡ filed b s l
+  unfolding toTake
+  takes-filed (body.Fresh x) s = takes-none s
+  takes-filed (body.Request r) s = takes-none s
+  takes-filed body.File s = file-filed s (first (fileCauses s 64200 (l .«next_tracking») (l .«next_confirmation»))) refl
+  takes-filed (body.Cancel id) s = takes-none s
+  takes-filed (body.Close d) s = takes-none s
+  takes-filed body.Unread s = takes-none s
+
+-- what came of the walk over the records
+pub filed-by : (l : Ledger) (ns ks : List ℕ) (k : Ledger) (n i : ℕ) (b : Body) (s : List ℕ) → length (l .bills) ≡ 128 → soundLedger l ≡ true
+    → Taking s n l ns ks k i → n ≤ i → n ≡ toTake b s (l .«next_tracking») (l .«next_confirmation») → k ≡ filed b s l
+filed-by l ns ks k n i b s long sure w h e = taking-end s n l ns ks k i w h ∙ ap (takes l long sure s) e ∙ takes-filed l long sure b s
+
+pub filed-sound : (l : Ledger) → soundLedger l ≡ true → (b : Body) (s : List ℕ) → soundLedger (filed b s l) ≡ true
+filed-sound l h (body.Fresh x) s = h
+filed-sound l h (body.Request r) s = h
+filed-sound l h body.File s = runs l h (file s 64200 ∷ []) .kept
+filed-sound l h (body.Cancel id) s = h
+filed-sound l h (body.Close d) s = h
+filed-sound l h body.Unread s = h
+
+-- ---- the other entries
+-- the same top and the same bill stored leave the struct as it was
+pub kept-same : (l : Ledger) (p : ℕ) → leftAt l p (kept (topOf l) (billAt l p)) ≡ l
+kept-same l p = rw (set-getD (l .bills) p blankBill)
+
+module _ (l : Ledger) (long : length (l .bills) ≡ 128) (sure : soundLedger l ≡ true) (f : Found) (p : ℕ) (q : p ≡ slotOf f (l .count)) where
+  -- a request
+  module _ (r : Request) (e : f ≡ placeOf (r .identity) (live l)) where
+    asks-at : Spots l f p → HasPlace l f
+        → leftAt l p (kept (usedBy (topOf l) (grown f (l .count))) (askedBy r (l .«next_tracking») f (billAt l p))) ≡ counted (storedAt l f (askedAt r l f))
+    asks-at (none x y) h =
+        let k : l .count < 128 = rw x at h in
+        let z : p ≡ l .count = y ∙ rw (lt-ltb (l .count) 128 k) in
+        rw (x, z)
+    asks-at (some x y) h = rw x
+
+    request-by : (k : Check)
+        → first (requestCauses r 64200 (l .today) (l .«next_tracking») (l .«next_confirmation») (l .count) (soughtBy f (billAt l p))) ≡ k
+        → leftAt l p (requestBy k r (topOf l) f (billAt l p)) ≡ ran l (request r 64200 ∷ [])
+    request-by Clear z =
+        let c = request-cause l long sure r 64200 e (spot-sought l f p (spots l (ledger-count l sure) (r .identity) f p e q)) (sym z) in
+        asks-at (spots l (ledger-count l sure) (r .identity) f p e q) (rw e (request-place l long r 64200 c))
+        ∙ ap (λ (i : Found). counted (storedAt l i (askedAt r l i))) e
+        ∙ request-left l long r 64200 c
+        ∙ sym (ran-clear l (request r 64200) c)
+    request-by (Stop n) z =
+        let c = request-cause l long sure r 64200 e (spot-sought l f p (spots l (ledger-count l sure) (r .identity) f p e q)) (sym z) in
+        kept-same l p ∙ sym (ran-stop l (request r 64200) n c)
+
+  -- a cancel
+  module _ (id : Identity) (e : f ≡ placeOf id (live l)) where
+    cancels-at : Spots l f p → isNothing (soughtBy f (billAt l p)) ≡ false
+        → leftAt l p (kept (usedBy (topOf l) (l .count)) (cancelledBill (billAt l p))) ≡ counted (storedAt l f (cancelledBill (billFound l f)))
+    cancels-at (none x y) h = absurd (true≢false (subst (λ (i : Found). isNothing (soughtBy i (billAt l p)) ≡ false) x h))
+    cancels-at (some x y) h = rw x
+
+    cancel-by : (k : Check) → first (cancelCauses id 64200 (l .«next_tracking») (l .«next_confirmation») (soughtBy f (billAt l p))) ≡ k
+        → leftAt l p (cancelBy k (topOf l) (billAt l p)) ≡ ran l (cancel id 64200 ∷ [])
+    cancel-by Clear z =
+        let c = cancel-cause l long sure id 64200 e (spot-sought l f p (spots l (ledger-count l sure) id f p e q)) (sym z) in
+        cancels-at (spots l (ledger-count l sure) id f p e q) (cancels id 64200 (l .«next_tracking») (l .«next_confirmation») (soughtBy f (billAt l p)) z .known)
+        ∙ ap (λ (i : Found). counted (storedAt l i (cancelledBill (billFound l i)))) e
+        ∙ cancel-left l long id 64200 c
+        ∙ sym (ran-clear l (cancel id 64200) c)
+    cancel-by (Stop n) z =
+        let c = cancel-cause l long sure id 64200 e (spot-sought l f p (spots l (ledger-count l sure) id f p e q)) (sym z) in
+        kept-same l p ∙ sym (ran-stop l (cancel id 64200) n c)
+
+  -- a close
+  module _ (d : Date) where
+    close-cause : (k : Check) → first (closeCauses d (l .today)) ≡ k → causeIn l (close d) ≡ k
+    unfolding causes
+    close-cause k z = cause-sound l (close d) sure ∙ z
+
+    close-by : (k : Check) → first (closeCauses d (l .today)) ≡ k → leftAt l p (kept (closeBy k d (topOf l)) (billAt l p)) ≡ ran l (close d ∷ [])
+    unfolding ran
+    close-by Clear z =
+        kept-same (dated l d) p
+        ∙ sym (ap (λ (r : Called). r .ledger) (close-done l d (omega (arith, ledger-count l sure)) (close-cause Clear z)))
+    close-by (Stop n) z = kept-same l p ∙ sym (ran-stop l (close d) n (close-cause (Stop n) z))
+
+unread-by : (l : Ledger) (p : ℕ) → leftAt l p (kept (topOf l) (billAt l p)) ≡ ran l []
+unfolding ran
+unread-by l p = kept-same l p
+
+-- ---- an entry, its groups taken
+-- the book that an entry leaves, and that it is sound
+pub record Entered (b : Body) (s : List ℕ) (l k : Ledger) : Type 0 where
+  pub books : book k ≡ made b s (book l)
+  pub sure : soundLedger k ≡ true
+
+entered-by : (b : Body) (s : List ℕ) (l k : Ledger) → soundLedger l ≡ true → make.NoFresh b → k ≡ ran l (callOf b s) → Entered b s l k
+entered-by b s l k h n e =
+    record {
+      books = ap book e ∙ runs l h (callOf b s) .ledger ∙ sym (make.made-after b s (book l) n);
+      sure = rw e (runs l h (callOf b s) .kept);
+    }
+
+fresh-entered : (x : Start) (s : List ℕ) (l : Ledger) (bs : List Bill) → first (freshCauses x) ≡ Clear
+    → Entered (body.Fresh x) s l (record { today = x .today; «next_tracking» = x .tracking; «next_confirmation» = x .confirmation; count = 0; bills = bs })
+unfolding soundLedger
+fresh-entered x s l bs e = record { books = refl; sure = fresh-sound x e }
+
+-- the bill at an entry's place
+pub sound-for : (k : Ledger) → length (k .bills) ≡ 128 → soundLedger k ≡ true → (ns ks : List ℕ) → Lists k ns ks → (b : Body) (f : Found) (p : ℕ)
+    → f ≡ findFor b (take (k .count) ns) (take (k .count) ks) → p ≡ slotOf f (k .count) → SoundAt f (billAt k p)
+unfolding findFor
+sound-for k long h ns ks w (body.Fresh x) f p e q = rw e tt
+sound-for k long h ns ks w (body.Request r) f p e q =
+    spot-sound k long (ledger-count k h) f p h (spots k (ledger-count k h) (r .identity) f p (e ∙ lists-find k ns ks w (r .identity)) q)
+sound-for k long h ns ks w body.File f p e q = rw e tt
+sound-for k long h ns ks w (body.Cancel id) f p e q =
+    spot-sound k long (ledger-count k h) f p h (spots k (ledger-count k h) id f p (e ∙ lists-find k ns ks w id) q)
+sound-for k long h ns ks w (body.Close d) f p e q = rw e tt
+sound-for k long h ns ks w body.Unread f p e q = rw e tt
+
+-- the first entry is a fresh that is taken
+abbrev pub FreshTaken : Body → Type 0
+FreshTaken b = (x : Start) → b ≡ body.Fresh x → first (freshCauses x) ≡ Clear
+
+module _ (l : Ledger) (sure : soundLedger l ≡ true) (k : Ledger) (long : length (k .bills) ≡ 128) (ns ks : List ℕ) (w : Lists k ns ks) (s : List ℕ) where
+  -- a call of a body that is no file
+  module _ (b : Body) (n : make.NoFresh b) (z : k ≡ l) (x : Ledger) where
+    by-call : (soundLedger k ≡ true → x ≡ ran k (callOf b s)) → Entered b s l x
+    by-call e =
+        let h : soundLedger k ≡ true = rw z sure in
+        subst (λ (y : Ledger). Entered b s y x) z (entered-by b s k x h n (e h))
+
+  pub entered : (b : Body) → k ≡ filed b s l → FreshTaken b → (f : Found) (p : ℕ) → f ≡ findFor b (take (k .count) ns) (take (k .count) ks)
+      → p ≡ slotOf f (k .count) → Entered b s l (leftAt k p (leftBy b (topOf k) f (billAt k p)))
+  unfolding findFor leftBy
+  entered (body.Fresh x) z t f p e q = fresh-entered x s l _ (t x refl)
+  entered (body.Request r) z t f p e q =
+      by-call (body.Request r) (make.request r) z _ (λ h. request-by k long h f p q r (e ∙ lists-find k ns ks w (r .identity)) _ refl)
+  entered body.File z t f p e q = entered-by body.File s l _ sure make.file (kept-same k p ∙ z)
+  entered (body.Cancel id) z t f p e q =
+      by-call (body.Cancel id) (make.cancel id) z _ (λ h. cancel-by k long h f p q id (e ∙ lists-find k ns ks w id) _ refl)
+  entered (body.Close d) z t f p e q = by-call (body.Close d) (make.close d) z _ (λ h. close-by k long h f p q d _ refl)
+  entered body.Unread z t f p e q = by-call body.Unread make.unread z _ (λ h. unread-by k p)

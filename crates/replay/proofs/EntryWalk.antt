@@ -1,0 +1,169 @@
+-- The walk over the entries at the start of some bytes. Assumes nothing.
+use Prim.Native.Nat.{ℕ, suc, _+_, _-_, _*_, _≤_, _<_}
+use mathlib.Core.Path.{_≡_, refl, sym, ap, _∙_, subst}
+use mathlib.Core.Bool.{Bool, true, false}
+use mathlib.Core.List.{List, [], _∷_, map}
+use native.Mathlib.Omega.{arith}
+use native.Mathlib.Nat.{add-zero}
+use lib.Dec.{eqb}
+use lib.ListN.{length, set, take, drop, length-set, length-drop, length-take}
+use lib.Seq.{take-all, drop-drop}
+use Rattle.fields.specs.Put.{part}
+use Rattle.ledger.specs.declared.Ledger.{Ledger}
+use Rattle.ledger.specs.declared.Found.{Found}
+use Rattle.ledger.specs.Books.{Book, book}
+use Rattle.ledger.specs.Sound.{soundLedger}
+use Rattle.verdict.specs.declared.Check.the-variants.{Clear}
+use Rattle.verdict.specs.Rules.{first}
+use Rattle.groups.specs.Steps.{billAt}
+use Rattle.groups.proofs.PlaceLaws.{cases}
+use Rattle.calls.specs.declared.Start.{Start}
+use Rattle.calls.specs.Causes.{freshCauses}
+use Rattle.journal.specs.declared.Body.{Body}
+use Rattle.journal.specs.declared.Body.the-variants as body
+use Rattle.journal.specs.declared.Head.{Head}
+use Rattle.journal.specs.declared.Head.the-variants.{Cut, Bad, Whole}
+use Rattle.journal.specs.Entries.{headOf}
+use Rattle.journal.specs.Journal.{Entry, Parsed, parse, made, makes}
+use Rattle.journal.proofs.HeadLaws.{tagIn, lengthIn, whole-is, whole-fits}
+use Rattle.journal.proofs.JournalLaws.{parse-cut, parse-bad, parse-whole}
+use Rattle.journal.proofs.MakeLaws as make
+use Rattle.replay.specs.declared.Reader.{Reader}
+use Rattle.replay.specs.declared.Walked.{Walked}
+use Rattle.replay.specs.declared.settle.Left.{Left}
+use Rattle.replay.specs.Reader.{accountOf, keyOf, Good, Walks}
+use Rattle.replay.specs.Steps.{findFor, slotOf, leftBy, topOf, leftAt}
+use Rattle.replay.proofs.SearchLaws.{map-set}
+use Rattle.replay.proofs.SpotLaws.{Lists}
+use Rattle.replay.proofs.EntryLaws.{filed, Entered, FreshTaken, entered}
+
+-- ---- a fresh stands only where it is taken
+no-fresh : (b : Body) (x : Start) → make.NoFresh b → b ≡ body.Fresh x → ⊥
+no-fresh b x (make.request r) e = let z : _≡_ {A = ℕ} 0 1 = cc in omega arith
+no-fresh b x make.file e = let z : _≡_ {A = ℕ} 0 1 = cc in omega arith
+no-fresh b x (make.cancel id) e = let z : _≡_ {A = ℕ} 0 1 = cc in omega arith
+no-fresh b x (make.close d) e = let z : _≡_ {A = ℕ} 0 1 = cc in omega arith
+no-fresh b x make.unread e = let z : _≡_ {A = ℕ} 0 1 = cc in omega arith
+
+started : (b : Body) (x : Start) → make.Starts b → b ≡ body.Fresh x → first (freshCauses x) ≡ Clear
+started b x (make.starts y c k) e = let z : x ≡ y = cc in rw z c
+
+pub whole-fresh : (seen : ℕ) (s : List ℕ) (b : Body) (n : ℕ) → headOf seen s ≡ Whole b n → FreshTaken b
+whole-fresh seen s b n e x k =
+    let w = whole-is seen s b n e in
+    cases (eqb (tagIn s) 0)
+    (λ t. started b x (make.starts-by b (w .taken t)) k)
+    (λ t. absurd (no-fresh b x (subst make.NoFresh (sym (w .body)) (make.body-none (tagIn s) (part s 3 (lengthIn s)) t)) k))
+
+-- ---- what holds before each entry: the entries from index at on, made on l, are all of them, made on l₀
+pub record Going (src : List ℕ) (l₀ : Ledger) (seen₀ : ℕ) (l : Ledger) (ns ks : List ℕ) (seen at : ℕ) : Type 0 where
+  pub within : at ≤ length src
+  pub lists : Lists l ns ks
+  pub places : length (l .bills) ≡ 128
+  pub sure : soundLedger l ≡ true
+  pub books : makes (book l) (parse seen (drop at src) .entries) ≡ makes (book l₀) (parse seen₀ src .entries)
+  pub count : seen + length (parse seen (drop at src) .entries) ≡ seen₀ + length (parse seen₀ src .entries)
+  pub stopped : parse seen (drop at src) .stopped ≡ parse seen₀ src .stopped
+  pub rest : parse seen (drop at src) .rest ≡ parse seen₀ src .rest
+
+pub going-start : (src : List ℕ) (r : Reader) → length (r .ledger .bills) ≡ 128 → Good r
+    → Going src (r .ledger) (r .seen) (r .ledger) (r .accounts) (r .keys) (r .seen) 0
+going-start src r h g =
+    record {
+      within = omega arith;
+      lists = record { accounts = g .accounts; keys = g .keys };
+      places = h;
+      sure = g .sound;
+      books = refl;
+      count = refl;
+      stopped = refl;
+      rest = refl;
+    }
+
+module _ (src : List ℕ) (r : Reader) (l : Ledger) (ns ks : List ℕ) (seen at : ℕ)
+    (w : Going src (r .ledger) (r .seen) l ns ks seen at) where
+  abbrev here : List ℕ
+  here = take (length src - at) (drop at src)
+
+  tail : here ≡ drop at src
+  tail = take-all (length src - at) (drop at src) (omega (arith, length-drop at src))
+
+  head-is : (h : Head) → headOf seen here ≡ h → headOf seen (drop at src) ≡ h
+  head-is h e = rw tail at e
+
+  -- the end: an entry cut short, or a bad one
+  ended : (b : Bool) → parse seen (drop at src) ≡ record { entries = []; stopped = b; rest = drop at src }
+      → Walks r src (record { reader = record { ledger = l; accounts = ns; keys = ks; seen = seen }; used = at; stopped = b })
+  unfolding makes
+  ended b e =
+      record {
+        good = record { accounts = w .lists .accounts; keys = w .lists .keys; sound = w .sure };
+        used = w .within;
+        ledger = ap (λ (p : Parsed). makes (book l) (p .entries)) (sym e) ∙ w .books;
+        seen = sym (add-zero seen) ∙ ap (λ (p : Parsed). seen + length (p .entries)) (sym e) ∙ w .count;
+        stopped = ap (λ (p : Parsed). p .stopped) (sym e) ∙ w .stopped;
+        rest = ap (λ (p : Parsed). p .rest) (sym e) ∙ w .rest;
+      }
+
+  pub at-cut : headOf seen here ≡ Cut
+      → Walks r src (record { reader = record { ledger = l; accounts = ns; keys = ks; seen = seen }; used = at; stopped = false })
+  at-cut e = ended false (parse-cut seen (drop at src) (head-is Cut e))
+
+  pub at-bad : headOf seen here ≡ Bad
+      → Walks r src (record { reader = record { ledger = l; accounts = ns; keys = ks; seen = seen }; used = at; stopped = true })
+  at-bad e = ended true (parse-bad seen (drop at src) (head-is Bad e))
+
+  -- a whole entry
+  module _ (b : Body) (n : ℕ) (e : headOf seen here ≡ Whole b n) where
+    pub fits : (3 ≤ n) × (at + n ≤ length src) × (seen < 1000000000)
+    fits =
+        let x = whole-fits seen (drop at src) b n (head-is (Whole b n) e) in
+        (x .0, omega (arith, x .1, length-drop at src, w .within), x .2)
+
+    -- its body's bytes, as they are lent
+    abbrev bytes : List ℕ
+    bytes = take (at + n - (at + 3)) (drop (at + 3) src)
+
+    bytes-are : bytes ≡ part (drop at src) 3 (n - 3)
+    unfolding part
+    bytes-are =
+        let x : at + n - (at + 3) ≡ n - 3 = omega arith in
+        ap (λ (m : ℕ). take m (drop (at + 3) src)) x ∙ ap (take (n - 3)) (sym (drop-drop 3 at src))
+
+    -- the rest is what was, less this entry
+    parsed : parse seen (drop at src) ≡ record {
+      entries = record { body = b; bytes = bytes } ∷ parse (seen + 1) (drop (at + n) src) .entries;
+      stopped = parse (seen + 1) (drop (at + n) src) .stopped;
+      rest = parse (seen + 1) (drop (at + n) src) .rest;
+    }
+    parsed =
+        parse-whole seen (drop at src) b n (head-is (Whole b n) e)
+        ∙ rw (bytes-are, drop-drop n at src)
+
+    -- k came of l by the groups that were taken first
+    module _ (k : Ledger) (lists : Lists k ns ks) (places : length (k .bills) ≡ 128) (z : k ≡ filed b bytes l)
+        (f : Found) (p : ℕ) (x : Left) (i : f ≡ findFor b (take (k .count) ns) (take (k .count) ks)) (q : p ≡ slotOf f (k .count))
+        (y : x ≡ leftBy b (topOf k) f (billAt k p)) where
+      done : Entered b bytes l (leftAt k p x)
+      done = rw y (entered l (w .sure) k places ns ks lists bytes b z (whole-fresh seen (drop at src) b n (head-is (Whole b n) e)) f p i q)
+
+      pub went-on : Going src (r .ledger) (r .seen) (leftAt k p x) (set ns p (accountOf (x .bill))) (set ks p (keyOf (x .bill))) (seen + 1) (at + n)
+      unfolding makes
+      went-on =
+          record {
+            within = fits .1;
+            lists =
+                record {
+                  accounts = ap (λ (m : List ℕ). set m p (accountOf (x .bill))) (lists .accounts) ∙ map-set accountOf (k .bills) p (x .bill);
+                  keys = ap (λ (m : List ℕ). set m p (keyOf (x .bill))) (lists .keys) ∙ map-set keyOf (k .bills) p (x .bill);
+                };
+            places = length-set (k .bills) p (x .bill) ∙ places;
+            sure = done .sure;
+            books =
+                ap (λ (m : Book). makes m (parse (seen + 1) (drop (at + n) src) .entries)) (done .books)
+                ∙ ap (λ (m : Parsed). makes (book l) (m .entries)) (sym parsed)
+                ∙ w .books;
+            count = omega (arith, ap (λ (m : Parsed). length (m .entries)) parsed, w .count);
+            stopped = ap (λ (m : Parsed). m .stopped) (sym parsed) ∙ w .stopped;
+            rest = ap (λ (m : Parsed). m .rest) (sym parsed) ∙ w .rest;
+          }

@@ -1,0 +1,141 @@
+-- A group's turn on small values. Assumes nothing.
+use Prim.Native.Nat.{ℕ, _+_, _≤_, _<_}
+use mathlib.Core.Path.{_≡_, refl, sym, ap, _∙_}
+use mathlib.Core.Bool.{Bool, true, false}
+use mathlib.Core.List.{List, [], map}
+use native.Mathlib.Omega.{arith}
+use native.Mathlib.Nat.{add-zero}
+use lib.Dec.{leb}
+use lib.ListN.{length}
+use lib.Seq.{set-getD}
+use borrow.Author.Tests.{lt-leb, lt-ltb}
+use Rattle.units.specs.declared.Date.{Date}
+use Rattle.ledger.specs.declared.Bill.{Bill}
+use Rattle.ledger.specs.declared.Found.{Found}
+use Rattle.ledger.specs.declared.Found.the-variants.{At, Nothing}
+use Rattle.ledger.specs.declared.Identity.{Identity}
+use Rattle.ledger.specs.declared.Ledger.{Ledger}
+use Rattle.ledger.specs.declared.Posted.{Posted}
+use Rattle.ledger.specs.Bills.{blankBill}
+use Rattle.ledger.specs.Books.{View, book, live, view, placeOf, termsIn}
+use Rattle.file.specs.File.{Group, asksId, detailOf, line1, line2}
+use Rattle.verdict.specs.declared.Sought.{Sought}
+use Rattle.verdict.specs.declared.Verdict.{Verdict}
+use Rattle.verdict.specs.declared.Verdict.the-variants.{Accepted, Rejected}
+use Rattle.verdict.specs.Lines.{line4, verdictOf}
+use Rattle.file.specs.Walk.{groupAt}
+use Rattle.file.proofs.FileLaws.{header-is, only-detail}
+use Rattle.file.proofs.FormLaws.{one-detail, one-within}
+use Rattle.groups.specs.declared.Decision.the-variants.{Post, Reject}
+use Rattle.groups.specs.Groups.{identityOf, soughtIn, sought, kindOf, linesBy, verdictBy}
+use Rattle.groups.specs.Steps.{billAt, soughtAt, decided, decisionBy, applied}
+use Rattle.groups.proofs.PlaceLaws.{cases, sought-is}
+use Rattle.groups.proofs.TurnLaws.{Comes, rejects, posts, comes, clear-off, accepted-clear}
+use Rattle.replay.specs.Steps.{identityAt, slotOf, soughtBy, turnedAt, Decides, turnBy, Turns, CanPost, CalmAt}
+use Rattle.replay.specs.declared.turns.Settled.{Settled}
+use Rattle.replay.proofs.SpotLaws.{spots, spot-sought}
+
+-- ---- each return of the code is a line of the list
+module _ (duplicate : Bool) (today : Date) (b : Sought) (g : Group) where
+  pub by-line1 : line1 g ≡ true → Decides duplicate today b g (Rejected 17)
+  unfolding verdictBy linesBy
+  by-line1 e v d s = rw e
+
+  pub by-line2 : line1 g ≡ false → line2 g ≡ true → Decides duplicate today b g (Rejected 19)
+  unfolding verdictBy linesBy
+  by-line2 e f v d s = rw (e, f)
+
+  pub by-line3 : line1 g ≡ false → line2 g ≡ false → duplicate ≡ true → Decides duplicate today b g (Rejected 14)
+  unfolding verdictBy linesBy
+  by-line3 e f t v d s = rw (e, f, t)
+
+  pub by-rest : line1 g ≡ false → line2 g ≡ false → duplicate ≡ false → Decides duplicate today b g (verdictOf (kindOf g) today (g .header) (detailOf g) b)
+  unfolding verdictBy linesBy verdictOf
+  by-rest e f t v d s = rw (e, f, t, d, s e)
+
+-- ---- what is accepted can be posted: no verdict accepts where there is no bill
+abbrev noView : Date → View
+noView today = record { today = today; tracking = 0; confirmation = 0; bills = [] }
+
+none-posts : (duplicate : Bool) (today : Date) (g : Group) (b : Bill) → CanPost (verdictBy duplicate (noView today) g) b
+unfolding verdictBy linesBy line4
+none-posts duplicate today g b =
+    cases (line1 g) (λ e. rw e tt)
+    (λ e. cases (line2 g) (λ f. rw (e, f) tt) (λ f. cases duplicate (λ t. rw (e, f, t) tt) (λ t. rw (e, f, t) tt)))
+
+calm-posts : (v : Verdict) (p : ℕ) (b : Bill) → CalmAt (At p) b → CanPost v b
+calm-posts (Accepted amounts) p b h = h
+calm-posts (Rejected n) p b h = tt
+
+pub can-post : (duplicate : Bool) (today : Date) (f : Found) (b : Bill) (g : Group) (v : Verdict) → CalmAt f b → Decides duplicate today (soughtBy f b) g v
+    → CanPost v b
+can-post duplicate today (At p) b g v h d = calm-posts v p b h
+can-post duplicate today Nothing b g v h d =
+    let e : v ≡ verdictBy duplicate (noView today) g = d (noView today) refl (λ x. refl) in
+    rw e (none-posts duplicate today g b)
+
+-- ---- the parts of a turn, joined
+pub turns-by : (duplicate : Bool) (today : Date) (f : Found) (b : Bill) (g : Group) (v : Verdict) (sup : Bool) (r : Settled) → sup ≡ asksId g
+    → Decides duplicate today (soughtBy f b) g v → r ≡ turnBy v sup b → Turns duplicate today f b g r
+turns-by duplicate today f b g v sup r e d q w x y = q ∙ rw (d w x y, e)
+
+pub ids-few : (v : Verdict) (sup : Bool) (b : Bill) → turnBy v sup b .ids ≤ 1
+unfolding turnBy
+ids-few (Rejected n) sup b = omega arith
+ids-few (Accepted amounts) true b = omega arith
+ids-few (Accepted amounts) false b = omega arith
+
+-- ---- a turn does to the struct what the decision does
+decided-post : (f : Found) (p : ℕ) (a b : Posted) → decided f (Accepted a) ≡ Post p b → f ≡ At p
+decided-post Nothing p a b e = let z : _≡_ {A = ℕ} 0 1 = cc in absurd (omega arith)
+decided-post (At q) p a b e = let z : q ≡ p = cc in ap At z
+
+module _ (l : Ledger) (s : List ℕ) (i n : ℕ) (t : Bool) (f : Found) (p : ℕ) (x : Settled) (few : l .count ≤ 128)
+    (e : f ≡ placeOf (identityAt s i n) (live l)) (q : p ≡ slotOf f (l .count))
+    (w : Turns t (l .today) f (billAt l p) (groupAt s i n) x) where
+  abbrev g : Group
+  g = groupAt s i n
+
+  -- a group that passes line 1 has one detail, and names the bill that was sought
+  same-name : line1 g ≡ false → identityAt s i n ≡ identityOf g
+  unfolding identityAt
+  same-name h = rw (lt-leb n (i + 1) (one-within s i n h), header-is s i n, only-detail s i n (one-detail s i n h))
+
+  same-sought : line1 g ≡ false → sought (view (book l)) g ≡ soughtBy f (billAt l p)
+  same-sought h =
+      sym (sought-is l (identityOf g))
+      ∙ ap (λ (id : Identity). soughtAt l (placeOf id (live l))) (sym (same-name h))
+      ∙ ap (soughtAt l) (sym e)
+      ∙ sym (spot-sought l f p (spots l few (identityAt s i n) f p e q))
+
+  turn-is : x ≡ turnBy (verdictBy t (view (book l)) g) (asksId g) (billAt l p)
+  turn-is = w (view (book l)) refl same-sought
+
+  pub turn-ids : x .ids ≤ 1
+  turn-ids = rw turn-is (ids-few (verdictBy t (view (book l)) g) (asksId g) (billAt l p))
+
+  found-at : (j : ℕ) (amounts : Posted) → verdictBy t (view (book l)) g ≡ Accepted amounts → decisionBy t l g ≡ Post j amounts → f ≡ At j
+  unfolding linesBy
+  found-at j amounts v d =
+      let o = clear-off (linesBy t (view (book l)) g) (accepted-clear t (view (book l)) g amounts v .0) in
+      e ∙ ap (λ (id : Identity). placeOf id (live l)) (same-name (o .0))
+      ∙ decided-post (placeOf (identityOf g) (live l)) j amounts amounts (rw v at d)
+
+  pub turn-applied : turnedAt l p x ≡ applied l (asksId g) (decisionBy t l g)
+  unfolding applied turnBy
+  turn-applied = go (comes t l g)
+    where
+      go : Comes t l g → turnedAt l p x ≡ applied l (asksId g) (decisionBy t l g)
+      go (rejects m v d) = rw (d, turn-is, v, set-getD (l .bills) p blankBill, add-zero (l .«next_tracking»))
+      go (posts j amounts h v d y z) =
+          let k : p ≡ j = q ∙ rw (found-at j amounts v d, lt-ltb j 128 (omega arith)) in
+          rw (d, turn-is, v, k)
+
+  -- and leaves the bill's identity
+  pub turn-identity : x .bill .terms .identity ≡ billAt l p .terms .identity
+  unfolding turnBy
+  turn-identity = ap (λ (y : Settled). y .bill .terms .identity) turn-is ∙ go (verdictBy t (view (book l)) g)
+    where
+      go : (v : Verdict) → turnBy v (asksId g) (billAt l p) .bill .terms .identity ≡ billAt l p .terms .identity
+      go (Accepted amounts) = refl
+      go (Rejected m) = refl

@@ -1,0 +1,8 @@
+-- Laws that belong to no one function.
+pub mod ReaderLaws
+pub mod SearchLaws
+pub mod SpotLaws
+pub mod GroupTurns
+pub mod RecordWalk
+pub mod EntryLaws
+pub mod EntryWalk

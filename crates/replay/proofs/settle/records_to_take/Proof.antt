@@ -1,0 +1,68 @@
+-- `replay::settle::records_to_take` meets its contract, by the body that was told.
+use Rattle.replay.specs.Steps.{toTake}
+use borrow.Author.Needs.{needs}
+use Rattle.replay.proofs.settle.records_to_take.Statement.{statement}
+use Rattle.replay.proofs.settle.records_to_take.Tie as tie
+
+enum-told : tie.Need-enum-told
+enum-told c = search needs
+
+file-records-requires : tie.Need-file-records-requires
+file-records-requires c κs = search needs
+
+enum-told-2 : tie.Need-enum-told-2
+enum-told-2 c = search needs
+
+enum-told-3 : tie.Need-enum-told-3
+enum-told-3 c = search needs
+
+enum-told-4 : tie.Need-enum-told-4
+enum-told-4 c = search needs
+
+enum-told-5 : tie.Need-enum-told-5
+enum-told-5 c = search needs
+
+enum-told-6 : tie.Need-enum-told-6
+enum-told-6 c = search needs
+
+returns : tie.Need-returns
+unfolding toTake
+returns c = rw (c .before .enum-told .given .1) (c .file-records .ensures)
+
+returns-2 : tie.Need-returns-2
+unfolding toTake
+returns-2 c = rw (c .enum-told2 .given .1)
+
+returns-3 : tie.Need-returns-3
+unfolding toTake
+returns-3 c = rw (c .enum-told3 .given .1)
+
+returns-4 : tie.Need-returns-4
+unfolding toTake
+returns-4 c = rw (c .enum-told4 .given .1)
+
+returns-5 : tie.Need-returns-5
+unfolding toTake
+returns-5 c = rw (c .enum-told5 .given .1)
+
+returns-6 : tie.Need-returns-6
+unfolding toTake
+returns-6 c = rw (c .enum-told6 .given .1)
+
+pub records-to-take-spec : {M : Type 1} → statement M
+records-to-take-spec =
+    tie.close
+    (tie.spec
+    enum-told
+    file-records-requires
+    enum-told-2
+    enum-told-3
+    enum-told-4
+    enum-told-5
+    enum-told-6
+    returns
+    returns-2
+    returns-3
+    returns-4
+    returns-5
+    returns-6)

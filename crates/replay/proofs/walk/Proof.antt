@@ -1,0 +1,331 @@
+use mathlib.Core.Bool.{true}
+use mathlib.Core.List.{List}
+use mathlib.Core.Logic.{⊎-elim}
+use Rattle.ledger.specs.Sound.{soundLedger}
+use Rattle.replay.proofs.SpotLaws.{lists-long}
+use Rattle.replay.proofs.RecordWalk.{taking-places, inner-detail, inner-calm, inner-ids, inner-group}
+use Rattle.replay.proofs.EntryLaws.{filed, filed-by, filed-sound, sound-for}
+use Rattle.replay.proofs.EntryWalk.{went-on}
+use Rattle.ledger.proofs.SoundLaws.{ledger-count}
+use Rattle.groups.proofs.ReadyLaws.{sound-ready}
+use Rattle.replay.proofs.ReaderLaws.{reader-places}
+use Rattle.replay.proofs.RecordWalk.{lent, taking-start}
+use Rattle.replay.proofs.EntryLaws.{to-take-few}
+-- `replay::walk` meets its contract. The outer invariant is `Going`, the inner one `Inner`.
+use borrow.Author.Needs.{needs}
+use Prim.Native.Nat.{ℕ, _+_, _-_, _*_, _≤_, _<_}
+use mathlib.Core.Path.{_≡_, sym, _∙_}
+use native.Mathlib.Omega.{arith}
+use lib.ListN.{length}
+use Rattle.ledger.proofs.BookLaws.{places}
+use Rattle.replay.proofs.RecordWalk.{Inner}
+use Rattle.replay.proofs.EntryWalk.{Going, going-start, at-cut, at-bad, fits}
+use Rattle.replay.proofs.walk.Statement.{statement}
+use Rattle.replay.proofs.walk.Tie as tie
+
+abbrev Inv-records : tie.InvT-records
+Inv-records src l₀ accounts keys seen at body n from end m marks i₀ l i = Inner src l₀ accounts keys from end m l i
+
+abbrev μ-records : tie.MeasureT-records
+μ-records src l₀ accounts keys seen at body n from end m marks i₀ l i = m - i
+
+abbrev Inv-entries : tie.InvT-entries
+Inv-entries src l₀ accounts₀ keys₀ seen₀ at₀ l accounts keys seen at = Going src l₀ seen₀ l accounts keys seen at
+
+abbrev μ-entries : tie.MeasureT-entries
+μ-entries src l₀ accounts₀ keys₀ seen₀ at₀ l accounts keys seen at = length src - at
+
+-- past the match: a whole entry
+whole : (c : tie.After-known-told Inv-records μ-records Inv-entries μ-entries) →
+    let w = c .before .before .before .before .before .entries in
+    (3 ≤ c .before .h .given .0 .1 .0) × (w .at + c .before .h .given .0 .1 .0 ≤ length (c .before .before .before .before .before .before .before .before .before .before .args .src .now)) × (w .seen < 1000000000)
+whole c =
+    fits _ (c .before .before .before .before .before .before .before .before .before .before .args .r) _ _ _ _ _ (c .before .before .before .before .before .entries .inv)
+    (c .before .h .given .0 .0) _ (sym (c .before .before .before .head-at .ensures) ∙ c .before .h .given .1)
+
+-- what is to be taken is within the entry
+few : (c : tie.After-records-to-take Inv-records μ-records Inv-entries μ-entries) →
+    let w = c .before .before .before .before .before .before .before .entries in
+    let s = lent (c .before .before .before .before .before .before .before .before .before .before .before .before .args .src .now) (w .at + 3) (w .at + c .before .before .before .h .given .0 .1 .0) in
+    (c .records-to-take .result ≤ 200) × (c .records-to-take .result * 321 ≤ length s)
+few c = rw (c .records-to-take .ensures) (to-take-few (c .before .before .before .h .given .0 .0) _ _ _)
+
+-- past the records: the ledger is that after the file, if the entry is one
+module _ (c : tie.After-records Inv-records μ-records Inv-entries μ-entries) where
+  abbrev bytes : List ℕ
+  bytes = lent (c .before .before .before .before .before .before .before .before .before .before .before .before .before .before .before .before .args .src .now) (c .before .before .before .before .before .before .before .before .before .before .before .entries .at + 3) (c .before .before .before .before .before .before .before .before .before .before .before .entries .at + c .before .before .before .before .before .before .before .h .given .0 .1 .0)
+
+  file-taken : c .before .records .l ≡ filed (c .before .before .before .before .before .before .before .h .given .0 .0) bytes (c .before .before .before .before .before .before .before .before .before .before .before .entries .l)
+  file-taken =
+      filed-by (c .before .before .before .before .before .before .before .before .before .before .before .entries .l) _ _ (c .before .records .l) _ _ (c .before .before .before .before .before .before .before .h .given .0 .0) bytes
+      (c .before .before .before .before .before .before .before .before .before .before .before .entries .inv .places) (c .before .before .before .before .before .before .before .before .before .before .before .entries .inv .sure)
+      (c .before .records .inv .taking) (omega (arith, c .records-test .left)) (c .before .before .before .before .records-to-take .ensures)
+
+  still-sound : soundLedger (c .before .records .l) ≡ true
+  still-sound =
+      rw file-taken
+      (filed-sound (c .before .before .before .before .before .before .before .before .before .before .before .entries .l) (c .before .before .before .before .before .before .before .before .before .before .before .entries .inv .sure) (c .before .before .before .before .before .before .before .h .given .0 .0) bytes)
+
+entries-holds : tie.Need-entries-holds Inv-records μ-records Inv-entries μ-entries
+entries-holds c = going-start _ (c .before .before .before .before .args .r) (reader-places (c .before .before .before .before .args .r) _ (c .before .before .before .before .good .1 .0)) (c .before .before .before .before .pre)
+
+sub-head-at : tie.Need-sub-head-at Inv-records μ-records Inv-entries μ-entries
+sub-head-at c = omega (arith, c .entries .inv .within)
+
+part-head-at-start : tie.Need-part-head-at-start Inv-records μ-records Inv-entries μ-entries
+part-head-at-start c = c .entries .inv .within
+
+part-head-at-end : tie.Need-part-head-at-end Inv-records μ-records Inv-entries μ-entries
+part-head-at-end c = omega arith
+
+head-at-requires : tie.Need-head-at-requires Inv-records μ-records Inv-entries μ-entries
+head-at-requires c κs = search needs
+
+enum-told : tie.Need-enum-told Inv-records μ-records Inv-entries μ-entries
+enum-told c = search needs
+
+returns : tie.Need-returns Inv-records μ-records Inv-entries μ-entries
+returns c = at-cut _ (c .before .before .before .before .before .before .before .before .before .args .r) _ _ _ _ _ (c .before .before .before .before .entries .inv) (sym (c .before .before .head-at .ensures) ∙ c .enum-told .given .1)
+
+enum-told-2 : tie.Need-enum-told-2 Inv-records μ-records Inv-entries μ-entries
+enum-told-2 c = search needs
+
+returns-2 : tie.Need-returns-2 Inv-records μ-records Inv-entries μ-entries
+returns-2 c = at-bad _ (c .before .before .before .before .before .before .before .before .before .args .r) _ _ _ _ _ (c .before .before .before .before .entries .inv) (sym (c .before .before .head-at .ensures) ∙ c .enum-told2 .given .1)
+
+enum-known-h : tie.Need-enum-known-h Inv-records μ-records Inv-entries μ-entries
+enum-known-h c = search needs
+
+add-from : tie.Need-add-from Inv-records μ-records Inv-entries μ-entries
+add-from c = omega (arith, whole c)
+
+add-end : tie.Need-add-end Inv-records μ-records Inv-entries μ-entries
+add-end c = omega (arith, whole c, c .before .before .before .before .before .before .before .before .before .before .good)
+
+sub-records-to-take : tie.Need-sub-records-to-take Inv-records μ-records Inv-entries μ-entries
+sub-records-to-take c = omega (arith, whole c)
+
+part-records-to-take-start : tie.Need-part-records-to-take-start Inv-records μ-records Inv-entries μ-entries
+part-records-to-take-start c = omega (arith, whole c)
+
+part-records-to-take-end : tie.Need-part-records-to-take-end Inv-records μ-records Inv-entries μ-entries
+part-records-to-take-end c = omega (arith, whole c)
+
+records-to-take-requires : tie.Need-records-to-take-requires Inv-records μ-records Inv-entries μ-entries
+records-to-take-requires c κs = let r = sound-ready _ (c .before .before .before .before .before .before .entries .inv .sure) in (r .tracking, r .confirmation)
+
+sub-duplicates : tie.Need-sub-duplicates Inv-records μ-records Inv-entries μ-entries
+sub-duplicates c = omega (arith, whole (c .before .before))
+
+part-duplicates-start : tie.Need-part-duplicates-start Inv-records μ-records Inv-entries μ-entries
+part-duplicates-start c = omega (arith, whole (c .before .before))
+
+part-duplicates-end : tie.Need-part-duplicates-end Inv-records μ-records Inv-entries μ-entries
+part-duplicates-end c = omega (arith, whole (c .before .before))
+
+duplicates-requires : tie.Need-duplicates-requires Inv-records μ-records Inv-entries μ-entries
+duplicates-requires c κs = few (c .before)
+
+records-holds : tie.Need-records-holds Inv-records μ-records Inv-entries μ-entries
+records-holds c = let q = whole (c .before .before .before .before) in
+    let m = few (c .before .before) in
+    record {
+      low = omega (arith, q .0);
+      high = q .1;
+      few = m .0;
+      long = m .1;
+      taking = taking-start _ _ _ _ _ (c .before .before .before .before .before .before .before .before .before .entries .inv .lists) (c .before .before .before .before .before .before .before .before .before .entries .inv .places) (sound-ready _ (c .before .before .before .before .before .before .before .before .before .entries .inv .sure));
+    }
+
+sub-header-at : tie.Need-sub-header-at Inv-records μ-records Inv-entries μ-entries
+sub-header-at c = c .before .records .inv .low
+
+part-header-at-start : tie.Need-part-header-at-start Inv-records μ-records Inv-entries μ-entries
+part-header-at-start c = omega (arith, c .before .records .inv .low)
+
+part-header-at-end : tie.Need-part-header-at-end Inv-records μ-records Inv-entries μ-entries
+part-header-at-end c = omega (arith, c .before .records .inv .low, c .before .records .inv .high)
+
+header-at-requires : tie.Need-header-at-requires Inv-records μ-records Inv-entries μ-entries
+header-at-requires c κs = omega (arith, c .before .before .records .inv .long, c .before .records-test .taken)
+
+sub-identity-at : tie.Need-sub-identity-at Inv-records μ-records Inv-entries μ-entries
+sub-identity-at c = c .before .before .before .before .records .inv .low
+
+part-identity-at-start : tie.Need-part-identity-at-start Inv-records μ-records Inv-entries μ-entries
+part-identity-at-start c = omega (arith, c .before .before .before .before .records .inv .low)
+
+part-identity-at-end : tie.Need-part-identity-at-end Inv-records μ-records Inv-entries μ-entries
+part-identity-at-end c = omega (arith, c .before .before .before .before .records .inv .low, c .before .before .before .before .records .inv .high)
+
+identity-at-requires : tie.Need-identity-at-requires Inv-records μ-records Inv-entries μ-entries
+identity-at-requires c κs = (c .before .before .before .before .records-test .taken, c .before .before .before .before .before .records .inv .long)
+
+place-requires : tie.Need-place-requires Inv-records μ-records Inv-entries μ-entries
+place-requires c κs = let s = taking-places _ _ _ _ _ _ _ (c .before .before .before .before .before .before .before .before .records .inv .taking) in (c .before .before .before .before .before .before .before .before .records .inv .taking .walk .few, s .0, s .1)
+
+slot-requires : tie.Need-slot-requires Inv-records μ-records Inv-entries μ-entries
+slot-requires c κs = tt
+
+mul-old : tie.Need-mul-old Inv-records μ-records Inv-entries μ-entries
+mul-old c = omega (arith, c .slot .ensures .1)
+
+element-copy-out-old : tie.Need-element-copy-out-old Inv-records μ-records Inv-entries μ-entries
+element-copy-out-old c = c .slot .ensures .1
+
+sub-turn : tie.Need-sub-turn Inv-records μ-records Inv-entries μ-entries
+sub-turn c = c .before .before .before .before .before .before .before .before .before .before .before .before .records .inv .low
+
+part-turn-start : tie.Need-part-turn-start Inv-records μ-records Inv-entries μ-entries
+part-turn-start c = omega (arith, c .before .before .before .before .before .before .before .before .before .before .before .before .records .inv .low)
+
+part-turn-end : tie.Need-part-turn-end Inv-records μ-records Inv-entries μ-entries
+part-turn-end c = omega (arith, c .before .before .before .before .before .before .before .before .before .before .before .before .records .inv .low, c .before .before .before .before .before .before .before .before .before .before .before .before .records .inv .high)
+
+array-read-turn : tie.Need-array-read-turn Inv-records μ-records Inv-entries μ-entries
+array-read-turn c = omega (arith, c .before .before .before .before .before .before .before .before .before .before .before .before .before .records .inv .few, c .before .before .before .before .before .before .before .before .before .before .before .before .records-test .taken)
+
+turn-requires : tie.Need-turn-requires Inv-records μ-records Inv-entries μ-entries
+turn-requires c κs = ((c .before .before .before .before .before .before .before .before .before .before .before .before .records-test .taken, c .before .before .before .before .before .before .before .before .before .before .before .before .before .records .inv .long), inner-calm _ _ _ _ _ _ _ _ _ (c .before .before .before .before .before .before .before .before .before .before .before .before .before .records .inv) (c .before .before .before .before .before .before .before .before .before .before .before .before .records-test .taken) (c .before .before .before .before .place .result) (c .before .before .before .slot .result) (c .before .before .before .before .before .before .before .identity-at .result) (c .before .before .before .before .before .before .before .identity-at .ensures) (c .before .before .before .before .place .ensures) (c .before .before .before .slot .ensures .0))
+
+mul-new : tie.Need-mul-new Inv-records μ-records Inv-entries μ-entries
+mul-new c = omega (arith, c .before .before .before .before .before .slot .ensures .1)
+
+element-set-from-new : tie.Need-element-set-from-new Inv-records μ-records Inv-entries μ-entries
+element-set-from-new c = c .before .before .before .before .before .slot .ensures .1
+
+add-l : tie.Need-add-l Inv-records μ-records Inv-entries μ-entries
+add-l c = let h = c .before .before .before .before .before .before .before .before .before .before .before .before .before .before .before .before .records .inv .taking .walk in
+    let x = inner-ids _ _ _ _ _ _ _ _ _ (c .before .before .before .before .before .before .before .before .before .before .before .before .before .before .before .before .records .inv) (c .before .before .before .before .before .before .before .before .before .before .before .before .before .before .before .records-test .taken) (c .before .before .before .before .before .before .before .place .result) (c .before .before .before .before .before .before .slot .result) (c .before .before .before .before .before .before .before .before .before .before .identity-at .result) (c .before .before .before .before .before .before .before .before .before .before .identity-at .ensures) (c .before .before .before .before .before .before .before .place .ensures) (c .before .before .before .before .before .before .slot .ensures .0) _ (c .before .before .turn .result) (c .before .before .turn .ensures) in
+    omega (arith, h .tracking, x, c .before .before .before .before .before .before .before .before .before .before .before .before .before .before .before .before .records .inv .few, c .before .before .before .before .before .before .before .before .before .before .before .before .before .before .before .records-test .taken)
+
+add-l-2 : tie.Need-add-l-2 Inv-records μ-records Inv-entries μ-entries
+add-l-2 c = let h = c .before .before .before .before .before .before .before .before .before .before .before .before .before .before .before .before .records .inv .taking .walk in omega (arith, h .confirmation, c .before .before .before .before .before .before .before .before .before .before .before .before .before .before .before .before .records .inv .few, c .before .before .before .before .before .before .before .before .before .before .before .before .before .before .before .records-test .taken)
+
+add-i : tie.Need-add-i Inv-records μ-records Inv-entries μ-entries
+add-i c = omega (arith, c .before .before .before .before .records .inv .few, c .before .before .before .records-test .taken)
+
+records-less : tie.Need-records-less Inv-records μ-records Inv-entries μ-entries
+records-less c = omega (arith, c .before .before .before .records-test .taken)
+
+records-again : tie.Need-records-again Inv-records μ-records Inv-entries μ-entries
+records-again c = let v = c .before .before .before .before .records .inv in
+    let h = c .before .before .before .records-test .taken in
+    ⊎-elim
+    (λ w.
+    rw (w .13)
+    (inner-group _ _ _ _ _ _ _ _ _ v h (w .5 .result) (w .6 .result) (w .2 .result) (w .2 .ensures) (w .5 .ensures) (w .6 .ensures .0) _ (w .10 .result) (w .10 .ensures)
+    (sym (c .before .header-at .ensures) ∙ w .0 .taken) (c .before .before .before .before .before .duplicates .ensures .0 _ h)))
+    (λ w. rw (w .1) (inner-detail _ _ _ _ _ _ _ _ _ v h (sym (c .before .header-at .ensures) ∙ w .0 .left)))
+    (c .if1 .came)
+
+place-for-requires : tie.Need-place-for-requires Inv-records μ-records Inv-entries μ-entries
+place-for-requires c κs = let s = taking-places _ _ _ _ _ _ _ (c .before .before .before .records .inv .taking) in (c .before .before .before .records .inv .taking .walk .few, s .0, s .1)
+
+slot-requires-2 : tie.Need-slot-requires-2 Inv-records μ-records Inv-entries μ-entries
+slot-requires-2 c κs = tt
+
+mul-b : tie.Need-mul-b Inv-records μ-records Inv-entries μ-entries
+mul-b c = omega (arith, c .before .slot2 .ensures .1)
+
+element-copy-out-b : tie.Need-element-copy-out-b Inv-records μ-records Inv-entries μ-entries
+element-copy-out-b c = c .before .slot2 .ensures .1
+
+settle-requires : tie.Need-settle-requires Inv-records μ-records Inv-entries μ-entries
+settle-requires c κs = let r = sound-ready _ (still-sound (c .before .before .before .before .before .before)) in
+    ((r .tracking, r .confirmation, r .count), sound-for _ (c .before .before .before .before .before .before .before .records .inv .taking .walk .places) (still-sound (c .before .before .before .before .before .before)) _ _ (c .before .before .before .before .before .before .before .records .inv .taking .lists) (c .before .before .before .before .before .before .before .before .before .before .before .before .before .h .given .0 .0) (c .before .before .before .place-for .result) (c .before .before .slot2 .result) (c .before .before .before .place-for .ensures) (c .before .before .slot2 .ensures .0))
+
+mul-accounts : tie.Need-mul-accounts Inv-records μ-records Inv-entries μ-entries
+mul-accounts c = omega (arith, c .before .before .before .before .before .before .slot2 .ensures .1)
+
+array-write-accounts : tie.Need-array-write-accounts Inv-records μ-records Inv-entries μ-entries
+array-write-accounts c = c .before .before .before .before .before .before .slot2 .ensures .1
+
+mul-keys : tie.Need-mul-keys Inv-records μ-records Inv-entries μ-entries
+mul-keys c = omega (arith, c .before .before .before .before .before .before .slot2 .ensures .1)
+
+array-write-keys : tie.Need-array-write-keys Inv-records μ-records Inv-entries μ-entries
+array-write-keys c = c .before .before .before .before .before .before .slot2 .ensures .1
+
+mul-c : tie.Need-mul-c Inv-records μ-records Inv-entries μ-entries
+mul-c c = omega (arith, c .before .before .before .before .before .before .slot2 .ensures .1)
+
+element-set-from-c : tie.Need-element-set-from-c Inv-records μ-records Inv-entries μ-entries
+element-set-from-c c = c .before .before .before .before .before .before .slot2 .ensures .1
+
+add-seen : tie.Need-add-seen Inv-records μ-records Inv-entries μ-entries
+add-seen c = omega (arith, whole (c .before .before .before .before .before .before .before .before .before .before .before .before .before .before .before .before) .2)
+
+entries-less : tie.Need-entries-less Inv-records μ-records Inv-entries μ-entries
+entries-less c = omega (arith, whole (c .before .before .before .before .before .before .before .before .before .before .before .before .before .before .before .before) .0, whole (c .before .before .before .before .before .before .before .before .before .before .before .before .before .before .before .before) .1)
+
+entries-again : tie.Need-entries-again Inv-records μ-records Inv-entries μ-entries
+entries-again c = went-on _ (c .before .before .before .before .before .before .before .before .before .before .before .before .before .before .before .before .before .before .before .before .before .before .before .before .before .before .args .r) _ _ _ _ _ (c .before .before .before .before .before .before .before .before .before .before .before .before .before .before .before .before .before .before .before .before .before .entries .inv) (c .before .before .before .before .before .before .before .before .before .before .before .before .before .before .before .before .before .h .given .0 .0) _ (sym (c .before .before .before .before .before .before .before .before .before .before .before .before .before .before .before .before .before .before .before .head-at .ensures) ∙ c .before .before .before .before .before .before .before .before .before .before .before .before .before .before .before .before .before .h .given .1) (c .before .before .before .before .before .before .before .before .before .before .before .records .l) (c .before .before .before .before .before .before .before .before .before .before .before .records .inv .taking .lists) (c .before .before .before .before .before .before .before .before .before .before .before .records .inv .taking .walk .places) (file-taken (c .before .before .before .before .before .before .before .before .before .before)) (c .before .before .before .before .before .before .before .place-for .result) (c .before .before .before .before .before .before .slot2 .result) (c .before .before .before .settle .result) (c .before .before .before .before .before .before .before .place-for .ensures) (c .before .before .before .before .before .before .slot2 .ensures .0) (c .before .before .before .settle .ensures)
+
+pub walk-spec : {M : Type 1} → statement M
+walk-spec =
+    tie.close
+    (tie.spec
+    Inv-records
+    μ-records
+    Inv-entries
+    μ-entries
+    entries-holds
+    sub-head-at
+    part-head-at-start
+    part-head-at-end
+    head-at-requires
+    enum-told
+    returns
+    enum-told-2
+    returns-2
+    enum-known-h
+    add-from
+    add-end
+    sub-records-to-take
+    part-records-to-take-start
+    part-records-to-take-end
+    records-to-take-requires
+    sub-duplicates
+    part-duplicates-start
+    part-duplicates-end
+    duplicates-requires
+    records-holds
+    sub-header-at
+    part-header-at-start
+    part-header-at-end
+    header-at-requires
+    sub-identity-at
+    part-identity-at-start
+    part-identity-at-end
+    identity-at-requires
+    place-requires
+    slot-requires
+    mul-old
+    element-copy-out-old
+    sub-turn
+    part-turn-start
+    part-turn-end
+    array-read-turn
+    turn-requires
+    mul-new
+    element-set-from-new
+    add-l
+    add-l-2
+    add-i
+    records-less
+    records-again
+    place-for-requires
+    slot-requires-2
+    mul-b
+    element-copy-out-b
+    settle-requires
+    mul-accounts
+    array-write-accounts
+    mul-keys
+    array-write-keys
+    mul-c
+    element-set-from-c
+    add-seen
+    entries-less
+    entries-again)

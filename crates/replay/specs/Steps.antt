@@ -1,0 +1,182 @@
+-- What the contracts of the parts cite: small values, and the place of a bill in the struct. Assumes nothing.
+use Prim.Native.Nat.{ℕ, suc, _+_, _/_, _≤_}
+use mathlib.Core.Path.{_≡_}
+use mathlib.Core.Bool.{Bool, false, cond, _&&_}
+use mathlib.Core.List.{List, [], _∷_}
+use lib.Dec.{eqb, leb, ltb}
+use lib.ListN.{length, set}
+use Rattle.units.specs.declared.Date.{Date}
+use Rattle.ledger.specs.declared.Identity.{Identity}
+use Rattle.ledger.specs.declared.Bill.{Bill}
+use Rattle.ledger.specs.declared.Ledger.{Ledger}
+use Rattle.ledger.specs.declared.Found.{Found}
+use Rattle.ledger.specs.declared.Found.the-variants.{At, Nothing}
+use Rattle.ledger.specs.Bills.{renewed, posting, cancelledBill}
+use Rattle.ledger.specs.Books.{View}
+use Rattle.notices.specs.Layout.{recordAt}
+use Rattle.file.specs.File.{Group, asksId, line1}
+use Rattle.verdict.specs.declared.Check.{Check}
+use Rattle.verdict.specs.declared.Check.the-variants.{Clear, Stop}
+use Rattle.verdict.specs.declared.Sought.{Sought}
+use Rattle.verdict.specs.declared.Sought.the-variants as sought
+use Rattle.verdict.specs.declared.Verdict.{Verdict}
+use Rattle.verdict.specs.declared.Verdict.the-variants.{Accepted, Rejected}
+use Rattle.verdict.specs.Rules.{first}
+use Rattle.groups.specs.Groups.{sought, verdictBy}
+use Rattle.groups.specs.Steps.{identityIn}
+use Rattle.calls.specs.declared.Start.{Start}
+use Rattle.calls.specs.declared.Request.{Request}
+use Rattle.calls.specs.Causes.{requestCauses, fileCauses, cancelCauses, closeCauses}
+use Rattle.calls.specs.Machine.{latestOf, newBill}
+use Rattle.journal.specs.declared.Body.{Body}
+use Rattle.journal.specs.declared.Body.the-variants as body
+use Rattle.replay.specs.declared.settle.Top.{Top}
+use Rattle.replay.specs.declared.settle.Left.{Left}
+use Rattle.replay.specs.declared.turns.Settled.{Settled}
+
+-- ---- where a bill is
+-- the place of an identity in two lists, counted from n
+abbrev pub findIn : Identity → ℕ → List ℕ → List ℕ → Found
+findIn id n [] ys = Nothing
+findIn id n (x ∷ xs) [] = Nothing
+findIn id n (x ∷ xs) (y ∷ ys) = cond (eqb x (id .account) && eqb y (id .key)) (At n) (findIn id (suc n) xs ys)
+
+-- the place that an entry is about
+unfoldable pub findFor : Body → List ℕ → List ℕ → Found
+findFor (body.Fresh s) ns ks = Nothing
+findFor (body.Request r) ns ks = findIn (r .identity) 0 ns ks
+findFor body.File ns ks = Nothing
+findFor (body.Cancel id) ns ks = findIn id 0 ns ks
+findFor (body.Close d) ns ks = Nothing
+findFor body.Unread ns ks = Nothing
+
+-- a place of the struct: the one that was found, else the next free one; the last one stands where there is none
+abbrev pub within : ℕ → ℕ
+within i = cond (ltb i 128) i 127
+
+abbrev pub slotOf : Found → ℕ → ℕ
+slotOf (At p) n = within p
+slotOf Nothing n = within n
+
+-- the bill that was found, where b stands at its place
+abbrev pub soughtBy : Found → Bill → Sought
+soughtBy Nothing b = sought.Nothing
+soughtBy (At p) b = sought.Bill (b .terms)
+
+-- ---- a group
+-- the identity that the group of record i names, if it has one detail
+unfoldable pub identityAt : List ℕ → ℕ → ℕ → Identity
+identityAt s i n = cond (leb n (i + 1)) (record { account = 0; key = 0 }) (identityIn (recordAt s i) (recordAt s (i + 1)))
+
+-- v is the verdict on g: on every ledger of this day on which the bill that g names is b, if g passes line 1
+abbrev pub Decides : Bool → Date → Sought → Group → Verdict → Type 0
+Decides duplicate today b g r = (v : View) → v .today ≡ today → (line1 g ≡ false → sought v g ≡ b) → r ≡ verdictBy duplicate v g
+
+-- what a verdict leaves at the bill's place, and how many Tracking IDs it takes: a rejection leaves the same bill
+unfoldable pub turnBy : Verdict → Bool → Bill → Settled
+turnBy (Accepted amounts) sup b = record { bill = posting amounts sup b; ids = cond sup 1 0 }
+turnBy (Rejected n) sup b = record { bill = b; ids = 0 }
+
+abbrev pub Turns : Bool → Date → Found → Bill → Group → Settled → Type 0
+Turns duplicate today f b g r =
+    (v : View) → v .today ≡ today → (line1 g ≡ false → sought v g ≡ soughtBy f b) → r ≡ turnBy (verdictBy duplicate v g) (asksId g) b
+
+-- a bill that is posted to has a sequence that can rise
+abbrev pub CanPost : Verdict → Bill → Type 0
+CanPost (Accepted amounts) b = b .terms .sequence ≤ 999
+CanPost (Rejected n) b = Unit {0}
+
+abbrev pub CalmAt : Found → Bill → Type 0
+CalmAt (At p) b = b .terms .sequence ≤ 999
+CalmAt Nothing b = Unit {0}
+
+-- the struct after a turn at place p
+abbrev pub turnedAt : Ledger → ℕ → Settled → Ledger
+turnedAt l p x =
+    record {
+      today = l .today;
+      «next_tracking» = l .«next_tracking» + x .ids;
+      «next_confirmation» = l .«next_confirmation» + 1;
+      count = l .count;
+      bills = set (l .bills) p (x .bill);
+    }
+
+-- ---- an entry
+-- how many of n records of a file are to be taken: none of one that is refused
+abbrev pub recordsBy : Check → ℕ → ℕ
+recordsBy Clear n = n
+recordsBy (Stop m) n = 0
+
+unfoldable pub toTake : Body → List ℕ → ℕ → ℕ → ℕ
+toTake (body.Fresh s) bytes tracking confirmation = 0
+toTake (body.Request r) bytes tracking confirmation = 0
+toTake body.File bytes tracking confirmation = recordsBy (first (fileCauses bytes 64200 tracking confirmation)) (length bytes / 321)
+toTake (body.Cancel id) bytes tracking confirmation = 0
+toTake (body.Close d) bytes tracking confirmation = 0
+toTake body.Unread bytes tracking confirmation = 0
+
+-- a bill held is as a sound ledger has it
+abbrev pub SoundAt : Found → Bill → Type 0
+SoundAt (At p) b = (b .terms .requests ≤ b .terms .sequence) × (b .terms .sequence ≤ 999)
+SoundAt Nothing b = Unit {0}
+
+-- the same, with room for one request more
+abbrev pub RenewsAt : Found → Bill → Type 0
+RenewsAt (At p) b = (b .terms .requests ≤ b .terms .sequence) × (b .terms .sequence ≤ 998)
+RenewsAt Nothing b = Unit {0}
+
+-- the bill as a request leaves it
+abbrev pub askedBy : Request → ℕ → Found → Bill → Bill
+askedBy r tracking Nothing b = newBill r tracking
+askedBy r tracking (At p) b = renewed (latestOf r tracking) b
+
+-- one bill more, where none was found
+abbrev pub grown : Found → ℕ → ℕ
+grown Nothing n = n + 1
+grown (At p) n = n
+
+abbrev pub kept : Top → Bill → Left
+kept t b = record { top = t; bill = b }
+
+-- one of each number used
+abbrev pub usedBy : Top → ℕ → Top
+usedBy t n = record { today = t .today; tracking = t .tracking + 1; confirmation = t .confirmation + 1; count = n }
+
+abbrev pub requestBy : Check → Request → Top → Found → Bill → Left
+requestBy Clear r t f b = kept (usedBy t (grown f (t .count))) (askedBy r (t .tracking) f b)
+requestBy (Stop n) r t f b = kept t b
+
+abbrev pub cancelBy : Check → Top → Bill → Left
+cancelBy Clear t b = kept (usedBy t (t .count)) (cancelledBill b)
+cancelBy (Stop n) t b = kept t b
+
+abbrev pub closeBy : Check → Date → Top → Top
+closeBy Clear d t = record { today = d; tracking = t .tracking; confirmation = t .confirmation; count = t .count }
+closeBy (Stop n) d t = t
+
+abbrev pub freshTop : Start → Top
+freshTop s = record { today = s .today; tracking = s .tracking; confirmation = s .confirmation; count = 0 }
+
+-- what an entry leaves of the top of the struct and of the bill at its place; a file's groups are taken before
+unfoldable pub leftBy : Body → Top → Found → Bill → Left
+leftBy (body.Fresh s) t f b = kept (freshTop s) b
+leftBy (body.Request r) t f b =
+    requestBy (first (requestCauses r 64200 (t .today) (t .tracking) (t .confirmation) (t .count) (soughtBy f b))) r t f b
+leftBy body.File t f b = kept t b
+leftBy (body.Cancel id) t f b = cancelBy (first (cancelCauses id 64200 (t .tracking) (t .confirmation) (soughtBy f b))) t b
+leftBy (body.Close d) t f b = kept (closeBy (first (closeCauses d (t .today))) d t) b
+leftBy body.Unread t f b = kept t b
+
+abbrev pub topOf : Ledger → Top
+topOf l = record { today = l .today; tracking = l .«next_tracking»; confirmation = l .«next_confirmation»; count = l .count }
+
+-- the struct with this top, and this bill at place p
+abbrev pub leftAt : Ledger → ℕ → Left → Ledger
+leftAt l p x =
+    record {
+      today = x .top .today;
+      «next_tracking» = x .top .tracking;
+      «next_confirmation» = x .top .confirmation;
+      count = x .top .count;
+      bills = set (l .bills) p (x .bill);
+    }

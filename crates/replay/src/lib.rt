@@ -1,0 +1,132 @@
+// A journal's entries made on a ledger that is changed in place: the ledger is passed to no function, and no notice is written.
+pub mod search;
+pub mod settle;
+pub mod turns;
+
+ghost use mathlib.Core.Path.{_≡_};
+ghost use Rattle.ledger.specs.Books.{book};
+ghost use Rattle.journal.specs.Journal.{noBook};
+ghost use Rattle.replay.specs.Reader.{Good, Walks};
+use crate::settle::Top;
+use journal::Head;
+use ledger::Ledger;
+use units::Date;
+
+// Where a reading has come to: the ledger, the identities of its bills, and how many entries came.
+pub struct Reader {
+    pub ledger: Ledger,
+    pub accounts: [u64; 128],
+    pub keys: [u64; 128],
+    pub seen: u64,
+}
+
+// The reader after some bytes, how many of them are done with, and whether a bad entry stopped it.
+pub struct Walked {
+    pub reader: Reader,
+    pub used: usize,
+    pub stopped: bool,
+}
+
+// Before the first entry.
+pub fn start() -> Reader
+    ensures { λ r. ⌜ (Good r) × (book (r .ledger) ≡ noBook) × (r .seen ≡ 0) ⌝ }
+{
+    let l = Ledger::empty(Date(19000101), 1, 1);
+    Reader {
+        ledger: l,
+        accounts: [0; 128],
+        keys: [0; 128],
+        seen: 0,
+    }
+}
+
+// Makes the whole entries at the start of src. (The loop over a file's groups stands here, since this function holds the ledger.)
+pub fn walk(src: &[u8], r: Reader) -> Walked
+    requires { ⌜ Good r ⌝ }
+    ensures { λ w. ⌜ Walks r (now (src .entry)) w ⌝ }
+{
+    let mut l = r.ledger;
+    let mut accounts = r.accounts;
+    let mut keys = r.keys;
+    let mut seen = r.seen;
+    let mut at = 0;
+    'entries: loop {
+        let h = journal::head_at(&src[at..], seen);
+        match h {
+            Head::Cut => {
+                return Walked {
+                    reader: Reader {
+                        ledger: l,
+                        accounts,
+                        keys,
+                        seen,
+                    },
+                    used: at,
+                    stopped: false,
+                };
+            }
+            Head::Bad => {
+                return Walked {
+                    reader: Reader {
+                        ledger: l,
+                        accounts,
+                        keys,
+                        seen,
+                    },
+                    used: at,
+                    stopped: true,
+                };
+            }
+            Head::Whole(body, n) => {
+                let from = at + 3;
+                let end = at + n;
+                let m = settle::records_to_take(
+                    body,
+                    &src[from..end],
+                    l.next_tracking,
+                    l.next_confirmation,
+                );
+                let marks = pairs::duplicates(&src[from..end], m);
+                'records: for i in 0..m {
+                    if file::header_at(&src[from..end], i) {
+                        let id = turns::identity_at(&src[from..end], i, m);
+                        let held = l.count;
+                        let g = search::place(&accounts, &keys, held, id);
+                        let q = search::slot(g, held);
+                        let old = l.bills[q];
+                        let day = l.today;
+                        let x = turns::turn(&src[from..end], i, m, marks[i], g, old, day);
+                        let new = x.bill;
+                        l.bills[q] = new;
+                        l.next_tracking = l.next_tracking + x.ids;
+                        l.next_confirmation = l.next_confirmation + 1;
+                    }
+                }
+                let count = l.count;
+                let f = search::place_for(&accounts, &keys, count, body);
+                let p = search::slot(f, count);
+                let today = l.today;
+                let top = Top {
+                    today,
+                    tracking: l.next_tracking,
+                    confirmation: l.next_confirmation,
+                    count,
+                };
+                let b = l.bills[p];
+                let left = settle::settle(body, top, f, b);
+                let c = left.bill;
+                let t = left.top;
+                let date = t.today;
+                accounts[p] = c.terms.identity.account;
+                keys[p] = c.terms.identity.key;
+                l.bills[p] = c;
+                l.today = date;
+                l.next_tracking = t.tracking;
+                l.next_confirmation = t.confirmation;
+                l.count = t.count;
+                seen += 1;
+                at = end;
+            }
+        }
+    }
+}
