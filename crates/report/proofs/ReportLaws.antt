@@ -1,0 +1,68 @@
+-- The table of a journal and the claim for its calls. Assumes nothing.
+use Prim.Native.Nat.{ℕ, _+_, _≤_, _<_}
+use mathlib.Core.Path.{_≡_, refl, ap}
+use mathlib.Core.Bool.{Bool, true, false, _||_}
+use mathlib.Core.List.{List, []}
+use native.Mathlib.Omega.{arith}
+use lib.Dec.{eqb, ltb}
+use lib.ListN.{length, drop}
+use borrow.Author.Tests.{lt-ltb, le-ltb}
+use Rattle.fields.specs.Put.{put}
+use Rattle.fields.proofs.PutLaws.{put-nil}
+use Rattle.ledger.specs.Books.{book}
+use Rattle.table.specs.Table.{tableOf}
+use Rattle.history.proofs.ClaimProof.{claim}
+use Rattle.journal.specs.Journal.{Entry, parse, makes, noBook, endsBad, ledgerOf, isBad, callsOf}
+use Rattle.journal.proofs.MakeLaws.{Begins, nothing, begins, journal-begins}
+use Rattle.replay.specs.declared.Reader.{Reader}
+use Rattle.replay.specs.declared.Walked.{Walked}
+use Rattle.replay.specs.Reader.{Walks}
+use Rattle.report.specs.declared.Report.the-variants.{Written, TooSmall}
+use Rattle.report.specs.Report.{postedOf, Claimed, empty, holds, reportOf, reported, Reports}
+
+-- ---- the claim
+bad-by : (a b c : Bool) → c ≡ true → (a || b || c) ≡ true
+bad-by true b c e = refl
+bad-by false true c e = refl
+bad-by false false c e = e
+
+none-bad : (s : List ℕ) → parse 0 s .entries ≡ [] → isBad s ≡ true
+unfolding isBad endsBad
+none-bad s e = bad-by (parse 0 s .stopped) (ltb 0 (length (parse 0 s .rest))) _ (ap (λ (es : List Entry). eqb (length es) 0) e)
+
+none-ledger : (s : List ℕ) → parse 0 s .entries ≡ [] → ledgerOf s ≡ noBook
+unfolding ledgerOf makes
+none-ledger s e = ap (makes noBook) e
+
+pub claimed : (s : List ℕ) → Claimed s
+claimed s = go (journal-begins s)
+  where
+    go : Begins s → Claimed s
+    go (nothing e) = empty (none-ledger s e) (none-bad s e)
+    go (begins start bytes es c e k) = holds start (callsOf es) c k (claim start c (callsOf es))
+
+-- ---- the table
+-- a walk over the whole journal, from its start
+pub walked : (s : List ℕ) (r : Reader) (w : Walked) (left : ℕ) → book (r .ledger) ≡ noBook → r .seen ≡ 0 → Walks r s w → left ≡ length (drop (w .used) s)
+    → tableOf (book (w .reader .ledger)) (endsBad (w .stopped) left (w .reader .seen)) ≡ postedOf s
+unfolding postedOf ledgerOf isBad
+walked s r w left k z h e =
+    let o : 0 + length (parse 0 s .entries) ≡ length (parse 0 s .entries) = omega arith in
+    rw (h .ledger, h .stopped, h .seen, e, h .rest, k, z, o)
+
+module _ (s out₀ : List ℕ) where
+  pub refused : length out₀ < 10970 → Reports s out₀ out₀ TooSmall
+  unfolding reportOf reported
+  refused h =
+      let e = lt-ltb (length out₀) 10970 h in
+      record { answer = rw e; bytes = rw e (put-nil out₀ 0); claimed = claimed s }
+
+  pub posted : (t out : List ℕ) (n : ℕ) → 10970 ≤ length out₀ → t ≡ postedOf s → n ≡ length t → out ≡ put out₀ 0 t → Reports s out₀ out (Written n)
+  unfolding reportOf reported
+  posted t out n h p q u =
+      let e = le-ltb (length out₀) 10970 h in
+      record {
+        answer = rw (e, q, p);
+        bytes = rw (e, ← p) u;
+        claimed = claimed s;
+      }

@@ -1,0 +1,42 @@
+-- Program `posted`: the table of a journal, with the claim for the journal's calls. Assumes nothing.
+use Prim.Native.Nat.{ℕ}
+use mathlib.Core.Path.{_≡_}
+use mathlib.Core.Bool.{true, cond}
+use mathlib.Core.List.{List, []}
+use lib.Dec.{ltb}
+use lib.ListN.{length}
+use Rattle.fields.specs.Put.{put}
+use Rattle.table.specs.Table.{tableOf}
+use Rattle.verdict.specs.declared.Check.the-variants.{Clear}
+use Rattle.verdict.specs.Rules.{first}
+use Rattle.calls.specs.declared.Start.{Start}
+use Rattle.calls.specs.Causes.{Call, freshCauses}
+use Rattle.calls.specs.Machine.{fresh, after}
+use Rattle.history.specs.History.{begun}
+use Rattle.history.specs.Claim.{Claims}
+use Rattle.journal.specs.Journal.{noBook, ledgerOf, isBad}
+use Rattle.report.specs.declared.Report.{Report}
+use Rattle.report.specs.declared.Report.the-variants.{Written, TooSmall}
+
+-- the bytes of the posted table of a journal
+unfoldable pub postedOf : List ℕ → List ℕ
+postedOf s = tableOf (ledgerOf s) (isBad s)
+
+-- what is claimed of a journal: it holds no fresh that succeeded, and its table has no bill lines and a zero total; or its ledger is that of the
+-- calls cs after a fresh, and of these the claim holds: the total printed is the sum of the changes and the history's sum
+pub data Claimed (s : List ℕ) : Type 0 where
+  empty : ledgerOf s ≡ noBook → isBad s ≡ true → Claimed s
+  holds : (start : Start) (cs : List Call) → first (freshCauses start) ≡ Clear → ledgerOf s ≡ after (fresh start) cs
+      → Claims (fresh start) (begun start) cs → Claimed s
+
+-- an output under 10,970 bytes is refused and left as it was
+unfoldable pub reportOf : ℕ → List ℕ → Report
+reportOf room s = cond (ltb room 10970) TooSmall (Written (length (postedOf s)))
+
+unfoldable pub reported : ℕ → List ℕ → List ℕ
+reported room s = cond (ltb room 10970) [] (postedOf s)
+
+pub record Reports (s out₀ out : List ℕ) (r : Report) : Type 0 where
+  pub answer : r ≡ reportOf (length out₀) s
+  pub bytes : out ≡ put out₀ 0 (reported (length out₀) s)
+  pub claimed : Claimed s

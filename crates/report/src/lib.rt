@@ -1,0 +1,44 @@
+// The posted table of a journal.
+ghost use mathlib.Core.Path.{_≡_};
+ghost use Prim.Native.Nat.{_≤_};
+ghost use lib.ListN.{length};
+ghost use Rattle.fields.specs.Put.{put};
+ghost use Rattle.ledger.specs.Books.{book};
+ghost use Rattle.table.specs.Table.{tableOf};
+ghost use Rattle.journal.specs.Journal.{endsBad};
+ghost use Rattle.replay.specs.Reader.{Good};
+ghost use Rattle.report.specs.Report.{Reports};
+use replay::Reader;
+
+// Writes the table at the end of a journal of which so many bytes are left, and answers its length.
+pub fn finish(out: &mut [u8], r: Reader, stopped: bool, left: usize) -> usize
+    requires { ⌜ Good r ⌝ }
+    requires { ⌜ 10970 ≤ length (now out) ⌝ }
+    ensures { λ n. ⌜ n ≡ length (tableOf (book (r .ledger)) (endsBad stopped left (r .seen))) ⌝ }
+    ensures { λ _. ⌜ now (out .exit) ≡ put (now (out .entry)) 0 (tableOf (book (r .ledger)) (endsBad stopped left (r .seen))) ⌝ }
+    ensures { λ n. ⌜ n ≤ 10970 ⌝ }
+{
+    let bad = stopped | (0 < left) | (r.seen == 0);
+    let l = r.ledger;
+    table::write(out, l, bad)
+}
+
+// A table was written, so many bytes long; or the output lent is under 10,970 bytes, which the longest table has.
+pub enum Report {
+    Written(usize),
+    TooSmall,
+}
+
+// Writes the posted table of a whole journal.
+pub fn post_table(src: &[u8], out: &mut [u8]) -> Report
+    ensures { λ r. ⌜ Reports (now (src .entry)) (now (out .entry)) (now (out .exit)) r ⌝ }
+{
+    if out.len() < 10970 {
+        return Report::TooSmall;
+    }
+    let w = replay::walk(src, replay::start());
+    let r = w.reader;
+    let used = w.used;
+    let n = finish(out, r, w.stopped, src.len() - used);
+    Report::Written(n)
+}
