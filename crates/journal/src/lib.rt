@@ -1,4 +1,6 @@
 // Journal entries: what stands at the start of some bytes.
+pub mod make;
+
 ghost use mathlib.Core.Path.{_≡_};
 ghost use mathlib.Core.Bool.{true};
 ghost use Prim.Native.Nat.{_+_, _-_, _≤_, _<_};
