@@ -5,5 +5,5 @@ pub mod BodyLaws
 pub mod MoveLaws
 pub mod HeadLaws
 pub mod JournalLaws
-pub mod MakeLaws
+pub mod BeginLaws
 pub mod ShortLaws

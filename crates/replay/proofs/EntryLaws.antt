@@ -42,7 +42,7 @@ use Rattle.calls.proofs.RunLaws.{runs}
 use Rattle.journal.specs.declared.Body.{Body}
 use Rattle.journal.specs.declared.Body.the-variants as body
 use Rattle.journal.specs.Journal.{callOf, made}
-use Rattle.journal.proofs.MakeLaws as make
+use Rattle.journal.proofs.BeginLaws as make
 use Rattle.replay.specs.Steps.{findFor, slotOf, soughtBy, SoundAt, RenewsAt, recordsBy, toTake, askedBy, grown, kept, usedBy, requestBy, cancelBy, closeBy, freshTop, leftBy, topOf, leftAt}
 use Rattle.replay.proofs.SpotLaws.{Lists, lists-find, Spots, none, some, spots, spot-sought, spot-sound}
 use Rattle.replay.proofs.RecordWalk.{Taking, taking-end}

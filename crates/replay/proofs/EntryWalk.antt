@@ -27,7 +27,7 @@ use Rattle.journal.specs.Entries.{headOf}
 use Rattle.journal.specs.Journal.{Entry, Parsed, parse, made, makes}
 use Rattle.journal.proofs.HeadLaws.{tagIn, lengthIn, whole-is, whole-fits}
 use Rattle.journal.proofs.JournalLaws.{parse-cut, parse-bad, parse-whole}
-use Rattle.journal.proofs.MakeLaws as make
+use Rattle.journal.proofs.BeginLaws as make
 use Rattle.replay.specs.declared.Reader.{Reader}
 use Rattle.replay.specs.declared.Walked.{Walked}
 use Rattle.replay.specs.declared.settle.Left.{Left}

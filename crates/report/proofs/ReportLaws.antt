@@ -13,7 +13,7 @@ use Rattle.ledger.specs.Books.{book}
 use Rattle.table.specs.Table.{tableOf}
 use Rattle.history.proofs.ClaimProof.{claim}
 use Rattle.journal.specs.Journal.{Entry, parse, makes, noBook, endsBad, ledgerOf, isBad, callsOf}
-use Rattle.journal.proofs.MakeLaws.{Begins, nothing, begins, journal-begins}
+use Rattle.journal.proofs.BeginLaws.{Begins, nothing, begins, journal-begins}
 use Rattle.replay.specs.declared.Reader.{Reader}
 use Rattle.replay.specs.declared.Walked.{Walked}
 use Rattle.replay.specs.Reader.{Walks}

@@ -9,6 +9,7 @@ use lib.ListN.{length, drop}
 use borrow.Author.Tests.{ne-eqb}
 use Rattle.fields.specs.Put.{part}
 use Rattle.ledger.specs.Books.{Book}
+use Rattle.groups.proofs.PlaceLaws.{cases}
 use Rattle.verdict.specs.declared.Check.{Check}
 use Rattle.verdict.specs.declared.Check.the-variants.{Clear, Stop}
 use Rattle.verdict.specs.Rules.{first}
@@ -25,6 +26,7 @@ use Rattle.journal.specs.declared.Head.the-variants.{Cut, Bad, Whole}
 use Rattle.journal.specs.Entries.{digitsIn, requestBody, cancelBody, closeBody, bodyOf, freshTaken, headOf}
 use Rattle.journal.specs.Journal.{Entry, Parsed, onHead, parseUpTo, parse, callOf, callsOf, made, makes, noBook, ledgerOf}
 use Rattle.journal.proofs.HeadLaws.{tagIn, lengthIn, WholeAt, whole-is}
+use Rattle.journal.proofs.MadeLaws.{Taken}
 use Rattle.journal.proofs.JournalLaws.{parse-cut, parse-bad, parse-whole}
 
 -- ---- lists of entries and of calls, one behind the other
@@ -69,7 +71,7 @@ unfolding closeBody
 close-none s = by-cond (digitsIn s 1 8) _ _ (close _) unread
 
 -- a body under another tag is no fresh
-pub body-none : (tag : ℕ) (s : List ℕ) → eqb tag 0 ≡ false → NoFresh (bodyOf tag s)
+body-none : (tag : ℕ) (s : List ℕ) → eqb tag 0 ≡ false → NoFresh (bodyOf tag s)
 unfolding bodyOf
 body-none tag s e =
     rw e
@@ -105,7 +107,7 @@ unfolding parse
 parse-none seen s l = none-fuel (length s) seen s l
 
 -- ---- they make their calls
-pub made-after : (b : Body) (bytes : List ℕ) (k : Book) → NoFresh b → made b bytes k ≡ after k (callOf b bytes)
+made-after : (b : Body) (bytes : List ℕ) (k : Book) → NoFresh b → made b bytes k ≡ after k (callOf b bytes)
 unfolding after
 made-after b bytes k (request r) = refl
 made-after b bytes k file = refl
@@ -130,10 +132,10 @@ pub data Begins (s : List ℕ) : Type 0 where
       → Begins s
 
 -- a fresh that is taken
-pub data Starts (b : Body) : Type 0 where
+data Starts (b : Body) : Type 0 where
   starts : (start : Start) → first (freshCauses start) ≡ Clear → b ≡ body.Fresh start → Starts b
 
-pub starts-by : (b : Body) → freshTaken b ≡ true → Starts b
+starts-by : (b : Body) → freshTaken b ≡ true → Starts b
 starts-by (body.Fresh s) h = go (first (freshCauses s)) refl
   where
     go : (c : Check) → first (freshCauses s) ≡ c → Starts (body.Fresh s)
@@ -144,6 +146,24 @@ starts-by body.File h = absurd (false≢true h)
 starts-by (body.Cancel id) h = absurd (false≢true h)
 starts-by (body.Close d) h = absurd (false≢true h)
 starts-by body.Unread h = absurd (false≢true h)
+
+-- a body that is no fresh, or a fresh that is taken, is taken
+none-taken : (b : Body) → NoFresh b → Taken b
+none-taken b (request r) = tt
+none-taken b file = tt
+none-taken b (cancel id) = tt
+none-taken b (close d) = tt
+none-taken b unread = tt
+
+starts-taken : (b : Body) → Starts b → Taken b
+starts-taken b (starts s c e) = subst Taken (sym e) c
+
+-- the body of a whole entry is taken
+pub whole-taken : (seen : ℕ) (s : List ℕ) (b : Body) (n : ℕ) → headOf seen s ≡ Whole b n → Taken b
+whole-taken seen s b n e =
+    let w = whole-is seen s b n e in
+    cases (eqb (tagIn s) 0) (λ z. starts-taken b (starts-by b (w .taken z)))
+    (λ z. none-taken b (subst NoFresh (sym (w .body)) (body-none (tagIn s) (part s 3 (lengthIn s)) z)))
 
 ledger-by : (s : List ℕ) (start : Start) (bytes : List ℕ) (es : List Entry)
     → parse 0 s .entries ≡ record { body = body.Fresh start; bytes = bytes } ∷ es → NoneFresh es
