@@ -1,11 +1,11 @@
 -- The table of a journal and the claim for its calls. Assumes nothing.
-use Prim.Native.Nat.{ℕ, _+_, _≤_, _<_}
-use mathlib.Core.Path.{_≡_, refl, ap}
+use Prim.Native.Nat.{ℕ, _+_, _-_, _≤_, _<_}
+use mathlib.Core.Path.{_≡_, refl, sym, ap, _∙_}
 use mathlib.Core.Bool.{Bool, true, false, _||_}
 use mathlib.Core.List.{List, []}
 use native.Mathlib.Omega.{arith}
 use lib.Dec.{eqb, ltb}
-use lib.ListN.{length, drop}
+use lib.ListN.{length, length-drop}
 use borrow.Author.Tests.{lt-ltb, le-ltb}
 use Rattle.fields.specs.Put.{put}
 use Rattle.fields.proofs.PutLaws.{put-nil}
@@ -43,12 +43,13 @@ claimed s = go (journal-begins s)
 
 -- ---- the table
 -- a walk over the whole journal, from its start
-pub walked : (s : List ℕ) (r : Reader) (w : Walked) (left : ℕ) → book (r .ledger) ≡ noBook → r .seen ≡ 0 → Walks r s w → left ≡ length (drop (w .used) s)
+pub walked : (s : List ℕ) (r : Reader) (w : Walked) (left : ℕ) → book (r .ledger) ≡ noBook → r .seen ≡ 0 → Walks r s w → left ≡ length s - w .used
     → tableOf (book (w .reader .ledger)) (endsBad (w .stopped) left (w .reader .seen)) ≡ postedOf s
 unfolding postedOf ledgerOf isBad
 walked s r w left k z h e =
     let o : 0 + length (parse 0 s .entries) ≡ length (parse 0 s .entries) = omega arith in
-    rw (h .ledger, h .stopped, h .seen, e, h .rest, k, z, o)
+    let d : left ≡ length (parse (r .seen) s .rest) = e ∙ sym (length-drop (w .used) s) ∙ ap length (h .rest) in
+    rw (h .ledger, h .stopped, h .seen, d, k, z, o)
 
 module _ (s out₀ : List ℕ) where
   pub refused : length out₀ < 10970 → Reports s out₀ out₀ TooSmall

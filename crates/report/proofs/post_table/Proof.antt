@@ -1,39 +1,33 @@
+-- `report::post_table` meets its contract: the walk reads the whole journal, and the table is that of its end.
 use borrow.Author.Needs.{needs}
+use mathlib.Core.Path.{refl}
+use Rattle.report.proofs.ReportLaws.{walked, refused, posted}
 use Rattle.report.proofs.post_table.Statement.{statement}
 use Rattle.report.proofs.post_table.Tie as tie
-use Rattle.report.proofs.post_table.Reads as reads
-use Rattle.report.proofs.post_table.Lts as lts
-use Rattle.replay.proofs.start.Reads as start-reads
-use Rattle.replay.proofs.walk.Reads as walk-reads
-use Rattle.report.proofs.finish.Reads as finish-reads
 
--- src/lib.rt:37:9
 returns : tie.Need-returns
-returns c = ?
+returns c = refused _ _ (c .if1 .taken)
 
--- src/lib.rt:39:31
 start-requires : tie.Need-start-requires
 start-requires c κs = search needs
 
--- src/lib.rt:39:9
 walk-requires : tie.Need-walk-requires
-walk-requires c κs = search needs
+walk-requires c κs = c .start .ensures .0
 
--- src/lib.rt:42:39
 sub-finish : tie.Need-sub-finish
-sub-finish c = search needs
+sub-finish c = c .before .before .walk .ensures .used
 
--- src/lib.rt:42:9
 finish-requires : tie.Need-finish-requires
-finish-requires c κs = search needs
+finish-requires c κs = (c .before .before .walk .ensures .good, c .before .before .before .before .if1 .left)
 
--- src/lib.rt:33:1
 same-length : tie.Need-same-length
 same-length c = search needs
 
--- src/lib.rt:33:1
 returns-2 : tie.Need-returns-2
-returns-2 c = ?
+returns-2 c =
+    posted _ _ _ _ _ (c .before .before .before .before .before .before .before .if1 .left)
+    (walked _ _ _ _ (c .before .before .before .before .before .before .start .ensures .1) (c .before .before .before .before .before .before .start .ensures .2) (c .before .before .before .before .before .walk .ensures) refl)
+    (c .before .before .finish .ensures .0) (c .before .before .finish .ensures .1 .0)
 
 pub post-table-spec : {M : Type 1} → statement M
 post-table-spec =
