@@ -1,15 +1,15 @@
 -- The walk over the entries at the start of some bytes. Assumes nothing.
-use Prim.Native.Nat.{ℕ, suc, _+_, _-_, _*_, _≤_, _<_}
+use Prim.Native.Nat.{ℕ, _+_, _-_, _≤_, _<_}
 use mathlib.Core.Path.{_≡_, refl, sym, ap, _∙_, subst}
 use mathlib.Core.Bool.{Bool, true, false}
 use mathlib.Core.Logic.{⊎-elim}
-use mathlib.Core.List.{List, [], _∷_, map}
+use mathlib.Core.List.{List, [], _∷_}
 use native.Mathlib.Omega.{arith}
 use native.Mathlib.Nat.{add-zero}
 use types.Run.{OneOf}
 use denote.Enum.Declared.{tagOf}
 use lib.Dec.{eqb}
-use lib.ListN.{length, set, take, drop, length-set, length-drop, length-take}
+use lib.ListN.{length, set, take, drop, length-set, length-drop}
 use lib.Seq.{take-all, drop-drop}
 use Rattle.fields.specs.Put.{part}
 use Rattle.ledger.specs.declared.Ledger.{Ledger}
@@ -27,13 +27,12 @@ use Rattle.journal.specs.declared.Body.the-variants as body
 use Rattle.journal.specs.declared.Head.{Head}
 use Rattle.journal.specs.declared.Head.the-variants.{Cut, Bad, Whole}
 use Rattle.journal.specs.Entries.{headOf}
-use Rattle.journal.specs.Journal.{Entry, Parsed, parse, made, makes}
+use Rattle.journal.specs.Journal.{Parsed, parse, made, makes}
 use Rattle.journal.proofs.Head as head
 use Rattle.journal.proofs.HeadLaws.{tagIn, lengthIn, whole-is, whole-fits}
 use Rattle.journal.proofs.JournalLaws.{parse-cut, parse-bad, parse-whole}
 use Rattle.journal.proofs.MakeLaws as make
 use Rattle.replay.specs.declared.Reader.{Reader}
-use Rattle.replay.specs.declared.Walked.{Walked}
 use Rattle.replay.specs.declared.settle.Left.{Left}
 use Rattle.replay.specs.Reader.{accountOf, keyOf, Good, Walks}
 use Rattle.replay.specs.Steps.{isBad, findFor, slotOf, leftBy, topOf, leftAt}

@@ -7,12 +7,9 @@ use mathlib.Core.Path.{_≡_, sym, _∙_}
 use native.Mathlib.Omega.{arith}
 use borrow.Author.Needs.{needs}
 use lib.ListN.{length}
-use Rattle.ledger.proofs.BookLaws.{places}
-use Rattle.ledger.proofs.SoundLaws.{ledger-count}
 use Rattle.ledger.specs.Sound.{soundLedger}
 use Rattle.groups.proofs.ReadyLaws.{sound-ready}
 use Rattle.replay.proofs.ReaderLaws.{reader-places}
-use Rattle.replay.proofs.SpotLaws.{lists-long}
 use Rattle.replay.proofs.RecordWalk.{taking-places, inner-detail, inner-calm, inner-ids, inner-group, lent, taking-start, Inner}
 use Rattle.replay.proofs.EntryLaws.{filed, filed-by, filed-sound, sound-for, to-take-few}
 use Rattle.replay.proofs.EntryWalk.{went-on, Going, going-start, fits, at-end}
