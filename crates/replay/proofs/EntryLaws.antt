@@ -1,5 +1,5 @@
 -- What an entry does on small values and in place is what its call does. Assumes nothing.
-use Prim.Native.Nat.{ℕ, _+_, _*_, _/_, _≤_, _<_}
+use Prim.Native.Nat.{ℕ, _*_, _/_, _≤_, _<_}
 use mathlib.Core.Path.{_≡_, refl, sym, ap, _∙_, subst}
 use mathlib.Core.Bool.{true, false, true≢false}
 use mathlib.Core.List.{List, [], _∷_}
@@ -21,7 +21,6 @@ use Rattle.notices.specs.Layout.{recordsFrom}
 use Rattle.file.specs.File.{groups}
 use Rattle.verdict.specs.declared.Check.{Check}
 use Rattle.verdict.specs.declared.Check.the-variants.{Clear, Stop}
-use Rattle.verdict.specs.declared.Sought.{Sought}
 use Rattle.verdict.specs.Rules.{first}
 use Rattle.verdict.specs.Lines.{isNothing}
 use Rattle.groups.specs.Groups.{taken}
@@ -31,7 +30,7 @@ use Rattle.calls.specs.declared.Start.{Start}
 use Rattle.calls.specs.declared.Request.{Request}
 use Rattle.calls.specs.declared.Called.{Called}
 use Rattle.calls.specs.Causes.{Call, request, file, cancel, close, freshCauses, requestCauses, fileCauses, cancelCauses, closeCauses, causes}
-use Rattle.calls.specs.Machine.{next, causeIn, called, ran}
+use Rattle.calls.specs.Machine.{next, causeIn, ran}
 use Rattle.calls.specs.BillSteps.{billFound, askedAt, storedAt, counted, HasPlace}
 use Rattle.calls.proofs.CallLaws.{cause-sound, called-stop, called-clear}
 use Rattle.calls.proofs.CauseLaws.{asks, sends, cancels}
@@ -43,7 +42,7 @@ use Rattle.journal.specs.declared.Body.{Body}
 use Rattle.journal.specs.declared.Body.the-variants as body
 use Rattle.journal.specs.Journal.{callOf, made}
 use Rattle.journal.proofs.BeginLaws as make
-use Rattle.replay.specs.Steps.{findFor, slotOf, soughtBy, SoundAt, RenewsAt, recordsBy, toTake, askedBy, grown, kept, usedBy, requestBy, cancelBy, closeBy, freshTop, leftBy, topOf, leftAt}
+use Rattle.replay.specs.Steps.{findFor, slotOf, soughtBy, SoundAt, RenewsAt, recordsBy, toTake, askedBy, grown, kept, usedBy, requestBy, cancelBy, closeBy, leftBy, topOf, leftAt}
 use Rattle.replay.proofs.SpotLaws.{Lists, lists-find, Spots, none, some, spots, spot-sought, spot-sound}
 use Rattle.replay.proofs.RecordWalk.{Taking, taking-end}
 

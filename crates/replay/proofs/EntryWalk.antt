@@ -1,12 +1,15 @@
 -- The walk over the entries at the start of some bytes. Assumes nothing.
-use Prim.Native.Nat.{ℕ, suc, _+_, _-_, _*_, _≤_, _<_}
+use Prim.Native.Nat.{ℕ, _+_, _-_, _≤_, _<_}
 use mathlib.Core.Path.{_≡_, refl, sym, ap, _∙_, subst}
 use mathlib.Core.Bool.{Bool, true, false}
-use mathlib.Core.List.{List, [], _∷_, map}
+use mathlib.Core.Logic.{⊎-elim}
+use mathlib.Core.List.{List, [], _∷_}
 use native.Mathlib.Omega.{arith}
 use native.Mathlib.Nat.{add-zero}
+use types.Run.{OneOf}
+use denote.Enum.Declared.{tagOf}
 use lib.Dec.{eqb}
-use lib.ListN.{length, set, take, drop, length-set, length-drop, length-take}
+use lib.ListN.{length, set, take, drop, length-set, length-drop}
 use lib.Seq.{take-all, drop-drop}
 use Rattle.fields.specs.Put.{part}
 use Rattle.ledger.specs.declared.Ledger.{Ledger}
@@ -24,15 +27,15 @@ use Rattle.journal.specs.declared.Body.the-variants as body
 use Rattle.journal.specs.declared.Head.{Head}
 use Rattle.journal.specs.declared.Head.the-variants.{Cut, Bad, Whole}
 use Rattle.journal.specs.Entries.{headOf}
-use Rattle.journal.specs.Journal.{Entry, Parsed, parse, made, makes}
+use Rattle.journal.specs.Journal.{Parsed, parse, made, makes}
+use Rattle.journal.proofs.Head as head
 use Rattle.journal.proofs.HeadLaws.{tagIn, lengthIn, whole-is, whole-fits}
 use Rattle.journal.proofs.JournalLaws.{parse-cut, parse-bad, parse-whole}
 use Rattle.journal.proofs.BeginLaws as make
 use Rattle.replay.specs.declared.Reader.{Reader}
-use Rattle.replay.specs.declared.Walked.{Walked}
 use Rattle.replay.specs.declared.settle.Left.{Left}
 use Rattle.replay.specs.Reader.{accountOf, keyOf, Good, Walks}
-use Rattle.replay.specs.Steps.{findFor, slotOf, leftBy, topOf, leftAt}
+use Rattle.replay.specs.Steps.{isBad, findFor, slotOf, leftBy, topOf, leftAt}
 use Rattle.replay.proofs.SearchLaws.{map-set}
 use Rattle.replay.proofs.SpotLaws.{Lists}
 use Rattle.replay.proofs.EntryLaws.{filed, Entered, FreshTaken, entered}
@@ -105,13 +108,12 @@ module _ (src : List ℕ) (r : Reader) (l : Ledger) (ns ks : List ℕ) (seen at 
         rest = ap (λ (p : Parsed). p .rest) (sym e) ∙ w .rest;
       }
 
-  pub at-cut : headOf seen here ≡ Cut
-      → Walks r src (record { reader = record { ledger = l; accounts = ns; keys = ks; seen = seen }; used = at; stopped = false })
-  at-cut e = ended false (parse-cut seen (drop at src) (head-is Cut e))
-
-  pub at-bad : headOf seen here ≡ Bad
-      → Walks r src (record { reader = record { ledger = l; accounts = ns; keys = ks; seen = seen }; used = at; stopped = true })
-  at-bad e = ended true (parse-bad seen (drop at src) (head-is Bad e))
+  -- h is one of the first two
+  pub at-end : (h : Head) → headOf seen here ≡ h → OneOf (0 ∷ 1 ∷ []) (tagOf head.the-type h) → (b : Bool) → b ≡ isBad h
+      → Walks r src (record { reader = record { ledger = l; accounts = ns; keys = ks; seen = seen }; used = at; stopped = b })
+  at-end Cut e o b q = rw q (ended false (parse-cut seen (drop at src) (head-is Cut e)))
+  at-end Bad e o b q = rw q (ended true (parse-bad seen (drop at src) (head-is Bad e)))
+  at-end (Whole x n) e o b q = absurd (⊎-elim (λ z. omega arith) (λ z. omega arith) o)
 
   -- a whole entry
   module _ (b : Body) (n : ℕ) (e : headOf seen here ≡ Whole b n) where

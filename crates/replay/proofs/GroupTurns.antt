@@ -1,12 +1,10 @@
 -- A group's turn on small values. Assumes nothing.
-use Prim.Native.Nat.{ℕ, _+_, _≤_, _<_}
+use Prim.Native.Nat.{ℕ, _+_, _≤_}
 use mathlib.Core.Path.{_≡_, refl, sym, ap, _∙_}
 use mathlib.Core.Bool.{Bool, true, false}
-use mathlib.Core.List.{List, [], map}
+use mathlib.Core.List.{List, []}
 use native.Mathlib.Omega.{arith}
 use native.Mathlib.Nat.{add-zero}
-use lib.Dec.{leb}
-use lib.ListN.{length}
 use lib.Seq.{set-getD}
 use borrow.Author.Tests.{lt-leb, lt-ltb}
 use Rattle.units.specs.declared.Date.{Date}
@@ -17,7 +15,7 @@ use Rattle.ledger.specs.declared.Identity.{Identity}
 use Rattle.ledger.specs.declared.Ledger.{Ledger}
 use Rattle.ledger.specs.declared.Posted.{Posted}
 use Rattle.ledger.specs.Bills.{blankBill}
-use Rattle.ledger.specs.Books.{View, book, live, view, placeOf, termsIn}
+use Rattle.ledger.specs.Books.{View, book, live, view, placeOf}
 use Rattle.file.specs.File.{Group, asksId, detailOf, line1, line2}
 use Rattle.verdict.specs.declared.Sought.{Sought}
 use Rattle.verdict.specs.declared.Verdict.{Verdict}
@@ -26,8 +24,8 @@ use Rattle.verdict.specs.Lines.{line4, verdictOf}
 use Rattle.file.specs.Walk.{groupAt}
 use Rattle.file.proofs.FileLaws.{header-is, only-detail}
 use Rattle.file.proofs.FormLaws.{one-detail, one-within}
-use Rattle.groups.specs.declared.Decision.the-variants.{Post, Reject}
-use Rattle.groups.specs.Groups.{identityOf, soughtIn, sought, kindOf, linesBy, verdictBy}
+use Rattle.groups.specs.declared.Decision.the-variants.{Post}
+use Rattle.groups.specs.Groups.{identityOf, sought, kindOf, linesBy, verdictBy}
 use Rattle.groups.specs.Steps.{billAt, soughtAt, decided, decisionBy, applied}
 use Rattle.groups.proofs.PlaceLaws.{cases, sought-is}
 use Rattle.groups.proofs.TurnLaws.{Comes, rejects, posts, comes, clear-off, accepted-clear}

@@ -6,3 +6,4 @@ pub mod GroupTurns
 pub mod RecordWalk
 pub mod EntryLaws
 pub mod EntryWalk
+pub mod FeedLaws

@@ -1,7 +1,7 @@
 -- The walk over a file's records on a ledger that is changed in place: the walk of `groups`, whose counts and output only the proof knows.
 -- Assumes nothing.
 use Prim.Native.Nat.{ℕ, _+_, _-_, _*_, _≤_, _<_}
-use mathlib.Core.Path.{_≡_, refl, sym, ap, _∙_}
+use mathlib.Core.Path.{_≡_, refl, sym, _∙_}
 use mathlib.Core.Bool.{Bool, true, false}
 use mathlib.Core.List.{List, []}
 use native.Mathlib.Omega.{arith}
@@ -9,11 +9,10 @@ use lib.ListN.{length, take, drop, replicate, length-replicate}
 use Rattle.fields.specs.Put.{put}
 use Rattle.fields.proofs.PutLaws.{length-put}
 use Rattle.ledger.specs.declared.Identity.{Identity}
-use Rattle.ledger.specs.declared.Bill.{Bill}
 use Rattle.ledger.specs.declared.Ledger.{Ledger}
 use Rattle.ledger.specs.declared.Found.{Found}
 use Rattle.ledger.specs.Bills.{blankBill}
-use Rattle.ledger.specs.Books.{book, live, stored}
+use Rattle.ledger.specs.Books.{book, stored}
 use Rattle.notices.specs.Layout.{recordAt, recordsFrom}
 use Rattle.file.specs.File.{isHeader, Group, groups, asksId}
 use Rattle.file.specs.Walk.{groupAt, markAt}

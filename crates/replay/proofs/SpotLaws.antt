@@ -1,6 +1,6 @@
 -- The place that a search over the lists gives, and the bill at it. Assumes nothing.
 use Prim.Native.Nat.{ℕ, _≤_, _<_}
-use mathlib.Core.Path.{_≡_, refl, sym, ap, _∙_}
+use mathlib.Core.Path.{_≡_, sym, ap, _∙_}
 use mathlib.Core.Bool.{true}
 use mathlib.Core.List.{List, map}
 use native.Mathlib.Omega.{arith}
@@ -15,7 +15,7 @@ use Rattle.ledger.specs.declared.Found.the-variants.{At, Nothing}
 use Rattle.ledger.specs.Lists.{every}
 use Rattle.ledger.specs.Books.{book, live, placeOf, smallCharge}
 use Rattle.ledger.specs.Sound.{soundBill, soundLedger}
-use Rattle.ledger.proofs.SoundLaws.{terms-facts, bill-terms, book-facts, ledger-book, ledger-count}
+use Rattle.ledger.proofs.SoundLaws.{terms-facts, bill-terms, book-facts, ledger-book}
 use Rattle.groups.specs.Steps.{billAt, soughtAt, calm}
 use Rattle.groups.proofs.PlaceLaws.{Held, nowhere, somewhere, held}
 use Rattle.groups.proofs.TurnLaws.{every-held}

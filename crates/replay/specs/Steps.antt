@@ -1,7 +1,7 @@
 -- What the contracts of the parts cite: small values, and the place of a bill in the struct. Assumes nothing.
 use Prim.Native.Nat.{ℕ, suc, _+_, _/_, _≤_}
 use mathlib.Core.Path.{_≡_}
-use mathlib.Core.Bool.{Bool, false, cond, _&&_}
+use mathlib.Core.Bool.{Bool, true, false, cond, _&&_}
 use mathlib.Core.List.{List, [], _∷_}
 use lib.Dec.{eqb, leb, ltb}
 use lib.ListN.{length, set}
@@ -30,6 +30,8 @@ use Rattle.calls.specs.Causes.{requestCauses, fileCauses, cancelCauses, closeCa
 use Rattle.calls.specs.Machine.{latestOf, newBill}
 use Rattle.journal.specs.declared.Body.{Body}
 use Rattle.journal.specs.declared.Body.the-variants as body
+use Rattle.journal.specs.declared.Head.{Head}
+use Rattle.journal.specs.declared.Head.the-variants.{Cut, Bad, Whole}
 use Rattle.replay.specs.declared.settle.Top.{Top}
 use Rattle.replay.specs.declared.settle.Left.{Left}
 use Rattle.replay.specs.declared.turns.Settled.{Settled}
@@ -102,6 +104,12 @@ turnedAt l p x =
     }
 
 -- ---- an entry
+-- a bad entry stands here
+abbrev pub isBad : Head → Bool
+isBad Cut = false
+isBad Bad = true
+isBad (Whole b n) = false
+
 -- how many of n records of a file are to be taken: none of one that is refused
 abbrev pub recordsBy : Check → ℕ → ℕ
 recordsBy Clear n = n

@@ -52,81 +52,66 @@ pub fn walk(src: &[u8], r: Reader) -> Walked
     let mut at = 0;
     'entries: loop {
         let h = journal::head_at(&src[at..], seen);
-        match h {
-            Head::Cut => {
-                return Walked {
-                    reader: Reader {
-                        ledger: l,
-                        accounts,
-                        keys,
-                        seen,
-                    },
-                    used: at,
-                    stopped: false,
-                };
-            }
-            Head::Bad => {
-                return Walked {
-                    reader: Reader {
-                        ledger: l,
-                        accounts,
-                        keys,
-                        seen,
-                    },
-                    used: at,
-                    stopped: true,
-                };
-            }
-            Head::Whole(body, n) => {
-                let from = at + 3;
-                let end = at + n;
-                let m = settle::records_to_take(
-                    body,
-                    &src[from..end],
-                    l.next_tracking,
-                    l.next_confirmation,
-                );
-                let marks = pairs::duplicates(&src[from..end], m);
-                'records: for i in 0..m {
-                    if file::header_at(&src[from..end], i) {
-                        let id = turns::identity_at(&src[from..end], i, m);
-                        let held = l.count;
-                        let g = search::place(&accounts, &keys, held, id);
-                        let q = search::slot(g, held);
-                        let old = l.bills[q];
-                        let day = l.today;
-                        let x = turns::turn(&src[from..end], i, m, marks[i], g, old, day);
-                        let new = x.bill;
-                        l.bills[q] = new;
-                        l.next_tracking = l.next_tracking + x.ids;
-                        l.next_confirmation = l.next_confirmation + 1;
-                    }
-                }
-                let count = l.count;
-                let f = search::place_for(&accounts, &keys, count, body);
-                let p = search::slot(f, count);
-                let today = l.today;
-                let top = Top {
-                    today,
-                    tracking: l.next_tracking,
-                    confirmation: l.next_confirmation,
-                    count,
-                };
-                let b = l.bills[p];
-                let left = settle::settle(body, top, f, b);
-                let c = left.bill;
-                let t = left.top;
-                let date = t.today;
-                accounts[p] = c.terms.identity.account;
-                keys[p] = c.terms.identity.key;
-                l.bills[p] = c;
-                l.today = date;
-                l.next_tracking = t.tracking;
-                l.next_confirmation = t.confirmation;
-                l.count = t.count;
-                seen += 1;
-                at = end;
+        let Head::Whole(body, n) = h else {
+            let stopped = settle::is_bad(h);
+            return Walked {
+                reader: Reader {
+                    ledger: l,
+                    accounts,
+                    keys,
+                    seen,
+                },
+                used: at,
+                stopped,
+            };
+        };
+        let from = at + 3;
+        let end = at + n;
+        let m = settle::records_to_take(
+            body,
+            &src[from..end],
+            l.next_tracking,
+            l.next_confirmation,
+        );
+        let marks = turns::marks(&src[from..end], m);
+        'records: for i in 0..m {
+            if file::header_at(&src[from..end], i) {
+                let id = turns::identity_at(&src[from..end], i, m);
+                let held = l.count;
+                let g = search::place(&accounts, &keys, held, id);
+                let q = search::slot(g, held);
+                let old = l.bills[q];
+                let day = l.today;
+                let x = turns::turn(&src[from..end], i, m, marks[i], g, old, day);
+                let new = x.bill;
+                l.bills[q] = new;
+                l.next_tracking = l.next_tracking + x.ids;
+                l.next_confirmation = l.next_confirmation + 1;
             }
         }
+        let count = l.count;
+        let f = search::place_for(&accounts, &keys, count, body);
+        let p = search::slot(f, count);
+        let today = l.today;
+        let top = Top {
+            today,
+            tracking: l.next_tracking,
+            confirmation: l.next_confirmation,
+            count,
+        };
+        let b = l.bills[p];
+        let left = settle::settle(body, top, f, b);
+        let c = left.bill;
+        let t = left.top;
+        let date = t.today;
+        accounts[p] = c.terms.identity.account;
+        keys[p] = c.terms.identity.key;
+        l.bills[p] = c;
+        l.today = date;
+        l.next_tracking = t.tracking;
+        l.next_confirmation = t.confirmation;
+        l.count = t.count;
+        seen += 1;
+        at = end;
     }
 }

@@ -2,13 +2,14 @@
 ghost use mathlib.Core.Path.{_≡_};
 ghost use Prim.Native.Nat.{_+_, _/_, _≤_};
 ghost use lib.ListN.{length};
-ghost use Rattle.replay.specs.Steps.{soughtBy, recordsBy, toTake, SoundAt, RenewsAt, askedBy, grown, usedBy, closeBy, freshTop, requestBy, cancelBy, leftBy};
+ghost use Rattle.replay.specs.Steps.{soughtBy, isBad, recordsBy, toTake, SoundAt, RenewsAt, askedBy, grown, usedBy, closeBy, freshTop, requestBy, cancelBy, leftBy};
 ghost use Rattle.verdict.specs.Rules.{first};
 ghost use Rattle.calls.specs.Causes.{requestCauses, fileCauses, cancelCauses, closeCauses};
 use crate::turns;
 use calls::Request;
 use calls::Start;
 use journal::Body;
+use journal::Head;
 use ledger::Bill;
 use ledger::Found;
 use ledger::Identity;
@@ -27,6 +28,17 @@ pub struct Top {
 pub struct Left {
     pub top: Top,
     pub bill: Bill,
+}
+
+// Whether a bad entry stands there.
+pub fn is_bad(h: Head) -> bool
+    ensures { λ r. ⌜ r ≡ isBad h ⌝ }
+{
+    match h {
+        Head::Cut => false,
+        Head::Bad => true,
+        Head::Whole(_, _) => false,
+    }
 }
 
 // How many records of a file are to be taken: none of one that is refused.

@@ -1,8 +1,9 @@
 // One group's turn on small values: the bill that it names is found and stored by the walk.
 ghost use mathlib.Core.Path.{_≡_};
-ghost use Prim.Native.Nat.{_+_, _*_, _≤_, _<_};
-ghost use lib.ListN.{length};
-ghost use Rattle.file.specs.Walk.{groupAt};
+ghost use mathlib.Core.Bool.{false};
+ghost use Prim.Native.Nat.{ℕ, _+_, _*_, _≤_, _<_};
+ghost use lib.ListN.{length, getD};
+ghost use Rattle.file.specs.Walk.{groupAt, markAt};
 ghost use Rattle.replay.specs.Steps.{soughtBy, identityAt, Decides, turnBy, Turns, CanPost, CalmAt};
 use file::Form;
 use ledger::Bill;
@@ -17,6 +18,17 @@ use verdict::Verdict;
 pub struct Settled {
     pub bill: Bill,
     pub ids: u64,
+}
+
+// The headers of groups that get BR14. (An entry that is no file has no records, and most are none: they are not searched.)
+pub fn marks(s: &[u8], n: usize) -> [bool; 200]
+    requires { ⌜ (n ≤ 200) × (n * 321 ≤ length (now s)) ⌝ }
+    ensures { λ r. ⌜ ((k : ℕ) → k < n → getD r k false ≡ markAt (now (s .entry)) n k) ⌝ }
+{
+    if n == 0 {
+        return [false; 200];
+    }
+    pairs::duplicates(s, n)
 }
 
 // The identity that the group of record i names, where a record follows.

@@ -56,14 +56,16 @@ module _ (s out₀ : List ℕ) where
   unfolding reportOf reported
   refused h =
       let e = lt-ltb (length out₀) 10970 h in
-      record { answer = rw e; bytes = rw e (put-nil out₀ 0); claimed = claimed s }
+      record { answer = rw e; bytes = rw e (put-nil out₀ 0); within = tt; claimed = claimed s }
 
-  pub posted : (t out : List ℕ) (n : ℕ) → 10970 ≤ length out₀ → t ≡ postedOf s → n ≡ length t → out ≡ put out₀ 0 t → Reports s out₀ out (Written n)
+  pub posted : (t out : List ℕ) (n : ℕ) → 10970 ≤ length out₀ → t ≡ postedOf s → n ≡ length t → out ≡ put out₀ 0 t → n ≤ 10970
+      → Reports s out₀ out (Written n)
   unfolding reportOf reported
-  posted t out n h p q u =
+  posted t out n h p q u w =
       let e = le-ltb (length out₀) 10970 h in
       record {
         answer = rw (e, q, p);
         bytes = rw (e, ← p) u;
+        within = w;
         claimed = claimed s;
       }

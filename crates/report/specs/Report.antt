@@ -1,5 +1,5 @@
 -- Program `posted`: the table of a journal, with the claim for the journal's calls. Assumes nothing.
-use Prim.Native.Nat.{ℕ}
+use Prim.Native.Nat.{ℕ, _≤_}
 use mathlib.Core.Path.{_≡_}
 use mathlib.Core.Bool.{true, cond}
 use mathlib.Core.List.{List, []}
@@ -36,7 +36,13 @@ reportOf room s = cond (ltb room 10970) TooSmall (Written (length (postedOf s)))
 unfoldable pub reported : ℕ → List ℕ → List ℕ
 reported room s = cond (ltb room 10970) [] (postedOf s)
 
+-- a table has at most 10,970 bytes
+abbrev pub Within : Report → Type 0
+Within (Written n) = n ≤ 10970
+Within TooSmall = Unit {0}
+
 pub record Reports (s out₀ out : List ℕ) (r : Report) : Type 0 where
   pub answer : r ≡ reportOf (length out₀) s
   pub bytes : out ≡ put out₀ 0 (reported (length out₀) s)
+  pub within : Within r
   pub claimed : Claimed s

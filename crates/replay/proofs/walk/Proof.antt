@@ -1,25 +1,18 @@
+-- `replay::walk` meets its contract. The outer invariant is `Going`, the inner one `Inner`.
+use Prim.Native.Nat.{ℕ, _+_, _-_, _*_, _≤_, _<_}
 use mathlib.Core.Bool.{true}
 use mathlib.Core.List.{List}
 use mathlib.Core.Logic.{⊎-elim}
-use Rattle.ledger.specs.Sound.{soundLedger}
-use Rattle.replay.proofs.SpotLaws.{lists-long}
-use Rattle.replay.proofs.RecordWalk.{taking-places, inner-detail, inner-calm, inner-ids, inner-group}
-use Rattle.replay.proofs.EntryLaws.{filed, filed-by, filed-sound, sound-for}
-use Rattle.replay.proofs.EntryWalk.{went-on}
-use Rattle.ledger.proofs.SoundLaws.{ledger-count}
-use Rattle.groups.proofs.ReadyLaws.{sound-ready}
-use Rattle.replay.proofs.ReaderLaws.{reader-places}
-use Rattle.replay.proofs.RecordWalk.{lent, taking-start}
-use Rattle.replay.proofs.EntryLaws.{to-take-few}
--- `replay::walk` meets its contract. The outer invariant is `Going`, the inner one `Inner`.
-use borrow.Author.Needs.{needs}
-use Prim.Native.Nat.{ℕ, _+_, _-_, _*_, _≤_, _<_}
 use mathlib.Core.Path.{_≡_, sym, _∙_}
 use native.Mathlib.Omega.{arith}
+use borrow.Author.Needs.{needs}
 use lib.ListN.{length}
-use Rattle.ledger.proofs.BookLaws.{places}
-use Rattle.replay.proofs.RecordWalk.{Inner}
-use Rattle.replay.proofs.EntryWalk.{Going, going-start, at-cut, at-bad, fits}
+use Rattle.ledger.specs.Sound.{soundLedger}
+use Rattle.groups.proofs.ReadyLaws.{sound-ready}
+use Rattle.replay.proofs.ReaderLaws.{reader-places}
+use Rattle.replay.proofs.RecordWalk.{taking-places, inner-detail, inner-calm, inner-ids, inner-group, lent, taking-start, Inner}
+use Rattle.replay.proofs.EntryLaws.{filed, filed-by, filed-sound, sound-for, to-take-few}
+use Rattle.replay.proofs.EntryWalk.{went-on, Going, going-start, fits, at-end}
 use Rattle.replay.proofs.walk.Statement.{statement}
 use Rattle.replay.proofs.walk.Tie as tie
 
@@ -81,20 +74,14 @@ part-head-at-end c = omega arith
 head-at-requires : tie.Need-head-at-requires Inv-records μ-records Inv-entries μ-entries
 head-at-requires c κs = search needs
 
-enum-told : tie.Need-enum-told Inv-records μ-records Inv-entries μ-entries
-enum-told c = search needs
-
-returns : tie.Need-returns Inv-records μ-records Inv-entries μ-entries
-returns c = at-cut _ (c .before .before .before .before .before .before .before .before .before .args .r) _ _ _ _ _ (c .before .before .before .before .entries .inv) (sym (c .before .before .head-at .ensures) ∙ c .enum-told .given .1)
-
-enum-told-2 : tie.Need-enum-told-2 Inv-records μ-records Inv-entries μ-entries
-enum-told-2 c = search needs
-
-returns-2 : tie.Need-returns-2 Inv-records μ-records Inv-entries μ-entries
-returns-2 c = at-bad _ (c .before .before .before .before .before .before .before .before .before .args .r) _ _ _ _ _ (c .before .before .before .before .entries .inv) (sym (c .before .before .head-at .ensures) ∙ c .enum-told2 .given .1)
-
 enum-known-h : tie.Need-enum-known-h Inv-records μ-records Inv-entries μ-entries
 enum-known-h c = search needs
+
+is-bad-requires : tie.Need-is-bad-requires Inv-records μ-records Inv-entries μ-entries
+is-bad-requires c κs = search needs
+
+returns : tie.Need-returns Inv-records μ-records Inv-entries μ-entries
+returns c = at-end _ (c .before .before .before .before .before .before .before .before .before .args .r) _ _ _ _ _ (c .before .before .before .before .entries .inv) _ (sym (c .before .before .head-at .ensures)) (c .before .match .keys2) _ (c .is-bad .ensures)
 
 add-from : tie.Need-add-from Inv-records μ-records Inv-entries μ-entries
 add-from c = omega (arith, whole c)
@@ -114,17 +101,17 @@ part-records-to-take-end c = omega (arith, whole c)
 records-to-take-requires : tie.Need-records-to-take-requires Inv-records μ-records Inv-entries μ-entries
 records-to-take-requires c κs = let r = sound-ready _ (c .before .before .before .before .before .before .entries .inv .sure) in (r .tracking, r .confirmation)
 
-sub-duplicates : tie.Need-sub-duplicates Inv-records μ-records Inv-entries μ-entries
-sub-duplicates c = omega (arith, whole (c .before .before))
+sub-marks : tie.Need-sub-marks Inv-records μ-records Inv-entries μ-entries
+sub-marks c = omega (arith, whole (c .before .before))
 
-part-duplicates-start : tie.Need-part-duplicates-start Inv-records μ-records Inv-entries μ-entries
-part-duplicates-start c = omega (arith, whole (c .before .before))
+part-marks-start : tie.Need-part-marks-start Inv-records μ-records Inv-entries μ-entries
+part-marks-start c = omega (arith, whole (c .before .before))
 
-part-duplicates-end : tie.Need-part-duplicates-end Inv-records μ-records Inv-entries μ-entries
-part-duplicates-end c = omega (arith, whole (c .before .before))
+part-marks-end : tie.Need-part-marks-end Inv-records μ-records Inv-entries μ-entries
+part-marks-end c = omega (arith, whole (c .before .before))
 
-duplicates-requires : tie.Need-duplicates-requires Inv-records μ-records Inv-entries μ-entries
-duplicates-requires c κs = few (c .before)
+marks-requires : tie.Need-marks-requires Inv-records μ-records Inv-entries μ-entries
+marks-requires c κs = few (c .before)
 
 records-holds : tie.Need-records-holds Inv-records μ-records Inv-entries μ-entries
 records-holds c = let q = whole (c .before .before .before .before) in
@@ -215,7 +202,7 @@ records-again c = let v = c .before .before .before .before .records .inv in
     (λ w.
     rw (w .13)
     (inner-group _ _ _ _ _ _ _ _ _ v h (w .5 .result) (w .6 .result) (w .2 .result) (w .2 .ensures) (w .5 .ensures) (w .6 .ensures .0) _ (w .10 .result) (w .10 .ensures)
-    (sym (c .before .header-at .ensures) ∙ w .0 .taken) (c .before .before .before .before .before .duplicates .ensures .0 _ h)))
+    (sym (c .before .header-at .ensures) ∙ w .0 .taken) (c .before .before .before .before .before .marks .ensures _ h)))
     (λ w. rw (w .1) (inner-detail _ _ _ _ _ _ _ _ _ v h (sym (c .before .header-at .ensures) ∙ w .0 .left)))
     (c .if1 .came)
 
@@ -275,21 +262,19 @@ walk-spec =
     part-head-at-start
     part-head-at-end
     head-at-requires
-    enum-told
-    returns
-    enum-told-2
-    returns-2
     enum-known-h
+    is-bad-requires
+    returns
     add-from
     add-end
     sub-records-to-take
     part-records-to-take-start
     part-records-to-take-end
     records-to-take-requires
-    sub-duplicates
-    part-duplicates-start
-    part-duplicates-end
-    duplicates-requires
+    sub-marks
+    part-marks-start
+    part-marks-end
+    marks-requires
     records-holds
     sub-header-at
     part-header-at-start

@@ -27,7 +27,7 @@ returns-2 : tie.Need-returns-2
 returns-2 c =
     posted _ _ _ _ _ (c .before .before .before .before .before .before .before .if1 .left)
     (walked _ _ _ _ (c .before .before .before .before .before .before .start .ensures .1) (c .before .before .before .before .before .before .start .ensures .2) (c .before .before .before .before .before .walk .ensures) refl)
-    (c .before .before .finish .ensures .0) (c .before .before .finish .ensures .1 .0)
+    (c .before .before .finish .ensures .0) (c .before .before .finish .ensures .1 .0) (c .before .before .finish .ensures .1 .1)
 
 pub post-table-spec : {M : Type 1} → statement M
 post-table-spec =

@@ -5,7 +5,6 @@ use native.Mathlib.Omega.{arith}
 use borrow.Author.Needs.{needs}
 use lib.ListN.{take}
 use lib.Seq.{slice}
-use Rattle.ledger.specs.declared.Identity.{Identity}
 use Rattle.replay.specs.Steps.{findIn}
 use Rattle.replay.proofs.SearchLaws.{long, find-hit, find-miss, find-end}
 use Rattle.replay.proofs.search.place.Statement.{statement}

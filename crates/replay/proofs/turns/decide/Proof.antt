@@ -10,10 +10,8 @@ use Rattle.file.specs.Walk.{groupAt}
 use Rattle.file.proofs.FileLaws.{header-is, only-detail}
 use Rattle.file.proofs.WalkLaws.{lent-head, lent-next}
 use Rattle.file.proofs.FormLaws.{says, one-detail, one-within}
-use Rattle.verdict.specs.declared.Verdict.{Verdict}
 use Rattle.verdict.specs.Lines.{verdictOf}
 use Rattle.groups.specs.Groups.{kindOf}
-use Rattle.replay.specs.Steps.{Decides}
 use Rattle.replay.proofs.GroupTurns.{by-line1, by-line2, by-line3, by-rest}
 use borrow.Author.Needs.{needs}
 use Rattle.replay.proofs.turns.decide.Statement.{statement}

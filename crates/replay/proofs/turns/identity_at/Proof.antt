@@ -1,5 +1,4 @@
 -- `replay::turns::identity_at` meets its contract.
-use native.Mathlib.Omega.{arith}
 use borrow.Author.Tests.{le-leb, lt-leb}
 use Rattle.file.proofs.WalkLaws.{lent-head, lent-next}
 use Rattle.replay.specs.Steps.{identityAt}

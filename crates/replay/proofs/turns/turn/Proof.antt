@@ -1,7 +1,6 @@
 -- `replay::turns::turn` meets its contract.
 use mathlib.Core.Path.{sym, ap, _∙_}
 use Rattle.notices.specs.Layout.{isSup}
-use Rattle.file.specs.Walk.{groupAt}
 use Rattle.file.proofs.FileLaws.{header-is}
 use Rattle.replay.proofs.GroupTurns.{can-post, turns-by}
 use borrow.Author.Needs.{needs}
