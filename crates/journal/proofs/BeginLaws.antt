@@ -71,7 +71,7 @@ unfolding closeBody
 close-none s = by-cond (digitsIn s 1 8) _ _ (close _) unread
 
 -- a body under another tag is no fresh
-pub body-none : (tag : ℕ) (s : List ℕ) → eqb tag 0 ≡ false → NoFresh (bodyOf tag s)
+body-none : (tag : ℕ) (s : List ℕ) → eqb tag 0 ≡ false → NoFresh (bodyOf tag s)
 unfolding bodyOf
 body-none tag s e =
     rw e
@@ -107,7 +107,7 @@ unfolding parse
 parse-none seen s l = none-fuel (length s) seen s l
 
 -- ---- they make their calls
-pub made-after : (b : Body) (bytes : List ℕ) (k : Book) → NoFresh b → made b bytes k ≡ after k (callOf b bytes)
+made-after : (b : Body) (bytes : List ℕ) (k : Book) → NoFresh b → made b bytes k ≡ after k (callOf b bytes)
 unfolding after
 made-after b bytes k (request r) = refl
 made-after b bytes k file = refl
@@ -132,10 +132,10 @@ pub data Begins (s : List ℕ) : Type 0 where
       → Begins s
 
 -- a fresh that is taken
-pub data Starts (b : Body) : Type 0 where
+data Starts (b : Body) : Type 0 where
   starts : (start : Start) → first (freshCauses start) ≡ Clear → b ≡ body.Fresh start → Starts b
 
-pub starts-by : (b : Body) → freshTaken b ≡ true → Starts b
+starts-by : (b : Body) → freshTaken b ≡ true → Starts b
 starts-by (body.Fresh s) h = go (first (freshCauses s)) refl
   where
     go : (c : Check) → first (freshCauses s) ≡ c → Starts (body.Fresh s)

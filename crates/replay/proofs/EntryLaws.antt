@@ -30,7 +30,7 @@ use Rattle.calls.specs.declared.Start.{Start}
 use Rattle.calls.specs.declared.Request.{Request}
 use Rattle.calls.specs.declared.Called.{Called}
 use Rattle.calls.specs.Causes.{Call, request, file, cancel, close, freshCauses, requestCauses, fileCauses, cancelCauses, closeCauses, causes}
-use Rattle.calls.specs.Machine.{next, causeIn, ran}
+use Rattle.calls.specs.Machine.{next, after, causeIn, ran}
 use Rattle.calls.specs.BillSteps.{billFound, askedAt, storedAt, counted, HasPlace}
 use Rattle.calls.proofs.CallLaws.{cause-sound, called-stop, called-clear}
 use Rattle.calls.proofs.CauseLaws.{asks, sends, cancels}
@@ -41,7 +41,7 @@ use Rattle.calls.proofs.RunLaws.{runs}
 use Rattle.journal.specs.declared.Body.{Body}
 use Rattle.journal.specs.declared.Body.the-variants as body
 use Rattle.journal.specs.Journal.{callOf, made}
-use Rattle.journal.proofs.BeginLaws as make
+use Rattle.journal.proofs.MadeLaws.{Taken}
 use Rattle.replay.specs.Steps.{findFor, slotOf, soughtBy, SoundAt, RenewsAt, recordsBy, toTake, askedBy, grown, kept, usedBy, requestBy, cancelBy, closeBy, leftBy, topOf, leftAt}
 use Rattle.replay.proofs.SpotLaws.{Lists, lists-find, Spots, none, some, spots, spot-sought, spot-sound}
 use Rattle.replay.proofs.RecordWalk.{Taking, taking-end}
@@ -202,10 +202,11 @@ pub record Entered (b : Body) (s : List ℕ) (l k : Ledger) : Type 0 where
   pub books : book k ≡ made b s (book l)
   pub sure : soundLedger k ≡ true
 
-entered-by : (b : Body) (s : List ℕ) (l k : Ledger) → soundLedger l ≡ true → make.NoFresh b → k ≡ ran l (callOf b s) → Entered b s l k
+entered-by : (b : Body) (s : List ℕ) (l k : Ledger) → soundLedger l ≡ true → made b s (book l) ≡ after (book l) (callOf b s) → k ≡ ran l (callOf b s)
+    → Entered b s l k
 entered-by b s l k h n e =
     record {
-      books = ap book e ∙ runs l h (callOf b s) .ledger ∙ sym (make.made-after b s (book l) n);
+      books = ap book e ∙ runs l h (callOf b s) .ledger ∙ sym n;
       sure = rw e (runs l h (callOf b s) .kept);
     }
 
@@ -227,26 +228,22 @@ sound-for k long h ns ks w (body.Cancel id) f p e q =
 sound-for k long h ns ks w (body.Close d) f p e q = rw e tt
 sound-for k long h ns ks w body.Unread f p e q = rw e tt
 
--- the first entry is a fresh that is taken
-abbrev pub FreshTaken : Body → Type 0
-FreshTaken b = (x : Start) → b ≡ body.Fresh x → first (freshCauses x) ≡ Clear
-
 module _ (l : Ledger) (sure : soundLedger l ≡ true) (k : Ledger) (long : length (k .bills) ≡ 128) (ns ks : List ℕ) (w : Lists k ns ks) (s : List ℕ) where
   -- a call of a body that is no file
-  module _ (b : Body) (n : make.NoFresh b) (z : k ≡ l) (x : Ledger) where
+  module _ (b : Body) (n : made b s (book k) ≡ after (book k) (callOf b s)) (z : k ≡ l) (x : Ledger) where
     by-call : (soundLedger k ≡ true → x ≡ ran k (callOf b s)) → Entered b s l x
     by-call e =
         let h : soundLedger k ≡ true = rw z sure in
         subst (λ (y : Ledger). Entered b s y x) z (entered-by b s k x h n (e h))
 
-  pub entered : (b : Body) → k ≡ filed b s l → FreshTaken b → (f : Found) (p : ℕ) → f ≡ findFor b (take (k .count) ns) (take (k .count) ks)
+  pub entered : (b : Body) → k ≡ filed b s l → Taken b → (f : Found) (p : ℕ) → f ≡ findFor b (take (k .count) ns) (take (k .count) ks)
       → p ≡ slotOf f (k .count) → Entered b s l (leftAt k p (leftBy b (topOf k) f (billAt k p)))
-  unfolding findFor leftBy
-  entered (body.Fresh x) z t f p e q = fresh-entered x s l _ (t x refl)
+  unfolding findFor leftBy after
+  entered (body.Fresh x) z t f p e q = fresh-entered x s l _ t
   entered (body.Request r) z t f p e q =
-      by-call (body.Request r) (make.request r) z _ (λ h. request-by k long h f p q r (e ∙ lists-find k ns ks w (r .identity)) _ refl)
-  entered body.File z t f p e q = entered-by body.File s l _ sure make.file (kept-same k p ∙ z)
+      by-call (body.Request r) refl z _ (λ h. request-by k long h f p q r (e ∙ lists-find k ns ks w (r .identity)) _ refl)
+  entered body.File z t f p e q = entered-by body.File s l _ sure refl (kept-same k p ∙ z)
   entered (body.Cancel id) z t f p e q =
-      by-call (body.Cancel id) (make.cancel id) z _ (λ h. cancel-by k long h f p q id (e ∙ lists-find k ns ks w id) _ refl)
-  entered (body.Close d) z t f p e q = by-call (body.Close d) (make.close d) z _ (λ h. close-by k long h f p q d _ refl)
-  entered body.Unread z t f p e q = by-call body.Unread make.unread z _ (λ h. unread-by k p)
+      by-call (body.Cancel id) refl z _ (λ h. cancel-by k long h f p q id (e ∙ lists-find k ns ks w id) _ refl)
+  entered (body.Close d) z t f p e q = by-call (body.Close d) refl z _ (λ h. close-by k long h f p q d _ refl)
+  entered body.Unread z t f p e q = by-call body.Unread refl z _ (λ h. unread-by k p)

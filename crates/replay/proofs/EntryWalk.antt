@@ -1,6 +1,6 @@
 -- The walk over the entries at the start of some bytes. Assumes nothing.
 use Prim.Native.Nat.{ℕ, _+_, _-_, _≤_, _<_}
-use mathlib.Core.Path.{_≡_, refl, sym, ap, _∙_, subst}
+use mathlib.Core.Path.{_≡_, refl, sym, ap, _∙_}
 use mathlib.Core.Bool.{Bool, true, false}
 use mathlib.Core.Logic.{⊎-elim}
 use mathlib.Core.List.{List, [], _∷_}
@@ -8,7 +8,6 @@ use native.Mathlib.Omega.{arith}
 use native.Mathlib.Nat.{add-zero}
 use types.Run.{OneOf}
 use denote.Enum.Declared.{tagOf}
-use lib.Dec.{eqb}
 use lib.ListN.{length, set, take, drop, length-set, length-drop}
 use lib.Seq.{take-all, drop-drop}
 use Rattle.fields.specs.Put.{part}
@@ -16,47 +15,23 @@ use Rattle.ledger.specs.declared.Ledger.{Ledger}
 use Rattle.ledger.specs.declared.Found.{Found}
 use Rattle.ledger.specs.Books.{Book, book}
 use Rattle.ledger.specs.Sound.{soundLedger}
-use Rattle.verdict.specs.declared.Check.the-variants.{Clear}
-use Rattle.verdict.specs.Rules.{first}
 use Rattle.groups.specs.Steps.{billAt}
-use Rattle.groups.proofs.PlaceLaws.{cases}
-use Rattle.calls.specs.declared.Start.{Start}
-use Rattle.calls.specs.Causes.{freshCauses}
 use Rattle.journal.specs.declared.Body.{Body}
-use Rattle.journal.specs.declared.Body.the-variants as body
 use Rattle.journal.specs.declared.Head.{Head}
 use Rattle.journal.specs.declared.Head.the-variants.{Cut, Bad, Whole}
 use Rattle.journal.specs.Entries.{headOf}
 use Rattle.journal.specs.Journal.{Parsed, parse, made, makes}
 use Rattle.journal.proofs.Head as head
-use Rattle.journal.proofs.HeadLaws.{tagIn, lengthIn, whole-is, whole-fits}
+use Rattle.journal.proofs.HeadLaws.{whole-fits}
 use Rattle.journal.proofs.JournalLaws.{parse-cut, parse-bad, parse-whole}
-use Rattle.journal.proofs.BeginLaws as make
+use Rattle.journal.proofs.BeginLaws.{whole-taken}
 use Rattle.replay.specs.declared.Reader.{Reader}
 use Rattle.replay.specs.declared.settle.Left.{Left}
 use Rattle.replay.specs.Reader.{accountOf, keyOf, Good, Walks}
 use Rattle.replay.specs.Steps.{isBad, findFor, slotOf, leftBy, topOf, leftAt}
 use Rattle.replay.proofs.SearchLaws.{map-set}
 use Rattle.replay.proofs.SpotLaws.{Lists}
-use Rattle.replay.proofs.EntryLaws.{filed, Entered, FreshTaken, entered}
-
--- ---- a fresh stands only where it is taken
-no-fresh : (b : Body) (x : Start) → make.NoFresh b → b ≡ body.Fresh x → ⊥
-no-fresh b x (make.request r) e = let z : _≡_ {A = ℕ} 0 1 = cc in omega arith
-no-fresh b x make.file e = let z : _≡_ {A = ℕ} 0 1 = cc in omega arith
-no-fresh b x (make.cancel id) e = let z : _≡_ {A = ℕ} 0 1 = cc in omega arith
-no-fresh b x (make.close d) e = let z : _≡_ {A = ℕ} 0 1 = cc in omega arith
-no-fresh b x make.unread e = let z : _≡_ {A = ℕ} 0 1 = cc in omega arith
-
-started : (b : Body) (x : Start) → make.Starts b → b ≡ body.Fresh x → first (freshCauses x) ≡ Clear
-started b x (make.starts y c k) e = let z : x ≡ y = cc in rw z c
-
-pub whole-fresh : (seen : ℕ) (s : List ℕ) (b : Body) (n : ℕ) → headOf seen s ≡ Whole b n → FreshTaken b
-whole-fresh seen s b n e x k =
-    let w = whole-is seen s b n e in
-    cases (eqb (tagIn s) 0)
-    (λ t. started b x (make.starts-by b (w .taken t)) k)
-    (λ t. absurd (no-fresh b x (subst make.NoFresh (sym (w .body)) (make.body-none (tagIn s) (part s 3 (lengthIn s)) t)) k))
+use Rattle.replay.proofs.EntryLaws.{filed, Entered, entered}
 
 -- ---- what holds before each entry: the entries from index at on, made on l, are all of them, made on l₀
 pub record Going (src : List ℕ) (l₀ : Ledger) (seen₀ : ℕ) (l : Ledger) (ns ks : List ℕ) (seen at : ℕ) : Type 0 where
@@ -147,7 +122,7 @@ module _ (src : List ℕ) (r : Reader) (l : Ledger) (ns ks : List ℕ) (seen at 
         (f : Found) (p : ℕ) (x : Left) (i : f ≡ findFor b (take (k .count) ns) (take (k .count) ks)) (q : p ≡ slotOf f (k .count))
         (y : x ≡ leftBy b (topOf k) f (billAt k p)) where
       done : Entered b bytes l (leftAt k p x)
-      done = rw y (entered l (w .sure) k places ns ks lists bytes b z (whole-fresh seen (drop at src) b n (head-is (Whole b n) e)) f p i q)
+      done = rw y (entered l (w .sure) k places ns ks lists bytes b z (whole-taken seen (drop at src) b n (head-is (Whole b n) e)) f p i q)
 
       pub went-on : Going src (r .ledger) (r .seen) (leftAt k p x) (set ns p (accountOf (x .bill))) (set ks p (keyOf (x .bill))) (seen + 1) (at + n)
       unfolding makes
