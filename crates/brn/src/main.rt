@@ -4,6 +4,7 @@ ghost use Prim.Native.Nat.{_≤_};
 ghost use lib.ListN.{length};
 use input::Filled;
 use ledger::Ledger;
+use libc::STDERR_FILENO;
 use libc::STDOUT_FILENO;
 use units::Date;
 
@@ -24,6 +25,13 @@ fn write_notices(out: &[u8]) -> bool {
     is_written
 }
 
+// Says on standard error that a bad entry stopped the reading.
+fn warn(stopped: bool) {
+    if stopped {
+        io::write_all(STDERR_FILENO, b"stopped,13\n");
+    }
+}
+
 // Makes the calls of the whole entries of a piece and writes their notices.
 fn run(first: Ledger, before: u64, s: &[u8], out: &mut [u8]) -> Read
     requires { ⌜ (length (now out) ≡ 64200) × (before ≤ 1000000000) ⌝ }
@@ -39,6 +47,7 @@ fn run(first: Ledger, before: u64, s: &[u8], out: &mut [u8]) -> Read
         let used = t.used;
         let stopped = t.stopped;
         if used == 0 {
+            warn(stopped);
             return Read {
                 ledger: l,
                 seen,
@@ -74,7 +83,9 @@ fn main() {
         let Filled::Bytes(n) = f else {
             if let Filled::Failed = f {
                 os::fail(b"read");
+                return;
             }
+            warn((0 < have) | (seen == 0));
             return;
         };
         let r = run(l, seen, &buf[..n], &mut out);

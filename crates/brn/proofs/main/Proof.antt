@@ -51,6 +51,9 @@ fail-requires c κs = search needs
 returns : tie.Need-returns Inv-loop μ-loop
 returns c = search needs
 
+warn-requires : tie.Need-warn-requires Inv-loop μ-loop
+warn-requires c κs = search needs
+
 returns-2 : tie.Need-returns-2 Inv-loop μ-loop
 returns-2 c = search needs
 
@@ -100,6 +103,7 @@ main-spec =
     slice-aggregate-fail
     fail-requires
     returns
+    warn-requires
     returns-2
     array-share-prefix-buf
     slice-aggregate-run

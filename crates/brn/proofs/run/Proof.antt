@@ -51,11 +51,14 @@ part-next-entry-end c = omega arith
 next-entry-requires : tie.Need-next-entry-requires Inv-loop μ-loop
 next-entry-requires c κs = c .before .before .loop .inv .room
 
+warn-requires : tie.Need-warn-requires Inv-loop μ-loop
+warn-requires c κs = search needs
+
 same-length : tie.Need-same-length Inv-loop μ-loop
 same-length c = search needs
 
 returns : tie.Need-returns Inv-loop μ-loop
-returns c = (c .before .before .before .before .before .before .before .loop .inv .within, c .before .before .before .before .before .before .before .loop .inv .few)
+returns c = (c .before .before .before .before .before .before .before .before .loop .inv .within, c .before .before .before .before .before .before .before .before .loop .inv .few)
 
 slice-reshare-prefix-write-notices : tie.Need-slice-reshare-prefix-write-notices Inv-loop μ-loop
 slice-reshare-prefix-write-notices c = let k = took _ _ _ _ (c .before .before .before .before .next-entry .ensures .0) in omega (arith, k .written, c .before .before .before .before .before .before .before .loop .inv .room)
@@ -95,6 +98,7 @@ run-spec =
     part-next-entry-start
     part-next-entry-end
     next-entry-requires
+    warn-requires
     same-length
     returns
     slice-reshare-prefix-write-notices
