@@ -8,6 +8,7 @@ use lib.ListN.{length, set, drop, take-append-drop, length-set, length-map}
 use lib.Seq.{drop-set-lt}
 use lib.IntN.{ℤ, pos, _-ℤ_}
 use borrow.Author.Tests.{ltb-true}
+use Rattle.fields.proofs.BoolLaws.{cases}
 use Rattle.units.specs.declared.Cents.{Cents}
 use Rattle.ledger.specs.declared.Identity.{Identity}
 use Rattle.ledger.specs.declared.Bill.{Bill}
@@ -30,7 +31,7 @@ use Rattle.notices.specs.Notices.{bil, cxl}
 use Rattle.notices.proofs.NoticeLaws.{length-bil, length-cxl}
 use Rattle.groups.specs.Groups.{soughtIn}
 use Rattle.groups.specs.Steps.{billAt, soughtAt}
-use Rattle.groups.proofs.PlaceLaws.{cases, Held, nowhere, somewhere, held, sought-is}
+use Rattle.groups.proofs.PlaceLaws.{Held, nowhere, somewhere, held, sought-is}
 use Rattle.groups.proofs.TurnLaws.{every-held}
 use Rattle.groups.proofs.ReadyLaws.{sound-ready}
 use Rattle.calls.specs.declared.Request.{Request}

@@ -8,7 +8,7 @@ use lib.ListN.{length, length-append, length-map}
 use native.Mathlib.Omega.{arith}
 use borrow.Author.Tests.{leb-true, ltb-true, eqb-true, eqb-false, eq-eqb, ne-eqb, not-true}
 use Rattle.fields.specs.Digits.{fits}
-use Rattle.fields.proofs.BoolLaws.{and-left, and-right, or-both}
+use Rattle.fields.proofs.BoolLaws.{and-left, and-right, or-both, cases}
 use Rattle.ledger.specs.declared.Identity.{Identity}
 use Rattle.ledger.specs.declared.Terms.{Terms}
 use Rattle.ledger.specs.declared.Bill as bill
@@ -26,7 +26,6 @@ use Rattle.verdict.specs.declared.Sought.the-variants.{Bill, Nothing}
 use Rattle.verdict.specs.declared.Check.the-variants.{Clear}
 use Rattle.verdict.specs.Rules.{first}
 use Rattle.groups.specs.Groups.{soughtIn}
-use Rattle.groups.proofs.PlaceLaws.{cases}
 use Rattle.groups.proofs.GroupWalk.{length-update}
 use Rattle.groups.proofs.FileSound.{bills-kept, distinct-kept, next-up, file-sound}
 use Rattle.calls.specs.declared.CodeField.{CodeField}

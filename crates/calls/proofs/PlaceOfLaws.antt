@@ -6,6 +6,7 @@ use mathlib.Core.List.{List, [], _∷_}
 use native.Mathlib.Omega.{arith}
 use lib.ListN.{length, getD, length-take}
 use lib.Seq.{getD-take}
+use Rattle.fields.proofs.BoolLaws.{cases}
 use Rattle.ledger.specs.declared.Identity.{Identity}
 use Rattle.ledger.specs.declared.Bill.{Bill}
 use Rattle.ledger.specs.declared.Ledger.{Ledger}
@@ -14,7 +15,6 @@ use Rattle.ledger.specs.Lists.{find, has}
 use Rattle.ledger.specs.Bills.{blankBill}
 use Rattle.ledger.specs.Books.{live, ofId}
 use Rattle.groups.specs.Steps.{billAt}
-use Rattle.groups.proofs.PlaceLaws.{cases}
 use Rattle.calls.specs.Machine.{billOf}
 
 -- the first bill that passes the test

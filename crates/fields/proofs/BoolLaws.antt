@@ -15,3 +15,8 @@ and-right a b h = and-both a b h .1
 pub or-both : (a b : Bool) → (a || b) ≡ false → (a ≡ false) × (b ≡ false)
 or-both true b h = absurd (true≢false h)
 or-both false b h = (refl, h)
+
+-- go by the value of a test, and keep the equation
+pub cases {ℓ} : {C : Type ℓ} (b : Bool) → (b ≡ true → C) → (b ≡ false → C) → C
+cases true f g = f refl
+cases false f g = g refl

@@ -4,15 +4,16 @@ use mathlib.Core.Bool.{Bool, true, false, cond}
 use mathlib.Core.List.{List}
 use Prim.Native.Nat.{ℕ, _+_, _≤_, _<_, _^_}
 use native.Mathlib.Omega.{arith}
-use lib.ListN.{length, getD}
+use lib.ListN.{length, getD, drop, length-take}
 use lib.Dec.{eqb}
 use borrow.Author.Tests.{eqb-true, eqb-false}
 use Rattle.fields.specs.Digits.{digits, number, numeric}
 use Rattle.fields.specs.Put.{part, sameList, holds}
 use Rattle.fields.specs.Field.{fieldOf, value}
 use Rattle.fields.specs.declared.Field.the-variants.{Number, NotNumeric}
+use Rattle.fields.proofs.BoolLaws.{cases}
 use Rattle.fields.proofs.PutLaws.{length-part, part-whole}
-use Rattle.fields.proofs.DigitLaws.{number-lt, digits-number}
+use Rattle.fields.proofs.DigitLaws.{number-lt, pow-le, pow-pos, digits-number}
 use Rattle.fields.proofs.SameLaws.{same-refl, same-false, same-parts, differ-parts}
 
 -- a field that holds a number is numeric, and that is its number
@@ -52,6 +53,18 @@ pub field-below : (r : List ℕ) (at w n : ℕ) → at + w ≤ length r → fiel
 field-below r at w n h e =
     let f = field-is (part r at w) n e in
     rw (f .1) (subst (λ (k : ℕ). number (part r at w) < 10 ^ k) (length-part r at w h) (number-lt (part r at w) (f .0)))
+
+-- a number of at most w bytes
+pub small-value : (xs : List ℕ) (w : ℕ) → length xs ≤ w → value (fieldOf xs) < 10 ^ w
+unfolding fieldOf
+small-value xs w h =
+    cases (numeric xs)
+    (λ e. let p = number-lt xs e in let q = pow-le (length xs) w h in rw e (omega arith))
+    (λ e. rw e (pow-pos w))
+
+pub length-part-le : (r : List ℕ) (at w : ℕ) → length (part r at w) ≤ w
+unfolding part
+length-part-le r at w = omega (arith, length-take w (drop at r))
 
 pub value-number : (xs : List ℕ) → numeric xs ≡ true → value (fieldOf xs) ≡ number xs
 unfolding fieldOf

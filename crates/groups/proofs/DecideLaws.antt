@@ -1,6 +1,7 @@
 -- What the code decides is the verdict of the lines in their order. Assumes nothing.
 use mathlib.Core.Path.{_≡_, ap}
 use mathlib.Core.Bool.{Bool, true, false}
+use Rattle.fields.proofs.BoolLaws.{cases}
 use Rattle.ledger.specs.declared.Ledger.{Ledger}
 use Rattle.ledger.specs.Books.{View}
 use Rattle.file.specs.File.{Group, detailOf, line1, line2, passes}
@@ -8,7 +9,7 @@ use Rattle.verdict.specs.Lines.{verdictOf}
 use Rattle.groups.specs.declared.Decision.the-variants.{Reject}
 use Rattle.groups.specs.Groups.{identityOf, kindOf, linesBy, verdictBy}
 use Rattle.groups.specs.Steps.{decisionBy, decideNamed}
-use Rattle.groups.proofs.PlaceLaws.{cases, sought-is}
+use Rattle.groups.proofs.PlaceLaws.{sought-is}
 
 module _ (l : Ledger) (g : Group) (duplicate : Bool) where
   pub decide-line1 : line1 g ≡ true → Reject 17 ≡ decisionBy duplicate l g

@@ -7,7 +7,7 @@ use lib.ListN.{length}
 use native.Mathlib.Nat.{add-zero}
 use native.Mathlib.Omega.{arith}
 use borrow.Author.Tests.{le-leb}
-use Rattle.fields.proofs.BoolLaws.{and-left, and-right}
+use Rattle.fields.proofs.BoolLaws.{and-left, and-right, cases}
 use Rattle.ledger.specs.declared.Bill.{Bill}
 use Rattle.ledger.specs.declared.Identity.{Identity}
 use Rattle.ledger.specs.Lists.{every, count, update}
@@ -20,7 +20,6 @@ use Rattle.verdict.specs.declared.Sought.the-variants as sought
 use Rattle.verdict.specs.declared.Verdict.{Verdict}
 use Rattle.verdict.specs.declared.Verdict.the-variants.{Accepted, Rejected}
 use Rattle.groups.specs.Groups.{identityOf, soughtIn, verdictBy, settled, verdictHere, taken}
-use Rattle.groups.proofs.PlaceLaws.{cases}
 use Rattle.groups.proofs.GroupWalk.{length-settled}
 use Rattle.groups.proofs.SoundKept.{sound-posted}
 

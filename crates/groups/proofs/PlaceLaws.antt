@@ -1,11 +1,12 @@
 -- A bill found by its place in the struct, and by its identity in the book. Assumes nothing.
 use Prim.Native.Nat.{ℕ, suc, _+_, _≤_, _<_}
 use mathlib.Core.Path.{_≡_, refl, ap, _∙_}
-use mathlib.Core.Bool.{Bool, true, false}
+use mathlib.Core.Bool.{true, false}
 use mathlib.Core.List.{List, [], _∷_, map}
 use native.Mathlib.Omega.{arith}
 use lib.ListN.{length, getD, set, length-take}
 use lib.Seq.{getD-take}
+use Rattle.fields.proofs.BoolLaws.{cases}
 use Rattle.ledger.specs.declared.Identity.{Identity}
 use Rattle.ledger.specs.declared.Bill.{Bill}
 use Rattle.ledger.specs.declared.Ledger.{Ledger}
@@ -16,11 +17,6 @@ use Rattle.ledger.specs.Books.{live, ofId, placeOf, termsIn}
 use Rattle.verdict.specs.declared.Sought.the-variants as sought
 use Rattle.groups.specs.Groups.{soughtIn}
 use Rattle.groups.specs.Steps.{soughtAt, billAt, InPlace}
-
--- go by the value of a test, and keep the equation
-pub cases {ℓ} : {C : Type ℓ} (b : Bool) → (b ≡ true → C) → (b ≡ false → C) → C
-cases true f g = f refl
-cases false f g = g refl
 
 -- where the bill of an identity stands among bs, counted from n, if it does
 pub data Stands (id : Identity) (n : ℕ) (bs : List Bill) : Type 0 where

@@ -2,12 +2,13 @@
 use Prim.Native.Nat.{ℕ, _+_}
 use mathlib.Core.Path.{_≡_, refl, sym, ap, subst}
 use mathlib.Core.Bool.{Bool, true, false, not}
-use mathlib.Core.List.{List, _∷_, _++_}
+use mathlib.Core.List.{List}
 use native.Mathlib.Omega.{arith}
 use lib.Dec.{eqb, leb}
 use borrow.Author.Tests.{not-false, not-true, lt-ltb}
 use Rattle.fields.proofs.BoolLaws.{and-left}
 use Rattle.fields.specs.Field.{fieldOf, value}
+use Rattle.fields.proofs.HoldLaws.{small-value, length-part-le}
 use Rattle.units.specs.declared.Date.{Date}
 use Rattle.units.specs.Units.{fitsCents}
 use Rattle.ledger.specs.declared.Bill.{Bill}
@@ -25,19 +26,10 @@ use Rattle.verdict.specs.declared.Kind.the-variants.{Response, Supplement}
 use Rattle.verdict.specs.declared.Sought.{Sought}
 use Rattle.verdict.specs.declared.Sought.the-variants as sought
 use Rattle.verdict.specs.declared.Verdict.the-variants.{Accepted}
-use Rattle.verdict.specs.Rules.{Rule, rule, first}
-use Rattle.verdict.specs.Lines.{termsOf, line4, line5, line6, line7, line8, line9, line10, lines8to10, sentConsumption, sentCharge, amountsOf}
+use Rattle.verdict.specs.Rules.{first}
+use Rattle.verdict.specs.Lines.{termsOf, line4, line5, line6, line7, line8, line9, line10, sentCharge, amountsOf}
 use Rattle.groups.specs.Groups.{kindOf, sought, linesBy, verdictBy}
-use Rattle.groups.proofs.TurnLaws.{clear-off, small-value, length-part-le, accepted-clear, room}
-
--- the lines of a group, with the product's mark written out
-abbrev pub listFor : Bool → Bool → Bool → Kind → Date → List ℕ → List ℕ → Sought → Bool → List Rule
-listFor l1 l2 t k today h d b prepay =
-    rule l1 17
-    ∷ rule l2 19
-    ∷ rule t 14
-    ∷ line4 b
-    ++ (line5 h (termsOf b) ++ (line6 k today h d (termsOf b) ++ (line7 d (termsOf b) ++ lines8to10 prepay h d (sentConsumption d) (sentCharge d))))
+use Rattle.groups.proofs.TurnLaws.{listFor, clear-off, accepted-clear, room}
 
 open-alive : (today : Date) (t : Terms) → not (isOpen today t) ≡ false → t .cancelled ≡ false
 open-alive today t e = not-true (t .cancelled) (and-left (not (t .cancelled)) (leb (today .0) (t .latest .scheduled .0)) (not-false (isOpen today t) e))

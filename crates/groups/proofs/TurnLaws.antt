@@ -1,5 +1,5 @@
 -- What a group's turn does to the struct is what the rules say of the book. Assumes nothing.
-use Prim.Native.Nat.{ℕ, _+_, _-_, _≤_, _<_, _^_}
+use Prim.Native.Nat.{ℕ, _+_, _-_, _≤_, _<_}
 use mathlib.Core.Path.{_≡_, refl, sym, ap, ap₂, _∙_, subst}
 use mathlib.Core.Bool.{Bool, true, false, not, _&&_}
 use mathlib.Core.List.{List, [], _∷_, _++_}
@@ -9,12 +9,10 @@ use lib.ListN.{length, set, drop, take-append-drop, length-set}
 use lib.Seq.{getD-take, take-set-lt, drop-set-lt, length-take-le}
 use borrow.Author.Tests.{leb-true, le-leb, eqb-false, lt-ltb}
 use Rattle.fields.specs.Text.{text}
-use Rattle.fields.specs.Put.{part, sameList}
-use Rattle.fields.specs.Digits.{numeric}
-use Rattle.fields.specs.Field.{fieldOf, value}
-use Rattle.fields.proofs.BoolLaws.{and-left, or-both}
-use Rattle.fields.proofs.DigitLaws.{number-lt, pow-le, pow-pos}
+use Rattle.fields.specs.Put.{sameList}
+use Rattle.fields.proofs.BoolLaws.{and-left, or-both, cases}
 use Rattle.fields.proofs.SameLaws.{same-true}
+use Rattle.fields.proofs.HoldLaws.{small-value, length-part-le}
 use Rattle.units.specs.Units.{fitsCents}
 use Rattle.ledger.specs.declared.Bill.{Bill}
 use Rattle.ledger.specs.declared.Ledger.{Ledger}
@@ -36,11 +34,11 @@ use Rattle.verdict.specs.declared.Sought.the-variants as sought
 use Rattle.verdict.specs.declared.Verdict.{Verdict}
 use Rattle.verdict.specs.declared.Verdict.the-variants.{Accepted, Rejected}
 use Rattle.verdict.specs.Rules.{Rule, rule, first}
-use Rattle.verdict.specs.Lines.{termsOf, line4, line5, line6, lines4to10, amountsOf, settle}
+use Rattle.verdict.specs.Lines.{termsOf, line4, line5, line6, line7, lines8to10, sentConsumption, sentCharge, amountsOf, settle}
 use Rattle.groups.specs.declared.Decision.the-variants.{Post, Reject}
 use Rattle.groups.specs.Groups.{identityOf, sought, kindOf, linesBy, verdictBy, settled, answer}
 use Rattle.groups.specs.Steps.{billAt, decisionBy, applied, answerTo, answerBy, InReach, calm}
-use Rattle.groups.proofs.PlaceLaws.{cases, Held, nowhere, somewhere, held}
+use Rattle.groups.proofs.PlaceLaws.{Held, nowhere, somewhere, held}
 
 -- ---- no verdict accepts where there is no bill
 nothing-rejects : (t : Bool) (l : Ledger) (g : Group) → sought (view (book l)) g ≡ sought.Nothing → (n : ℕ) × (verdictBy t (view (book l)) g ≡ Rejected n)
@@ -150,29 +148,25 @@ sup-not-rsp : (h : List ℕ) → isSup h ≡ true → isRsp h ≡ false
 unfolding sameList
 sup-not-rsp h e = ap (λ (x : List ℕ). sameList x (text "RSP")) (same-true (noticeIn h) (text "SUP") e)
 
--- a number of at most w bytes
-pub small-value : (xs : List ℕ) (w : ℕ) → length xs ≤ w → value (fieldOf xs) < 10 ^ w
-unfolding fieldOf
-small-value xs w h = cases (numeric xs)
-    (λ e. let p = number-lt xs e in let q = pow-le (length xs) w h in rw e (omega arith))
-    (λ e. rw e (pow-pos w))
-
-pub length-part-le : (r : List ℕ) (at w : ℕ) → length (part r at w) ≤ w
-unfolding part
-length-part-le r at w = omega (arith, lib.ListN.length-take w (drop at r))
-
 charge-small : (prepay : Bool) (d : List ℕ) → fitsCents (chargeOf (amountsOf prepay d)) ≡ true
 unfolding amountsOf
 charge-small true d = lt-ltb _ _ (small-value (chargeIn d) 13 (length-part-le d 66 13))
 charge-small false d = lt-ltb _ _ (small-value (chargeIn d) 13 (length-part-le d 66 13))
 
-abbrev listBy : Bool → Bool → Bool → Kind → Date → List ℕ → List ℕ → Sought → List Rule
-listBy l1 l2 t k today h d b = rule l1 17 ∷ rule l2 19 ∷ rule t 14 ∷ lines4to10 k today h d b
+-- the lines of a group, with the product's mark written out
+abbrev pub listFor : Bool → Bool → Bool → Kind → Date → List ℕ → List ℕ → Sought → Bool → List Rule
+listFor l1 l2 t k today h d b prepay =
+    rule l1 17
+    ∷ rule l2 19
+    ∷ rule t 14
+    ∷ line4 b
+    ++ (line5 h (termsOf b) ++ (line6 k today h d (termsOf b) ++ (line7 d (termsOf b) ++ lines8to10 prepay h d (sentConsumption d) (sentCharge d))))
 
-sup-room : (l1 l2 t : Bool) (today : Date) (h d : List ℕ) (b : Sought) → first (listBy l1 l2 t Supplement today h d b) ≡ Clear → eqb (termsOf b .sequence) 999 ≡ false
+sup-room : (l1 l2 t : Bool) (today : Date) (h d : List ℕ) (b : Sought) (prepay : Bool) → first (listFor l1 l2 t Supplement today h d b prepay) ≡ Clear
+    → eqb (termsOf b .sequence) 999 ≡ false
 unfolding line4 line5 line6
-sup-room l1 l2 t today h d b e =
-    let o = clear-off (listBy l1 l2 t Supplement today h d b) e in
+sup-room l1 l2 t today h d b prepay e =
+    let o = clear-off (listFor l1 l2 t Supplement today h d b prepay) e in
     or-both (not (sameList (sequenceIn d) (text "000"))) (eqb (termsOf b .sequence) 999) (o .1 .1 .1 .1 .1 .1 .1 .0) .1
 
 -- no line holds of an accepted group, and its amounts are the detail's
@@ -191,8 +185,8 @@ module _ (t : Bool) (k : Book) (g : Group) (b : Bill) (amounts : Posted) (v : ve
   unfolding linesBy
   room e =
       let r : kindOf g ≡ Supplement = rw (sup-not-rsp (g .header) e) in
-      let c = subst (λ (m : Kind). first (listBy (line1 g) (line2 g) t m (k .today) (g .header) (detailOf g) (sought (view k) g)) ≡ Clear) r (clears .0) in
-      let x = sup-room (line1 g) (line2 g) t (k .today) (g .header) (detailOf g) (sought (view k) g) c in
+      let c = subst (λ (m : Kind). first (listFor (line1 g) (line2 g) t m (k .today) (g .header) (detailOf g) (sought (view k) g) (isPrepay (termsOf (sought (view k) g) .product))) ≡ Clear) r (clears .0) in
+      let x = sup-room (line1 g) (line2 g) t (k .today) (g .header) (detailOf g) (sought (view k) g) _ c in
       eqb-false (b .terms .sequence) 999 (rw y at x)
 
   pub calm-posted : calm b ≡ true → calm (posting amounts (asksId g) b) ≡ true

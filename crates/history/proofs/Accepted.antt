@@ -20,8 +20,8 @@ use Rattle.verdict.specs.declared.Verdict.the-variants.{Accepted}
 use Rattle.verdict.specs.Rules.{first}
 use Rattle.verdict.specs.Lines.{isNothing, termsOf, line4, line5, line6, sentCharge, amountsOf}
 use Rattle.groups.specs.Groups.{kindOf, sought, linesBy, verdictBy}
-use Rattle.groups.proofs.TurnLaws.{clear-off, accepted-clear}
-use Rattle.groups.proofs.SoundKept.{listFor, alive}
+use Rattle.groups.proofs.TurnLaws.{listFor, clear-off, accepted-clear}
+use Rattle.groups.proofs.SoundKept.{alive}
 
 -- there is such a bill
 exists : (l1 l2 t : Bool) (k : Kind) (today : Date) (h d : List ℕ) (b : Sought) (prepay : Bool)

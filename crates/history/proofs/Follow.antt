@@ -6,7 +6,7 @@ use mathlib.Core.List.{List, [], _∷_, _++_, map}
 use native.Mathlib.Nat.{add-zero}
 use native.Mathlib.Omega.{arith}
 use lib.ListN.{length}
-use Rattle.fields.proofs.BoolLaws.{or-both}
+use Rattle.fields.proofs.BoolLaws.{or-both, cases}
 use Rattle.ledger.specs.declared.Bill.{Bill}
 use Rattle.ledger.specs.declared.Identity.{Identity}
 use Rattle.ledger.specs.declared.Posted.{Posted}
@@ -25,7 +25,6 @@ use Rattle.verdict.specs.declared.Verdict.the-variants.{Accepted, Rejected}
 use Rattle.verdict.specs.Rules.{first}
 use Rattle.verdict.specs.Lines.{isNothing, sentCharge}
 use Rattle.groups.specs.Groups.{identityOf, soughtIn, sought, verdictBy, settled, verdictHere, taken}
-use Rattle.groups.proofs.PlaceLaws.{cases}
 use Rattle.groups.proofs.FileSound.{holds-kept, settled-facts, confirmation-up, tracking-up, count-step}
 use Rattle.calls.specs.Causes.{Call, request, file, cancel, close, causes}
 use Rattle.calls.specs.Machine.{latestOf, newBill, next}

@@ -5,12 +5,12 @@ use mathlib.Core.Bool.{true}
 use mathlib.Core.List.{List, [], _∷_, _++_}
 use native.Mathlib.Omega.{arith}
 use lib.ListN.{length, length-append, take}
+use Rattle.fields.proofs.BoolLaws.{cases}
 use Rattle.fields.specs.Put.{part}
 use Rattle.fields.proofs.PutLaws.{part-left, part-right, part-whole}
 use Rattle.notices.specs.Layout.{recordsFrom}
 use Rattle.notices.proofs.LayoutLaws.{long-record}
 use Rattle.file.specs.File.{records, isHeader, leading, groups, fileGroups, Group}
-use Rattle.groups.proofs.PlaceLaws.{cases}
 use Rattle.history.specs.Claim.{All}
 
 later : (xs ys : List ℕ) (m k i : ℕ) → length xs ≡ m * 321 → recordsFrom (xs ++ ys) (m + i) k ≡ recordsFrom ys i k

@@ -6,7 +6,7 @@ use mathlib.Core.List.{List, [], _∷_, _++_, map}
 use native.Mathlib.Nat.{add-zero, not-suc-le-zero}
 use native.Mathlib.Omega.{arith}
 use lib.ListN.{length, getD, length-append}
-use Rattle.fields.proofs.BoolLaws.{and-left, and-right}
+use Rattle.fields.proofs.BoolLaws.{and-left, and-right, cases}
 use Rattle.units.specs.Calendar.{isDate}
 use Rattle.ledger.specs.declared.Bill.{Bill}
 use Rattle.ledger.specs.declared.Identity.{Identity}
@@ -23,7 +23,6 @@ use Rattle.verdict.specs.declared.Verdict.the-variants.{Accepted, Rejected}
 use Rattle.verdict.specs.Rules.{first}
 use Rattle.verdict.specs.Lines.{isNothing, termsOf}
 use Rattle.groups.specs.Groups.{identityOf, soughtIn, sought, settled, answer, verdictBy, verdictHere, taken, answers, isAccepted}
-use Rattle.groups.proofs.PlaceLaws.{cases}
 use Rattle.groups.proofs.FileSound.{confirmation-up, tracking-up, count-step}
 use Rattle.calls.specs.Causes.{Call, request, file, cancel, close, causes}
 use Rattle.calls.specs.Machine.{next, nextWritten, outcome, step, after, outcomes}

@@ -4,7 +4,7 @@ use mathlib.Core.Bool.{Bool, true, false, not, _||_}
 use mathlib.Core.List.{List, [], _∷_, _++_, map}
 use lib.Dec.{eqb}
 use borrow.Author.Tests.{eqb-true, not-true}
-use Rattle.fields.proofs.BoolLaws.{and-left, and-right, or-both}
+use Rattle.fields.proofs.BoolLaws.{and-left, and-right, or-both, cases}
 use Rattle.ledger.specs.declared.Bill.{Bill}
 use Rattle.ledger.specs.declared.Identity.{Identity}
 use Rattle.ledger.specs.declared.Terms.{Terms}
@@ -14,7 +14,6 @@ use Rattle.ledger.specs.Books.{ofId, termsIn}
 use Rattle.ledger.specs.Sound.{holdsId, distinct}
 use Rattle.verdict.specs.declared.Sought.the-variants as sought
 use Rattle.groups.specs.Groups.{soughtIn}
-use Rattle.groups.proofs.PlaceLaws.{cases}
 use Rattle.history.specs.Claim.{All}
 
 pub identity-same : (id : Identity) (t : Terms) → isOf id t ≡ true → t .identity ≡ id

@@ -5,6 +5,7 @@ use mathlib.Core.Bool.{Bool, true, false, cond}
 use mathlib.Core.List.{List, [], _∷_, map, _++_, append-assoc, append-nil}
 use native.Mathlib.Omega.{arith}
 use lib.ListN.{length}
+use Rattle.fields.proofs.BoolLaws.{cases}
 use Rattle.fields.specs.Text.{text}
 use Rattle.fields.specs.Digits.{number}
 use Rattle.fields.proofs.DigitLaws.{number-digits}
@@ -26,7 +27,6 @@ use Rattle.verdict.specs.declared.Verdict.{Verdict}
 use Rattle.verdict.specs.declared.Verdict.the-variants.{Accepted, Rejected}
 use Rattle.verdict.specs.Lines.{termsOf}
 use Rattle.groups.specs.Groups.{sought, answer, isAccepted}
-use Rattle.groups.proofs.PlaceLaws.{cases}
 use Rattle.history.specs.Claim.{All}
 use Rattle.history.specs.Written.{keep, isAcf, assigns, assignedIn, acfsIn}
 use Rattle.history.proofs.RecordLaws.{records-cons, records-none, Whole, Formed}

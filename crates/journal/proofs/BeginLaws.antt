@@ -7,9 +7,9 @@ use native.Mathlib.Omega.{arith}
 use lib.Dec.{eqb}
 use lib.ListN.{length, drop}
 use borrow.Author.Tests.{ne-eqb}
+use Rattle.fields.proofs.BoolLaws.{cases}
 use Rattle.fields.specs.Put.{part}
 use Rattle.ledger.specs.Books.{Book}
-use Rattle.groups.proofs.PlaceLaws.{cases}
 use Rattle.verdict.specs.declared.Check.{Check}
 use Rattle.verdict.specs.declared.Check.the-variants.{Clear, Stop}
 use Rattle.verdict.specs.Rules.{first}

@@ -10,12 +10,12 @@ use lib.Dec.{eqb}
 use lib.ListN.{length, getD, take, drop, length-take, length-drop}
 use lib.Seq.{getD-take, getD-drop}
 use borrow.Author.Tests.{eqb-true, ne-eqb}
+use Rattle.fields.proofs.BoolLaws.{cases}
 use Rattle.fields.specs.Digits.{number, numeric}
 use Rattle.fields.specs.Put.{part}
 use Rattle.fields.specs.Field.{fieldOf}
 use Rattle.fields.specs.declared.Field.the-variants.{Number}
 use Rattle.fields.proofs.HoldLaws.{field-is}
-use Rattle.groups.proofs.PlaceLaws.{cases}
 use Rattle.journal.specs.Entries.{goodLength}
 
 -- the w bytes of s from index at on are digits, and stand for n

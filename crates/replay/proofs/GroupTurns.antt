@@ -7,6 +7,7 @@ use native.Mathlib.Omega.{arith}
 use native.Mathlib.Nat.{add-zero}
 use lib.Seq.{set-getD}
 use borrow.Author.Tests.{lt-leb, lt-ltb}
+use Rattle.fields.proofs.BoolLaws.{cases}
 use Rattle.units.specs.declared.Date.{Date}
 use Rattle.ledger.specs.declared.Bill.{Bill}
 use Rattle.ledger.specs.declared.Found.{Found}
@@ -27,7 +28,7 @@ use Rattle.file.proofs.FormLaws.{one-detail, one-within}
 use Rattle.groups.specs.declared.Decision.the-variants.{Post}
 use Rattle.groups.specs.Groups.{identityOf, sought, kindOf, linesBy, verdictBy}
 use Rattle.groups.specs.Steps.{billAt, soughtAt, decided, decisionBy, applied}
-use Rattle.groups.proofs.PlaceLaws.{cases, sought-is}
+use Rattle.groups.proofs.PlaceLaws.{sought-is}
 use Rattle.groups.proofs.TurnLaws.{Comes, rejects, posts, comes, clear-off, accepted-clear}
 use Rattle.replay.specs.Steps.{identityAt, slotOf, soughtBy, turnedAt, Decides, turnBy, Turns, CanPost, CalmAt}
 use Rattle.replay.specs.declared.turns.Settled.{Settled}
