@@ -1,3 +1,4 @@
 -- Laws that belong to no one function.
 pub mod IdLaws
 pub mod MarkLaws
+pub mod SlotLaws

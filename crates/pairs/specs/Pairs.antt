@@ -1,5 +1,5 @@
 -- The code, account and Bill Key of a group as one number, which the walk over pairs compares. Assumes nothing.
-use Prim.Native.Nat.{ℕ, _+_, _*_}
+use Prim.Native.Nat.{ℕ, _+_, _*_, _%_}
 use mathlib.Core.Bool.{cond}
 use mathlib.Core.List.{List}
 use lib.Dec.{eqb}
@@ -27,3 +27,7 @@ idOf g = cond (eqb (codeNumber (formOf g)) 0) 0 (namedBy (g .header) (detailOf g
 -- that of the group whose header is record i, 0 where it is no header
 unfoldable pub idAt : List ℕ → ℕ → ℕ → ℕ
 idAt s n i = cond (isHeader (recordAt s i)) (idOf (groupAt s i n)) 0
+
+-- where a number is noted: equal numbers have one slot (of a prime number of slots, so that the account counts in full)
+unfoldable pub slotOf : ℕ → ℕ
+slotOf id = id % 509

@@ -1,12 +1,12 @@
 // Line 3: the groups of a file that have another of the same code, account and Bill Key.
 ghost use mathlib.Core.Path.{_≡_};
-ghost use mathlib.Core.Bool.{false};
+ghost use mathlib.Core.Bool.{true, false};
 ghost use Prim.Native.Nat.{ℕ, _+_, _*_, _≤_, _<_, _^_};
 ghost use lib.ListN.{length, getD};
 ghost use Rattle.fields.specs.Put.{part};
 ghost use Rattle.fields.specs.Field.{fieldOf, value};
 ghost use Rattle.file.specs.Walk.{groupAt, markAt};
-ghost use Rattle.pairs.specs.Pairs.{codeNumber, namedBy, idOf, idAt};
+ghost use Rattle.pairs.specs.Pairs.{codeNumber, namedBy, idOf, idAt, slotOf};
 use fields::Field;
 use file::Form;
 
@@ -82,16 +82,44 @@ fn ids(s: &[u8], n: usize) -> [u64; 200]
     r
 }
 
-// The headers of groups that get BR14: the walk over the others of a group is left at the first match.
+// The slot of a number.
+fn slot(id: u64) -> usize
+    ensures { λ r. ⌜ (r ≡ slotOf id) × (r < 509) ⌝ }
+{
+    (id % 509) as usize
+}
+
+// The slots that the numbers of two records share: two equal numbers always do.
+fn shared_slots<'a>(id: &'a [u64; 200], n: usize) -> [bool; 509]
+    requires { ⌜ (n ≤ 200) × (length (now id) ≡ 200) ⌝ }
+    ensures { λ r. ⌜ (length r ≡ 509) × ((j k : ℕ) → j < n → k < n → (j ≡ k → ⊥) → getD (now (id .entry)) j 0 ≡ getD (now (id .entry)) k 0 → getD r (slotOf (getD (now (id .entry)) k 0)) false ≡ true) ⌝ }
+{
+    let mut once = [false; 509];
+    let mut twice = [false; 509];
+    for i in 0..n {
+        let own = id[i];
+        let h = slot(own);
+        let before = once[h];
+        let again = twice[h];
+        twice[h] = again | before;
+        once[h] = true;
+    }
+    twice
+}
+
+// The headers of groups that get BR14: the walk over the others of a group is left at the first match, and not begun where no other can match.
 pub fn duplicates(s: &[u8], n: usize) -> [bool; 200]
     requires { ⌜ (n ≤ 200) × (n * 321 ≤ length (now s)) ⌝ }
     ensures { λ r. ⌜ ((k : ℕ) → k < n → getD r k false ≡ markAt (now (s .entry)) n k) × ((k : ℕ) → n ≤ k → getD r k false ≡ false) ⌝ }
 {
     let id = ids(s, n);
+    let shared = shared_slots(&id, n);
     let mut marks = [false; 200];
     for i in 0..n {
         let own = id[i];
-        if own != 0 {
+        let h = slot(own);
+        let met = shared[h];
+        if (own != 0) & met {
             'others: for j in 0..n {
                 let other = id[j];
                 if (other == own) & (j != i) {
