@@ -7,3 +7,4 @@ pub mod HeadLaws
 pub mod JournalLaws
 pub mod BeginLaws
 pub mod ShortLaws
+pub mod NoticeLaws
