@@ -13,7 +13,7 @@ use Rattle.verdict.specs.declared.Check.the-variants.{Clear, Stop}
 use Rattle.verdict.specs.Rules.{first}
 use Rattle.calls.specs.declared.Start.{Start}
 use Rattle.calls.specs.Causes.{Call, request, file, cancel, close, freshCauses}
-use Rattle.calls.specs.Machine.{cause, roomOf, nextWritten, stepIn, causeIn, answerBy, called}
+use Rattle.calls.specs.Machine.{cause, roomOf, nextWritten, outcome, stepIn, causeIn, answerBy, called}
 use Rattle.calls.specs.Days.{freshBy, freshCalled}
 use Rattle.calls.proofs.CallLaws.{clear-sound, written-clear}
 use Rattle.calls.proofs.RunLaws.{cause-in}
@@ -23,7 +23,7 @@ use Rattle.journal.specs.declared.Body.the-variants as body
 use Rattle.journal.specs.declared.Head.{Head}
 use Rattle.journal.specs.declared.Head.the-variants.{Cut, Bad, Whole}
 use Rattle.journal.specs.Entries.{headOf}
-use Rattle.journal.specs.Made.{madeIn, lengthOf, turnedOn}
+use Rattle.journal.specs.Made.{madeIn, writtenIn, lengthOf, turnedOn, turnWritten}
 use Rattle.journal.proofs.HeadLaws.{whole-fits}
 
 -- a call writes no more than was lent to it
@@ -67,3 +67,33 @@ turn-fits seen l s = go (headOf seen s) refl
     go (Whole b n) e =
         let f = whole-fits seen s b n e in
         record { used = f .1; few = λ k. f .2; written = made-short l b (part s 3 (n - 3)) }
+
+-- ---- the length that an answer gives is that of the bytes written
+call-length : (l : Ledger) (c : Call) → length (stepIn l c .written) ≡ lengthOf (called l c .answer)
+unfolding stepIn called answerBy outcome
+call-length l c = go (causeIn l c)
+  where
+    go : (v : Check) → length (outcome (book l) c v .written) ≡ lengthOf (answerBy (outcome (book l) c v) v)
+    go Clear = refl
+    go (Stop n) = refl
+
+fresh-length : (l : Ledger) (s : Start) → 0 ≡ lengthOf (freshCalled l s .answer)
+unfolding freshCalled freshBy
+fresh-length l s = go (first (freshCauses s))
+  where
+    go : (v : Check) → 0 ≡ lengthOf (freshBy l s v .answer)
+    go Clear = refl
+    go (Stop n) = refl
+
+made-length : (l : Ledger) (b : Body) (bytes : List ℕ) → length (writtenIn l b bytes) ≡ lengthOf (madeIn l b bytes .answer)
+made-length l (body.Fresh s) bytes = fresh-length l s
+made-length l (body.Request r) bytes = call-length l (request r 64200)
+made-length l body.File bytes = call-length l (file bytes 64200)
+made-length l (body.Cancel id) bytes = call-length l (cancel id 64200)
+made-length l (body.Close d) bytes = omega (arith, call-short l (close d))
+made-length l body.Unread bytes = refl
+
+pub turn-length : (h : Head) (l : Ledger) (s : List ℕ) → length (turnWritten h l s) ≡ turnedOn h l s .written
+turn-length Cut l s = refl
+turn-length Bad l s = refl
+turn-length (Whole b n) l s = made-length l b (part s 3 (n - 3))

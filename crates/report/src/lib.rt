@@ -1,4 +1,6 @@
-// The posted table of a journal.
+// What a journal comes to: its posted table, and its notices.
+pub mod brn_file;
+
 ghost use mathlib.Core.Path.{_≡_};
 ghost use Prim.Native.Nat.{_≤_};
 ghost use lib.ListN.{length};
@@ -23,7 +25,7 @@ pub fn finish(out: &mut [u8], r: Reader, stopped: bool, left: usize) -> usize
     table::write(out, l, bad)
 }
 
-// A table was written, so many bytes long; or the output lent is under 10,970 bytes, which the longest table has.
+// So many bytes were written; or the output lent is too small: for a table one under 10,970 bytes, which the longest table has.
 pub enum Report {
     Written(usize),
     TooSmall,
