@@ -6,7 +6,8 @@ use report::Report;
 fn show(s: &[u8]) {
     let mut out = [0u8; 10970];
     let r = report::post_table(s, &mut out);
-    let Report::Written(n) = r else {
+    let report = r.report;
+    let Report::Written(n) = report else {
         return;
     };
     io::write_all(STDOUT_FILENO, &out[..n]);

@@ -1,11 +1,11 @@
 -- The walk over a journal's entries that makes its notices: what holds before each entry, what a turn adds and what its end says. Assumes nothing.
 use Prim.Native.Nat.{ℕ, _+_, _-_, _*_, _≤_, _<_}
 use mathlib.Core.Path.{_≡_, refl, sym, ap, _∙_}
-use mathlib.Core.Bool.{Bool, true, false, _||_}
+use mathlib.Core.Bool.{Bool, true, false}
 use mathlib.Core.List.{List, [], _++_}
 use native.Mathlib.Omega.{arith}
 use native.Mathlib.Nat.{add-zero}
-use lib.Dec.{eqb, ltb}
+use lib.Dec.{ltb}
 use lib.ListN.{length, take, drop, length-append, length-drop}
 use lib.Seq.{length-take-le, take-all, take-at, drop-at, take-add, drop-drop}
 use borrow.Author.Tests.{lt-ltb, le-ltb}
@@ -81,7 +81,7 @@ pub record Goes (s : List ℕ) (seen at n : ℕ) (t : Turned) (w : List ℕ) : T
 -- a turn that used none up: all is written, and this is how the journal ends
 pub record Ends (s : List ℕ) (seen at n : ℕ) (stopped : Bool) : Type 0 where
   pub all : n ≡ length (brnOf s)
-  pub bad : (stopped || ltb 0 (length s - at) || eqb seen 0) ≡ isBad s
+  pub bad : endsBad stopped (length s - at) seen ≡ isBad s
 
 module _ (s : List ℕ) (l : Ledger) (seen at n : ℕ) (w : Stands s l seen at n) where
   -- the bytes that are lent to a turn
@@ -134,7 +134,7 @@ module _ (s : List ℕ) (l : Ledger) (seen at n : ℕ) (w : Stands s l seen at n
 
   -- ---- the end
   ended : (b : Bool) → parse seen (drop at s) ≡ record { entries = []; stopped = b; rest = drop at s } → Ends s seen at n b
-  unfolding isBad endsBad noticesOf
+  unfolding isBad noticesOf
   ended b e =
       let a : drop n (brnOf s) ≡ [] = sym (w .notices) ∙ ap (λ (p : Parsed). noticesOf (book l) (p .entries)) e in
       let x : parse 0 s .stopped ≡ b = sym (w .stopped) ∙ ap (λ (p : Parsed). p .stopped) e in

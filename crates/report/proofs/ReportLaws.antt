@@ -51,20 +51,30 @@ walked s r w left k z h e =
     let d : left ≡ length (parse (r .seen) s .rest) = e ∙ sym (length-drop (w .used) s) ∙ ap length (h .rest) in
     rw (h .ledger, h .stopped, h .seen, d, k, z, o)
 
-module _ (s out₀ : List ℕ) where
-  pub refused : length out₀ < 10970 → Reports s out₀ out₀ TooSmall
+-- and whether it ended bad
+pub walked-bad : (s : List ℕ) (r : Reader) (w : Walked) (left : ℕ) → r .seen ≡ 0 → Walks r s w → left ≡ length s - w .used
+    → endsBad (w .stopped) left (w .reader .seen) ≡ isBad s
+unfolding isBad
+walked-bad s r w left z h e =
+    let o : 0 + length (parse 0 s .entries) ≡ length (parse 0 s .entries) = omega arith in
+    let d : left ≡ length (parse (r .seen) s .rest) = e ∙ sym (length-drop (w .used) s) ∙ ap length (h .rest) in
+    rw (h .stopped, h .seen, d, z, o)
+
+module _ (s out₀ : List ℕ) (bad : Bool) (b : bad ≡ isBad s) where
+  pub refused : length out₀ < 10970 → Reports s out₀ out₀ (record { report = TooSmall; stopped = bad })
   unfolding reportOf reported
   refused h =
       let e = lt-ltb (length out₀) 10970 h in
-      record { answer = rw e; bytes = rw e (put-nil out₀ 0); within = tt; claimed = claimed s }
+      record { answer = rw e; stopped = b; bytes = rw e (put-nil out₀ 0); within = tt; claimed = claimed s }
 
   pub posted : (t out : List ℕ) (n : ℕ) → 10970 ≤ length out₀ → t ≡ postedOf s → n ≡ length t → out ≡ put out₀ 0 t → n ≤ 10970
-      → Reports s out₀ out (Written n)
+      → Reports s out₀ out (record { report = Written n; stopped = bad })
   unfolding reportOf reported
   posted t out n h p q u w =
       let e = le-ltb (length out₀) 10970 h in
       record {
         answer = rw (e, q, p);
+        stopped = b;
         bytes = rw (e, ← p) u;
         within = w;
         claimed = claimed s;

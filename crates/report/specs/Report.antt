@@ -16,6 +16,7 @@ use Rattle.history.specs.History.{begun}
 use Rattle.history.specs.Claim.{Claims}
 use Rattle.journal.specs.Journal.{noBook, ledgerOf, isBad}
 use Rattle.report.specs.declared.Report.{Report}
+use Rattle.report.specs.declared.Reported.{Reported}
 use Rattle.report.specs.declared.Report.the-variants.{Written, TooSmall}
 
 -- the bytes of the posted table of a journal
@@ -41,8 +42,10 @@ abbrev pub Within : Report → Type 0
 Within (Written n) = n ≤ 10970
 Within TooSmall = Unit {0}
 
-pub record Reports (s out₀ out : List ℕ) (r : Report) : Type 0 where
-  pub answer : r ≡ reportOf (length out₀) s
+-- what is answered and left of an output out₀; `stopped` says what `stopped,13` says in the table
+pub record Reports (s out₀ out : List ℕ) (r : Reported) : Type 0 where
+  pub answer : r .report ≡ reportOf (length out₀) s
+  pub stopped : r .stopped ≡ isBad s
   pub bytes : out ≡ put out₀ 0 (reported (length out₀) s)
-  pub within : Within r
+  pub within : Within (r .report)
   pub claimed : Claimed s

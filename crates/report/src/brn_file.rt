@@ -7,6 +7,7 @@ ghost use Rattle.journal.specs.Journal.{isBad};
 ghost use Rattle.journal.specs.Made.{brnOf};
 ghost use Rattle.report.specs.NoticesOf.{Gives};
 use crate::Report;
+use crate::Reported;
 
 // How many bytes the notices of a journal have, and whether a bad entry stopped it.
 struct Measured {
@@ -30,11 +31,8 @@ fn measure(src: &[u8]) -> Measured
         l = next;
         let used = t.used;
         if used == 0 {
-            let bad = t.stopped | (0 < src.len() - at) | (seen == 0);
-            return Measured {
-                length: n,
-                stopped: bad,
-            };
+            let stopped = crate::ends_bad(t.stopped, src.len() - at, seen);
+            return Measured { length: n, stopped };
         }
         n += t.written;
         at += used;
@@ -69,27 +67,21 @@ fn fill(src: &[u8], out: &mut [u8])
     }
 }
 
-// What came of writing a journal's notices, and whether a bad entry stopped it (the table's `stopped,13`).
-pub struct Noticed {
-    pub report: Report,
-    pub stopped: bool,
-}
-
 // Writes the notices of a whole journal, or nothing if the output lent is too small for them.
-pub fn post_notices(src: &[u8], out: &mut [u8]) -> Noticed
+pub fn post_notices(src: &[u8], out: &mut [u8]) -> Reported
     ensures { λ r. ⌜ Gives (now (src .entry)) (now (out .entry)) (now (out .exit)) r ⌝ }
 {
     let m = measure(src);
     let n = m.length;
     let stopped = m.stopped;
     if out.len() < n {
-        return Noticed {
+        return Reported {
             report: Report::TooSmall,
             stopped,
         };
     }
     fill(src, out);
-    Noticed {
+    Reported {
         report: Report::Written(n),
         stopped,
     }

@@ -12,6 +12,25 @@ ghost use Rattle.replay.specs.Reader.{Good};
 ghost use Rattle.report.specs.Report.{Reports};
 use replay::Reader;
 
+// So many bytes were written; or the output lent is too small: for a table one under 10,970 bytes, which the longest table has.
+pub enum Report {
+    Written(usize),
+    TooSmall,
+}
+
+// What came of writing a journal's table or its notices, and whether the journal ended bad (the table's `stopped,13`).
+pub struct Reported {
+    pub report: Report,
+    pub stopped: bool,
+}
+
+// Whether a journal ended bad: a bad entry stopped it, bytes are left, or it held no entry.
+fn ends_bad(stopped: bool, left: usize, seen: u64) -> bool
+    ensures { λ r. ⌜ r ≡ endsBad stopped left seen ⌝ }
+{
+    stopped | (0 < left) | (seen == 0)
+}
+
 // Writes the table at the end of a journal of which so many bytes are left, and answers its length.
 pub fn finish(out: &mut [u8], r: Reader, stopped: bool, left: usize) -> usize
     requires { ⌜ Good r ⌝ }
@@ -20,27 +39,29 @@ pub fn finish(out: &mut [u8], r: Reader, stopped: bool, left: usize) -> usize
     ensures { λ _. ⌜ now (out .exit) ≡ put (now (out .entry)) 0 (tableOf (book (r .ledger)) (endsBad stopped left (r .seen))) ⌝ }
     ensures { λ n. ⌜ n ≤ 10970 ⌝ }
 {
-    let bad = stopped | (0 < left) | (r.seen == 0);
+    let bad = ends_bad(stopped, left, r.seen);
     let l = r.ledger;
     table::write(out, l, bad)
 }
 
-// So many bytes were written; or the output lent is too small: for a table one under 10,970 bytes, which the longest table has.
-pub enum Report {
-    Written(usize),
-    TooSmall,
-}
-
 // Writes the posted table of a whole journal.
-pub fn post_table(src: &[u8], out: &mut [u8]) -> Report
+pub fn post_table(src: &[u8], out: &mut [u8]) -> Reported
     ensures { λ r. ⌜ Reports (now (src .entry)) (now (out .entry)) (now (out .exit)) r ⌝ }
 {
-    if out.len() < 10970 {
-        return Report::TooSmall;
-    }
     let w = replay::walk(src, replay::start());
     let r = w.reader;
     let used = w.used;
-    let n = finish(out, r, w.stopped, src.len() - used);
-    Report::Written(n)
+    let left = src.len() - used;
+    let stopped = ends_bad(w.stopped, left, r.seen);
+    if out.len() < 10970 {
+        return Reported {
+            report: Report::TooSmall,
+            stopped,
+        };
+    }
+    let n = finish(out, r, w.stopped, left);
+    Reported {
+        report: Report::Written(n),
+        stopped,
+    }
 }

@@ -12,8 +12,8 @@ slice-aggregate-post-table c = search needs
 post-table-requires : tie.Need-post-table-requires
 post-table-requires c κs = search needs
 
-enum-known-r : tie.Need-enum-known-r
-enum-known-r c = search needs
+enum-known-report : tie.Need-enum-known-report
+enum-known-report c = search needs
 
 enum-told : tie.Need-enum-told
 enum-told c = search needs
@@ -22,10 +22,10 @@ returns : tie.Need-returns
 returns c = search needs
 
 array-share-prefix-out : tie.Need-array-share-prefix-out
-array-share-prefix-out c = let w = rw (c .before .r .given .1) at (c .before .before .before .before .post-table .ensures .within) in omega (arith, w, c .before .before .before .before .post-table .kept)
+array-share-prefix-out c = let w = rw (c .before .report .given .1) at (c .before .before .before .before .post-table .ensures .within) in omega (arith, w, c .before .before .before .before .post-table .kept)
 
 slice-aggregate-write-all : tie.Need-slice-aggregate-write-all
-slice-aggregate-write-all c = let w = rw (c .before .before .r .given .1) at (c .before .before .before .before .before .post-table .ensures .within) in sym (length-take-le _ _ (omega (arith, w, c .before .before .before .before .before .post-table .kept)))
+slice-aggregate-write-all c = let w = rw (c .before .before .report .given .1) at (c .before .before .before .before .before .post-table .ensures .within) in sym (length-take-le _ _ (omega (arith, w, c .before .before .before .before .before .post-table .kept)))
 
 write-all-requires : tie.Need-write-all-requires
 write-all-requires c κs = search needs
@@ -45,7 +45,7 @@ show-spec =
     (tie.spec
     slice-aggregate-post-table
     post-table-requires
-    enum-known-r
+    enum-known-report
     enum-told
     returns
     array-share-prefix-out

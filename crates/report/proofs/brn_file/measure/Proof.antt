@@ -41,11 +41,14 @@ part-next-entry-end c = omega arith
 next-entry-requires : tie.Need-next-entry-requires Inv-loop μ-loop
 next-entry-requires c κs = c .before .before .loop .inv .room
 
-sub-bad : tie.Need-sub-bad Inv-loop μ-loop
-sub-bad c = omega (arith, c .before .before .before .before .before .before .loop .inv .stands .within)
+sub-ends-bad : tie.Need-sub-ends-bad Inv-loop μ-loop
+sub-ends-bad c = omega (arith, c .before .before .before .before .before .before .loop .inv .stands .within)
+
+ends-bad-requires : tie.Need-ends-bad-requires Inv-loop μ-loop
+ends-bad-requires c κs = search needs
 
 returns : tie.Need-returns Inv-loop μ-loop
-returns c = let x = at-end _ _ _ _ _ (c .before .before .before .before .before .before .before .loop .inv .stands) _ (c .before .before .before .before .next-entry .ensures .0) (c .before .if1 .taken) in (x .all, x .bad)
+returns c = let x = at-end _ _ _ _ _ (c .before .before .before .before .before .before .before .loop .inv .stands) _ (c .before .before .before .before .next-entry .ensures .0) (c .before .if1 .taken) in (x .all, c .ends-bad .ensures ∙ x .bad)
 
 add-n : tie.Need-add-n Inv-loop μ-loop
 add-n c = let x = goes-on _ _ _ _ _ (c .before .before .before .before .before .before .before .loop .inv .stands) _ (c .before .before .before .before .next-entry .ensures .0) (omega arith) in omega (arith, x .next .small, x .next .few)
@@ -75,7 +78,8 @@ measure-spec =
     part-next-entry-start
     part-next-entry-end
     next-entry-requires
-    sub-bad
+    sub-ends-bad
+    ends-bad-requires
     returns
     add-n
     add-at
