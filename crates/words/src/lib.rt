@@ -1,0 +1,1 @@
+// A ledger as an array of 64-bit words.
