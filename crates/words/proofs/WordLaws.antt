@@ -1,5 +1,5 @@
 -- Words to ledger and back, and ledger to words and back. Assumes nothing.
-use Prim.Native.Nat.{ℕ, zero, suc, _+_, _-_, _*_, _≤_}
+use Prim.Native.Nat.{ℕ, zero, suc, _+_, _-_, _*_, _≤_, _<_}
 use mathlib.Core.Path.{_≡_, refl, sym, ap, ap₂, _∙_}
 use mathlib.Core.Bool.{Bool, true, false, cond, _&&_, _||_}
 use mathlib.Core.List.{List, [], _∷_, _++_, append-assoc}
@@ -7,7 +7,7 @@ use native.Mathlib.Omega.{arith}
 use lib.Dec.{leb, ltb, eqb}
 use lib.ListN.{length, take, drop, getD, length-append, length-drop, take-append-drop}
 use lib.Seq.{drop-cons, drop-at, take-all, take-add}
-use borrow.Author.Tests.{eqb-true, leb-true, eqb-false, eq-eqb}
+use borrow.Author.Tests.{eqb-true, leb-true, ltb-true, eqb-false, eq-eqb}
 use Rattle.fields.proofs.BoolLaws.{and-left, and-right, cases}
 use Rattle.ledger.specs.declared.Product.{Product}
 use Rattle.ledger.specs.declared.Product.the-variants as product
@@ -22,7 +22,7 @@ use Rattle.ledger.specs.Bills.{productByte}
 use Rattle.ledger.specs.Sound.{soundLedger}
 use Rattle.words.specs.Layout.{markWord, postedWords, termsWords, latestWords, billWords, billsWords, headWords, ledgerWords}
 use Rattle.words.specs.Layout.{holdsPosted, holdsCode, holdsBill, holdsBills, holdsLedger}
-use Rattle.words.specs.Layout.{productIn, postedIn, latestIn, codeIn, billIn, billsIn, ledgerIn, noLedger, ledgerOf, byteCode}
+use Rattle.words.specs.Layout.{productIn, postedIn, latestIn, codeIn, termsIn, billIn, billsIn, ledgerIn, noLedger, ledgerOf, byteCode}
 
 -- ---- one place
 -- n elements from index i on, one by one
@@ -51,7 +51,6 @@ or-cases true b h f g = f refl
 or-cases false b h f g = g h
 
 posted-words : (k c a o : ℕ) → holdsPosted k c a o ≡ true → postedWords (postedIn k c a o) ≡ k ∷ c ∷ a ∷ o ∷ []
-unfolding holdsPosted postedIn postedWords
 posted-words k c a o h =
     or-cases (eqb k 0 && (eqb c 0 && (eqb a 0 && eqb o 0))) ((eqb k 1 && (eqb a 0 && eqb o 0)) || eqb k 2) h
     (λ e.
@@ -94,7 +93,7 @@ place ws h =
 
 -- the bill of a place's words has those words
 bill-words : (ws : List ℕ) → holdsBill ws ≡ true → 19 ≤ length ws → billWords (billIn ws) ≡ take 19 ws
-unfolding billWords billIn termsWords latestWords latestIn codeIn
+unfolding billWords billIn termsIn termsWords codeIn
 bill-words ws h k =
     let p : Place ws = place ws h in
     rw (
@@ -104,14 +103,13 @@ bill-words ws h k =
     )
     (reads-part 19 0 ws (omega arith))
 
-length-posted : (p : Posted) → length (postedWords p) ≡ 4
-unfolding postedWords
+pub length-posted : (p : Posted) → length (postedWords p) ≡ 4
 length-posted posted.None = refl
 length-posted (posted.BillReady charge) = refl
 length-posted (posted.Prepay charge applied owed) = refl
 
 pub length-bill : (b : Bill) → length (billWords b) ≡ 19
-unfolding billWords termsWords latestWords
+unfolding billWords termsWords
 length-bill b = rw (length-posted (b .posted))
 
 -- the bill of a bill's words is the bill
@@ -125,13 +123,12 @@ mark-in false = refl
 
 posted-in : (p : Posted) (ws : List ℕ)
     → postedIn (getD (postedWords p ++ ws) 0 0) (getD (postedWords p ++ ws) 1 0) (getD (postedWords p ++ ws) 2 0) (getD (postedWords p ++ ws) 3 0) ≡ p
-unfolding postedWords postedIn
 posted-in posted.None ws = refl
 posted-in (posted.BillReady charge) ws = refl
 posted-in (posted.Prepay charge applied owed) ws = refl
 
 bill-in : (b : Bill) (ws : List ℕ) → billIn (billWords b ++ ws) ≡ b
-unfolding billWords billIn termsWords latestWords latestIn codeIn
+unfolding billWords billIn termsIn termsWords codeIn
 bill-in b ws = rw (product-in (b .terms .product), mark-in (b .terms .cancelled), posted-in (b .posted) ws)
 
 -- and the words are those of a place, if its code is bytes
@@ -146,17 +143,16 @@ mark-holds false = refl
 posted-holds : (p : Posted) (ws : List ℕ)
     → holdsPosted (getD (postedWords p ++ ws) 0 0) (getD (postedWords p ++ ws) 1 0) (getD (postedWords p ++ ws) 2 0) (getD (postedWords p ++ ws) 3 0)
     ≡ true
-unfolding postedWords holdsPosted
 posted-holds posted.None ws = refl
 posted-holds (posted.BillReady charge) ws = refl
 posted-holds (posted.Prepay charge applied owed) ws = refl
 
 bill-holds : (b : Bill) (ws : List ℕ) → byteCode b ≡ true → holdsBill (billWords b ++ ws) ≡ true
-unfolding billWords holdsBill termsWords latestWords
+unfolding billWords holdsBill termsWords
 bill-holds b ws h = rw (h, product-holds (b .terms .product), mark-holds (b .terms .cancelled), posted-holds (b .posted) ws)
 
 -- ---- the places, one after the other
-length-bills : (bs : List Bill) → length (billsWords bs) ≡ length bs * 19
+pub length-bills : (bs : List Bill) → length (billsWords bs) ≡ 19 * length bs
 unfolding billsWords
 length-bills [] = refl
 length-bills (b ∷ bs) = simp length-append (omega (arith, length-bill b, length-bills bs))
@@ -178,7 +174,7 @@ bills-hold (b ∷ bs) h =
     rw (bill-holds b (billsWords bs) (and-left (byteCode b) (every byteCode bs) h))
     (ap (holdsBills (length bs)) (drop-bill b (billsWords bs)) ∙ bills-hold bs (and-right (byteCode b) (every byteCode bs) h))
 
-bills-words : (n : ℕ) (ws : List ℕ) → holdsBills n ws ≡ true → length ws ≡ n * 19 → billsWords (billsIn n ws) ≡ ws
+bills-words : (n : ℕ) (ws : List ℕ) → holdsBills n ws ≡ true → length ws ≡ 19 * n → billsWords (billsIn n ws) ≡ ws
 unfolding holdsBills billsIn billsWords
 bills-words zero [] h k = refl
 bills-words zero (w ∷ ws) h k = absurd (omega arith)
@@ -243,3 +239,15 @@ no-sound = refl
 pub no-ledger : (ws : List ℕ) → holdsLedger ws ≡ false → soundLedger (ledgerOf ws) ≡ false
 unfolding ledgerOf
 no-ledger ws h = rw h no-sound
+
+-- a place's code words are bytes
+pub code-bytes : (ws : List ℕ) → holdsBill ws ≡ true → (getD ws 2 0 < 256) × (getD ws 3 0 < 256) × (getD ws 4 0 < 256) × (getD ws 5 0 < 256)
+code-bytes ws h =
+    let a = ltb (getD ws 2 0) 256 in
+    let b = ltb (getD ws 3 0) 256 in
+    let c = ltb (getD ws 4 0) 256 in
+    let d = ltb (getD ws 5 0) 256 in
+    let p : (a && (b && (c && d))) ≡ true = place ws h .code in
+    let q = and-right a (b && (c && d)) p in
+    let r = and-right b (c && d) q in
+    (ltb-true _ _ (and-left a (b && (c && d)) p), ltb-true _ _ (and-left b (c && d) q), ltb-true _ _ (and-left c d r), ltb-true _ _ (and-right c d r))

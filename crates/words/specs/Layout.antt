@@ -22,7 +22,7 @@ abbrev pub markWord : Bool → ℕ
 markWord m = cond m 1 0
 
 -- 15 to 18: the kind (0 none, 1 Bill Ready, 2 Prepay), charge, applied, owed; "the words that a kind does not use are 0"
-unfoldable pub postedWords : Posted → List ℕ
+abbrev pub postedWords : Posted → List ℕ
 postedWords posted.None = 0 ∷ 0 ∷ 0 ∷ 0 ∷ []
 postedWords (posted.BillReady charge) = 1 ∷ charge .0 ∷ 0 ∷ 0 ∷ []
 postedWords (posted.Prepay charge applied owed) = 2 ∷ charge .0 ∷ applied .0 ∷ owed .0 ∷ []
@@ -43,7 +43,7 @@ termsWords t =
     ∷ []
 
 -- 10 to 14: Tracking ID, consumption, Billing Date, From Date, Scheduled Date
-unfoldable pub latestWords : Latest → List ℕ
+abbrev pub latestWords : Latest → List ℕ
 latestWords r = r .tracking ∷ r .consumption .0 ∷ r .billing .0 ∷ r .from .0 ∷ r .scheduled .0 ∷ []
 
 -- a place's 19 words
@@ -64,13 +64,13 @@ ledgerWords l = headWords l ++ billsWords (l .bills)
 
 -- ---- which words are those of a ledger
 -- the kind is 0, 1 or 2, and the words that it does not use are 0
-unfoldable pub holdsPosted : ℕ → ℕ → ℕ → ℕ → Bool
+abbrev pub holdsPosted : ℕ → ℕ → ℕ → ℕ → Bool
 holdsPosted kind charge applied owed =
     (eqb kind 0 && (eqb charge 0 && (eqb applied 0 && eqb owed 0)))
     || ((eqb kind 1 && (eqb applied 0 && eqb owed 0)) || eqb kind 2)
 
 -- the code's words are bytes
-unfoldable pub holdsCode : ℕ → ℕ → ℕ → ℕ → Bool
+abbrev pub holdsCode : ℕ → ℕ → ℕ → ℕ → Bool
 holdsCode first second tens ones = ltb first 256 && (ltb second 256 && (ltb tens 256 && ltb ones 256))
 
 -- these words start with the 19 of a place
@@ -96,13 +96,13 @@ date n = record { 0 = n }
 abbrev pub productIn : ℕ → Product
 productIn w = cond (eqb w 80) product.Prepay product.BillReady
 
-unfoldable pub postedIn : ℕ → ℕ → ℕ → ℕ → Posted
+abbrev pub postedIn : ℕ → ℕ → ℕ → ℕ → Posted
 postedIn kind charge applied owed =
     cond (eqb kind 2)
     (posted.Prepay (cents charge) (cents applied) (cents owed))
     (cond (eqb kind 1) (posted.BillReady (cents charge)) posted.None)
 
-unfoldable pub latestIn : List ℕ → Latest
+abbrev pub latestIn : List ℕ → Latest
 latestIn ws =
     record {
       tracking = getD ws 10 0;
@@ -115,22 +115,22 @@ latestIn ws =
 unfoldable pub codeIn : List ℕ → RateCode
 codeIn ws = record { first = getD ws 2 0; second = getD ws 3 0; tens = getD ws 4 0; ones = getD ws 5 0 }
 
+unfoldable pub termsIn : List ℕ → Terms
+termsIn ws =
+    record {
+      identity = record { account = getD ws 0 0; key = getD ws 1 0 };
+      code = codeIn ws;
+      product = productIn (getD ws 6 0);
+      sequence = getD ws 7 0;
+      requests = getD ws 8 0;
+      cancelled = eqb (getD ws 9 0) 1;
+      latest = latestIn ws;
+    }
+
 -- the bill of the first 19 of these words, word by word
 unfoldable pub billIn : List ℕ → Bill
 billIn ws =
-    record {
-      terms =
-          record {
-            identity = record { account = getD ws 0 0; key = getD ws 1 0 };
-            code = codeIn ws;
-            product = productIn (getD ws 6 0);
-            sequence = getD ws 7 0;
-            requests = getD ws 8 0;
-            cancelled = eqb (getD ws 9 0) 1;
-            latest = latestIn ws;
-          };
-      posted = postedIn (getD ws 15 0) (getD ws 16 0) (getD ws 17 0) (getD ws 18 0);
-    }
+    record { terms = termsIn ws; posted = postedIn (getD ws 15 0) (getD ws 16 0) (getD ws 17 0) (getD ws 18 0) }
 
 -- the bills of n places, one after the other
 unfoldable pub billsIn : ℕ → List ℕ → List Bill
