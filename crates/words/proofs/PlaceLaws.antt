@@ -1,19 +1,18 @@
 -- Laws of the loops over the places: one place more, read or written. Assumes nothing.
 use Prim.Native.Nat.{ℕ, zero, suc, _+_, _-_, _*_, _≤_, _<_}
 use mathlib.Core.Path.{_≡_, refl, sym, ap, ap₂, _∙_}
-use mathlib.Core.Bool.{Bool, true, false, _&&_, and-assoc, and-true}
+use mathlib.Core.Bool.{Bool, true, _&&_, and-assoc, and-true}
 use mathlib.Core.List.{List, [], _∷_, _++_, append-assoc, append-nil}
 use native.Mathlib.Omega.{arith}
 use native.Mathlib.Numerals.{add-one}
 use native.Mathlib.Nat.{not-suc-le-zero, le-of-suc-le-suc}
-use lib.ListN.{length, take, drop, getD, set, length-append, length-drop, drop-of-length-le}
-use lib.Seq.{drop-drop, take-all, length-take-le, take-suc, take-suc-set, take-at, drop-append-add}
-use Rattle.fields.specs.Put.{put}
+use lib.ListN.{length, take, drop, getD, set, length-drop, drop-of-length-le}
+use lib.Seq.{drop-drop, take-all, length-take-le, take-suc, take-suc-set, take-at, drop-at, split-at, drop-append-add}
+use Rattle.fields.specs.Put.{put, part}
 use Rattle.fields.proofs.PutLaws.{first, next}
 use Rattle.fields.proofs.BoolLaws.{and-left, and-right}
 use Rattle.ledger.specs.declared.Bill.{Bill}
 use Rattle.ledger.specs.declared.Ledger.{Ledger}
-use Rattle.ledger.specs.Bills.{blankBill}
 use Rattle.words.specs.Layout.{termsWords, latestWords, postedWords}
 use Rattle.words.specs.Layout.{billWords, billsWords, headWords, ledgerWords, holdsBill, holdsBills, date, billIn, billsIn, ledgerIn}
 use Rattle.words.proofs.WordLaws.{length-posted, length-bill, length-bills}
@@ -140,9 +139,6 @@ done-more l i d h =
     ∙ sym (append-assoc (headWords l) (billsWords (take i (l .bills))) (billWords (getD (l .bills) i d)))
 
 module _ (l : Ledger) (ws : List ℕ) where
-  pub length-written : (i : ℕ) → i ≤ length (l .bills) → 4 + 19 * i ≤ length ws → length (written l i ws) ≡ length ws
-  length-written i h k = simp (length-append, length-drop) (omega (arith, length-done l i h))
-
   pub written-more : (i : ℕ) (d : Bill) (us vs : List ℕ) → i < length (l .bills) → us ≡ written l i ws
       → vs ≡ put us (4 + 19 * i) (billWords (getD (l .bills) i d)) → vs ≡ written l (i + 1) ws
   written-more i d us vs h e f =
@@ -158,6 +154,20 @@ module _ (l : Ledger) (ws : List ℕ) where
   written-all i h k =
       ap₂ (λ (x : List Bill) (y : List ℕ). (headWords l ++ billsWords x) ++ y) (take-all i (l .bills) h) (drop-of-length-le ws k)
       ∙ append-nil (headWords l ++ billsWords (l .bills))
+
+-- place i stands from word 4 + 19 * i on
+pub place-words : (l : Ledger) (i : ℕ) (d : Bill) → i < length (l .bills) → part (ledgerWords l) (4 + 19 * i) 19 ≡ billWords (getD (l .bills) i d)
+unfolding part ledgerWords done billsWords
+place-words l i d h =
+    let b : Bill = getD (l .bills) i d in
+    let r : List ℕ = billsWords (drop (suc i) (l .bills)) in
+    let e : headWords l ++ billsWords (l .bills) ≡ done l i ++ (billWords b ++ r) =
+    ap (λ (bs : List Bill). headWords l ++ billsWords bs) (split-at (l .bills) i d h)
+    ∙ ap (λ (ws : List ℕ). headWords l ++ ws) (words-append (take i (l .bills)) (b ∷ drop (suc i) (l .bills)))
+    ∙ sym (append-assoc (headWords l) (billsWords (take i (l .bills))) (billWords b ++ r)) in
+    ap (λ (ws : List ℕ). take 19 (drop (4 + 19 * i) ws)) e
+    ∙ ap (take 19) (drop-at (done l i) (billWords b ++ r) (4 + 19 * i) (length-done l i (omega arith)))
+    ∙ take-at (billWords b) r 19 (length-bill b)
 
 -- a place written in three parts
 pub put-parts : (b : Bill) (at : ℕ) (ws us vs xs : List ℕ) → at ≤ length ws → us ≡ put ws at (termsWords (b .terms))

@@ -1,28 +1,26 @@
 -- Words to ledger and back, and ledger to words and back. Assumes nothing.
-use Prim.Native.Nat.{ℕ, zero, suc, _+_, _-_, _*_, _≤_, _<_}
+use Prim.Native.Nat.{ℕ, zero, suc, _+_, _*_, _≤_, _<_}
 use mathlib.Core.Path.{_≡_, refl, sym, ap, ap₂, _∙_}
-use mathlib.Core.Bool.{Bool, true, false, cond, _&&_, _||_}
-use mathlib.Core.List.{List, [], _∷_, _++_, append-assoc}
+use mathlib.Core.Bool.{Bool, true, false, _&&_, _||_, false≢true}
+use mathlib.Core.List.{List, [], _∷_, _++_}
 use native.Mathlib.Omega.{arith}
 use lib.Dec.{leb, ltb, eqb}
 use lib.ListN.{length, take, drop, getD, length-append, length-drop, take-append-drop}
-use lib.Seq.{drop-cons, drop-at, take-all, take-add}
+use lib.Seq.{drop-cons, drop-at}
 use borrow.Author.Tests.{eqb-true, leb-true, ltb-true, eqb-false, eq-eqb}
 use Rattle.fields.proofs.BoolLaws.{and-left, and-right, cases}
 use Rattle.ledger.specs.declared.Product.{Product}
 use Rattle.ledger.specs.declared.Product.the-variants as product
 use Rattle.ledger.specs.declared.Posted.{Posted}
 use Rattle.ledger.specs.declared.Posted.the-variants as posted
-use Rattle.ledger.specs.declared.Latest.{Latest}
-use Rattle.ledger.specs.declared.Terms.{Terms}
 use Rattle.ledger.specs.declared.Bill.{Bill}
 use Rattle.ledger.specs.declared.Ledger.{Ledger}
 use Rattle.ledger.specs.Lists.{every}
 use Rattle.ledger.specs.Bills.{productByte}
 use Rattle.ledger.specs.Sound.{soundLedger}
-use Rattle.words.specs.Layout.{markWord, postedWords, termsWords, latestWords, billWords, billsWords, headWords, ledgerWords}
+use Rattle.words.specs.Layout.{markWord, postedWords, termsWords, billWords, billsWords, headWords, ledgerWords}
 use Rattle.words.specs.Layout.{holdsPosted, holdsCode, holdsBill, holdsBills, holdsLedger}
-use Rattle.words.specs.Layout.{productIn, postedIn, latestIn, codeIn, termsIn, billIn, billsIn, ledgerIn, noLedger, ledgerOf, byteCode}
+use Rattle.words.specs.Layout.{productIn, postedIn, codeIn, termsIn, billIn, billsIn, ledgerIn, noLedger, ledgerOf, byteCode}
 
 -- ---- one place
 -- n elements from index i on, one by one
@@ -39,7 +37,7 @@ reads-part (suc n) i ws h =
 product-word : (w : ℕ) → (eqb w 66 || eqb w 80) ≡ true → productByte (productIn w) ≡ w
 product-word w h =
     cases (eqb w 80) (λ e. rw e (sym (eqb-true w 80 e)))
-    (λ e. cases (eqb w 66) (λ f. rw e (sym (eqb-true w 66 f))) (λ f. absurd (mathlib.Core.Bool.false≢true (rw (f, e) at h))))
+    (λ e. cases (eqb w 66) (λ f. rw e (sym (eqb-true w 66 f))) (λ f. absurd (false≢true (rw (f, e) at h))))
 
 mark-word : (w : ℕ) → leb w 1 ≡ true → markWord (eqb w 1) ≡ w
 mark-word w h =
@@ -90,6 +88,18 @@ place ws h =
     let r = and-right a (b && (c && d)) h in
     let q = and-right b (c && d) r in
     record { code = and-left a (b && (c && d)) h; product = and-left b (c && d) r; cancelled = and-left c d q; posted = and-right c d q }
+
+-- a place's code words are bytes
+pub code-bytes : (ws : List ℕ) → holdsBill ws ≡ true → (getD ws 2 0 < 256) × (getD ws 3 0 < 256) × (getD ws 4 0 < 256) × (getD ws 5 0 < 256)
+code-bytes ws h =
+    let a = ltb (getD ws 2 0) 256 in
+    let b = ltb (getD ws 3 0) 256 in
+    let c = ltb (getD ws 4 0) 256 in
+    let d = ltb (getD ws 5 0) 256 in
+    let p : (a && (b && (c && d))) ≡ true = place ws h .code in
+    let q = and-right a (b && (c && d)) p in
+    let r = and-right b (c && d) q in
+    (ltb-true _ _ (and-left a (b && (c && d)) p), ltb-true _ _ (and-left b (c && d) q), ltb-true _ _ (and-left c d r), ltb-true _ _ (and-right c d r))
 
 -- the bill of a place's words has those words
 bill-words : (ws : List ℕ) → holdsBill ws ≡ true → 19 ≤ length ws → billWords (billIn ws) ≡ take 19 ws
@@ -239,15 +249,3 @@ no-sound = refl
 pub no-ledger : (ws : List ℕ) → holdsLedger ws ≡ false → soundLedger (ledgerOf ws) ≡ false
 unfolding ledgerOf
 no-ledger ws h = rw h no-sound
-
--- a place's code words are bytes
-pub code-bytes : (ws : List ℕ) → holdsBill ws ≡ true → (getD ws 2 0 < 256) × (getD ws 3 0 < 256) × (getD ws 4 0 < 256) × (getD ws 5 0 < 256)
-code-bytes ws h =
-    let a = ltb (getD ws 2 0) 256 in
-    let b = ltb (getD ws 3 0) 256 in
-    let c = ltb (getD ws 4 0) 256 in
-    let d = ltb (getD ws 5 0) 256 in
-    let p : (a && (b && (c && d))) ≡ true = place ws h .code in
-    let q = and-right a (b && (c && d)) p in
-    let r = and-right b (c && d) q in
-    (ltb-true _ _ (and-left a (b && (c && d)) p), ltb-true _ _ (and-left b (c && d) q), ltb-true _ _ (and-left c d r), ltb-true _ _ (and-right c d r))

@@ -1,6 +1,6 @@
 -- `words::bill_in` meets its contract.
 use borrow.Author.Needs.{needs}
-use mathlib.Core.Path.{_≡_, ap, _∙_}
+use mathlib.Core.Path.{ap}
 use native.Mathlib.Omega.{arith}
 use lib.ListN.{length-drop}
 use Rattle.words.specs.Layout.{billIn}

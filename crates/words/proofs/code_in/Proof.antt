@@ -1,7 +1,5 @@
 -- `words::code_in` meets its contract: a place's code words are bytes.
 use borrow.Author.Needs.{needs}
-use borrow.Author.Tests.{ltb-true}
-use mathlib.Core.Path.{sym, ap, _∙_}
 use Rattle.words.specs.Layout.{codeIn}
 use Rattle.words.proofs.WordLaws.{code-bytes}
 use Rattle.words.proofs.code_in.Statement.{statement}

@@ -1,12 +1,10 @@
 -- `words::fits` meets its contract. The invariant: `good` is the test of the first i places.
-use borrow.Author.Needs.{needs}
 use borrow.Author.Tests.{eq-eqb, ne-eqb}
 use native.Mathlib.Omega.{arith}
 use Prim.Native.Nat.{ℕ, _-_, _≤_}
-use mathlib.Core.Path.{_≡_, refl, sym, ap, _∙_}
-use mathlib.Core.Bool.{Bool, _&&_}
-use lib.ListN.{length, drop}
-use Rattle.words.specs.Layout.{holdsBill, holdsBills, holdsLedger}
+use mathlib.Core.Path.{_≡_, refl, ap, _∙_}
+use lib.ListN.{drop}
+use Rattle.words.specs.Layout.{holdsBills, holdsLedger}
 use Rattle.words.proofs.PlaceLaws.{holds-more}
 use Rattle.words.proofs.fits.Statement.{statement}
 use Rattle.words.proofs.fits.Tie as tie

@@ -1,6 +1,6 @@
 -- `words::fits_in` meets its contract.
 use borrow.Author.Needs.{needs}
-use mathlib.Core.Path.{_≡_, ap, _∙_}
+use mathlib.Core.Path.{ap}
 use Rattle.words.specs.Layout.{holdsBill}
 use Rattle.words.proofs.PlaceLaws.{rest}
 use Rattle.words.proofs.fits_in.Statement.{statement}

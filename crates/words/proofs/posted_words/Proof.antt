@@ -1,6 +1,5 @@
 -- `words::posted_words` meets its contract.
 use borrow.Author.Needs.{needs}
-use mathlib.Core.Path.{sym, ap}
 use Rattle.words.proofs.posted_words.Statement.{statement}
 use Rattle.words.proofs.posted_words.Tie as tie
 

@@ -1,6 +1,6 @@
 -- `words::read` meets its contract.
 use borrow.Author.Needs.{needs}
-use mathlib.Core.Path.{sym, ap, _∙_}
+use mathlib.Core.Path.{sym, _∙_}
 use Rattle.words.specs.Layout.{ledgerOf}
 use Rattle.words.proofs.WordLaws.{of-words}
 use Rattle.words.proofs.read.Statement.{statement}

@@ -2,13 +2,13 @@
 use borrow.Author.Needs.{needs}
 use native.Mathlib.Omega.{arith}
 use Prim.Native.Nat.{_-_, _≤_}
-use mathlib.Core.Path.{_≡_, refl, sym, ap, _∙_}
+use mathlib.Core.Path.{_≡_, refl, ap, _∙_}
 use lib.ListN.{length, length-set}
 use Rattle.fields.proofs.PutLaws.{length-put}
 use Rattle.ledger.specs.Bills.{blankBill}
 use Rattle.ledger.proofs.BookLaws.{places}
 use Rattle.words.proofs.WordLaws.{length-bill}
-use Rattle.words.proofs.PlaceLaws.{written, written-none, written-more, written-all, length-written}
+use Rattle.words.proofs.PlaceLaws.{written, written-none, written-more, written-all}
 use Rattle.words.proofs.write.Statement.{statement}
 use Rattle.words.proofs.write.Tie as tie
 
