@@ -1,0 +1,4 @@
+-- Laws that belong to no one function.
+pub mod WordLaws
+pub mod PlaceLaws
+pub mod ToldLaws

@@ -1,0 +1,251 @@
+-- Words to ledger and back, and ledger to words and back. Assumes nothing.
+use Prim.Native.Nat.{ℕ, zero, suc, _+_, _*_, _≤_, _<_}
+use mathlib.Core.Path.{_≡_, refl, sym, ap, ap₂, _∙_}
+use mathlib.Core.Bool.{Bool, true, false, _&&_, _||_, false≢true}
+use mathlib.Core.List.{List, [], _∷_, _++_}
+use native.Mathlib.Omega.{arith}
+use lib.Dec.{leb, ltb, eqb}
+use lib.ListN.{length, take, drop, getD, length-append, length-drop, take-append-drop}
+use lib.Seq.{drop-cons, drop-at}
+use borrow.Author.Tests.{eqb-true, leb-true, ltb-true, eqb-false, eq-eqb}
+use Rattle.fields.proofs.BoolLaws.{and-left, and-right, cases}
+use Rattle.ledger.specs.declared.Product.{Product}
+use Rattle.ledger.specs.declared.Product.the-variants as product
+use Rattle.ledger.specs.declared.Posted.{Posted}
+use Rattle.ledger.specs.declared.Posted.the-variants as posted
+use Rattle.ledger.specs.declared.Bill.{Bill}
+use Rattle.ledger.specs.declared.Ledger.{Ledger}
+use Rattle.ledger.specs.Lists.{every}
+use Rattle.ledger.specs.Bills.{productByte}
+use Rattle.ledger.specs.Sound.{soundLedger}
+use Rattle.words.specs.Layout.{markWord, postedWords, termsWords, billWords, billsWords, headWords, ledgerWords}
+use Rattle.words.specs.Layout.{holdsPosted, holdsCode, holdsBill, holdsBills, holdsLedger}
+use Rattle.words.specs.Layout.{productIn, postedIn, codeIn, termsIn, billIn, billsIn, ledgerIn, noLedger, ledgerOf, byteCode}
+
+-- ---- one place
+-- n elements from index i on, one by one
+abbrev reads : ℕ → ℕ → List ℕ → List ℕ
+reads zero i ws = []
+reads (suc n) i ws = getD ws i 0 ∷ reads n (suc i) ws
+
+reads-part : (n i : ℕ) (ws : List ℕ) → i + n ≤ length ws → reads n i ws ≡ take n (drop i ws)
+reads-part zero i ws h = refl
+reads-part (suc n) i ws h =
+    ap (λ (xs : List ℕ). getD ws i 0 ∷ xs) (reads-part n (suc i) ws (omega arith))
+    ∙ ap (take (suc n)) (sym (drop-cons ws i 0 (omega arith)))
+
+product-word : (w : ℕ) → (eqb w 66 || eqb w 80) ≡ true → productByte (productIn w) ≡ w
+product-word w h =
+    cases (eqb w 80) (λ e. rw e (sym (eqb-true w 80 e)))
+    (λ e. cases (eqb w 66) (λ f. rw e (sym (eqb-true w 66 f))) (λ f. absurd (false≢true (rw (f, e) at h))))
+
+mark-word : (w : ℕ) → leb w 1 ≡ true → markWord (eqb w 1) ≡ w
+mark-word w h =
+    let k : w ≤ 1 = leb-true w 1 h in
+    cases (eqb w 1) (λ e. rw e (sym (eqb-true w 1 e))) (λ e. rw e (omega (arith, eqb-false w 1 e)))
+
+or-cases : {C : Type 0} (a b : Bool) → (a || b) ≡ true → (a ≡ true → C) → (b ≡ true → C) → C
+or-cases true b h f g = f refl
+or-cases false b h f g = g h
+
+posted-words : (k c a o : ℕ) → holdsPosted k c a o ≡ true → postedWords (postedIn k c a o) ≡ k ∷ c ∷ a ∷ o ∷ []
+posted-words k c a o h =
+    or-cases (eqb k 0 && (eqb c 0 && (eqb a 0 && eqb o 0))) ((eqb k 1 && (eqb a 0 && eqb o 0)) || eqb k 2) h
+    (λ e.
+    let f = and-right (eqb k 0) (eqb c 0 && (eqb a 0 && eqb o 0)) e in
+    let g = and-right (eqb c 0) (eqb a 0 && eqb o 0) f in
+    rw (
+      eqb-true k 0 (and-left (eqb k 0) (eqb c 0 && (eqb a 0 && eqb o 0)) e),
+      eqb-true c 0 (and-left (eqb c 0) (eqb a 0 && eqb o 0) f),
+      eqb-true a 0 (and-left (eqb a 0) (eqb o 0) g),
+      eqb-true o 0 (and-right (eqb a 0) (eqb o 0) g),
+    ))
+    (λ e.
+    or-cases (eqb k 1 && (eqb a 0 && eqb o 0)) (eqb k 2) e
+    (λ f.
+    let g = and-right (eqb k 1) (eqb a 0 && eqb o 0) f in
+    rw (
+      eqb-true k 1 (and-left (eqb k 1) (eqb a 0 && eqb o 0) f),
+      eqb-true a 0 (and-left (eqb a 0) (eqb o 0) g),
+      eqb-true o 0 (and-right (eqb a 0) (eqb o 0) g),
+    ))
+    (λ f. rw (eqb-true k 2 f)))
+
+-- what the words of a place say, test by test
+record Place (ws : List ℕ) : Type 0 where
+  code : holdsCode (getD ws 2 0) (getD ws 3 0) (getD ws 4 0) (getD ws 5 0) ≡ true
+  product : (eqb (getD ws 6 0) 66 || eqb (getD ws 6 0) 80) ≡ true
+  cancelled : leb (getD ws 9 0) 1 ≡ true
+  posted : holdsPosted (getD ws 15 0) (getD ws 16 0) (getD ws 17 0) (getD ws 18 0) ≡ true
+
+place : (ws : List ℕ) → holdsBill ws ≡ true → Place ws
+unfolding holdsBill
+place ws h =
+    let a = holdsCode (getD ws 2 0) (getD ws 3 0) (getD ws 4 0) (getD ws 5 0) in
+    let b = eqb (getD ws 6 0) 66 || eqb (getD ws 6 0) 80 in
+    let c = leb (getD ws 9 0) 1 in
+    let d = holdsPosted (getD ws 15 0) (getD ws 16 0) (getD ws 17 0) (getD ws 18 0) in
+    let r = and-right a (b && (c && d)) h in
+    let q = and-right b (c && d) r in
+    record { code = and-left a (b && (c && d)) h; product = and-left b (c && d) r; cancelled = and-left c d q; posted = and-right c d q }
+
+-- a place's code words are bytes
+pub code-bytes : (ws : List ℕ) → holdsBill ws ≡ true → (getD ws 2 0 < 256) × (getD ws 3 0 < 256) × (getD ws 4 0 < 256) × (getD ws 5 0 < 256)
+code-bytes ws h =
+    let a = ltb (getD ws 2 0) 256 in
+    let b = ltb (getD ws 3 0) 256 in
+    let c = ltb (getD ws 4 0) 256 in
+    let d = ltb (getD ws 5 0) 256 in
+    let p : (a && (b && (c && d))) ≡ true = place ws h .code in
+    let q = and-right a (b && (c && d)) p in
+    let r = and-right b (c && d) q in
+    (ltb-true _ _ (and-left a (b && (c && d)) p), ltb-true _ _ (and-left b (c && d) q), ltb-true _ _ (and-left c d r), ltb-true _ _ (and-right c d r))
+
+-- the bill of a place's words has those words
+bill-words : (ws : List ℕ) → holdsBill ws ≡ true → 19 ≤ length ws → billWords (billIn ws) ≡ take 19 ws
+unfolding billWords billIn termsIn termsWords codeIn
+bill-words ws h k =
+    let p : Place ws = place ws h in
+    rw (
+      product-word (getD ws 6 0) (p .product),
+      mark-word (getD ws 9 0) (p .cancelled),
+      posted-words (getD ws 15 0) (getD ws 16 0) (getD ws 17 0) (getD ws 18 0) (p .posted),
+    )
+    (reads-part 19 0 ws (omega arith))
+
+pub length-posted : (p : Posted) → length (postedWords p) ≡ 4
+length-posted posted.None = refl
+length-posted (posted.BillReady charge) = refl
+length-posted (posted.Prepay charge applied owed) = refl
+
+pub length-bill : (b : Bill) → length (billWords b) ≡ 19
+unfolding billWords termsWords
+length-bill b = rw (length-posted (b .posted))
+
+-- the bill of a bill's words is the bill
+product-in : (p : Product) → productIn (productByte p) ≡ p
+product-in product.BillReady = refl
+product-in product.Prepay = refl
+
+mark-in : (m : Bool) → eqb (markWord m) 1 ≡ m
+mark-in true = refl
+mark-in false = refl
+
+posted-in : (p : Posted) (ws : List ℕ)
+    → postedIn (getD (postedWords p ++ ws) 0 0) (getD (postedWords p ++ ws) 1 0) (getD (postedWords p ++ ws) 2 0) (getD (postedWords p ++ ws) 3 0) ≡ p
+posted-in posted.None ws = refl
+posted-in (posted.BillReady charge) ws = refl
+posted-in (posted.Prepay charge applied owed) ws = refl
+
+bill-in : (b : Bill) (ws : List ℕ) → billIn (billWords b ++ ws) ≡ b
+unfolding billWords billIn termsIn termsWords codeIn
+bill-in b ws = rw (product-in (b .terms .product), mark-in (b .terms .cancelled), posted-in (b .posted) ws)
+
+-- and the words are those of a place, if its code is bytes
+product-holds : (p : Product) → (eqb (productByte p) 66 || eqb (productByte p) 80) ≡ true
+product-holds product.BillReady = refl
+product-holds product.Prepay = refl
+
+mark-holds : (m : Bool) → leb (markWord m) 1 ≡ true
+mark-holds true = refl
+mark-holds false = refl
+
+posted-holds : (p : Posted) (ws : List ℕ)
+    → holdsPosted (getD (postedWords p ++ ws) 0 0) (getD (postedWords p ++ ws) 1 0) (getD (postedWords p ++ ws) 2 0) (getD (postedWords p ++ ws) 3 0)
+    ≡ true
+posted-holds posted.None ws = refl
+posted-holds (posted.BillReady charge) ws = refl
+posted-holds (posted.Prepay charge applied owed) ws = refl
+
+bill-holds : (b : Bill) (ws : List ℕ) → byteCode b ≡ true → holdsBill (billWords b ++ ws) ≡ true
+unfolding billWords holdsBill termsWords
+bill-holds b ws h = rw (h, product-holds (b .terms .product), mark-holds (b .terms .cancelled), posted-holds (b .posted) ws)
+
+-- ---- the places, one after the other
+pub length-bills : (bs : List Bill) → length (billsWords bs) ≡ 19 * length bs
+unfolding billsWords
+length-bills [] = refl
+length-bills (b ∷ bs) = simp length-append (omega (arith, length-bill b, length-bills bs))
+
+drop-bill : (b : Bill) (ws : List ℕ) → drop 19 (billWords b ++ ws) ≡ ws
+drop-bill b ws = drop-at (billWords b) ws 19 (length-bill b)
+
+bills-in : (bs : List Bill) → billsIn (length bs) (billsWords bs) ≡ bs
+unfolding billsIn billsWords
+bills-in [] = refl
+bills-in (b ∷ bs) =
+    ap₂ (λ (x : Bill) (xs : List Bill). x ∷ xs) (bill-in b (billsWords bs))
+    (ap (billsIn (length bs)) (drop-bill b (billsWords bs)) ∙ bills-in bs)
+
+bills-hold : (bs : List Bill) → every byteCode bs ≡ true → holdsBills (length bs) (billsWords bs) ≡ true
+unfolding holdsBills billsWords
+bills-hold [] h = refl
+bills-hold (b ∷ bs) h =
+    rw (bill-holds b (billsWords bs) (and-left (byteCode b) (every byteCode bs) h))
+    (ap (holdsBills (length bs)) (drop-bill b (billsWords bs)) ∙ bills-hold bs (and-right (byteCode b) (every byteCode bs) h))
+
+bills-words : (n : ℕ) (ws : List ℕ) → holdsBills n ws ≡ true → length ws ≡ 19 * n → billsWords (billsIn n ws) ≡ ws
+unfolding holdsBills billsIn billsWords
+bills-words zero [] h k = refl
+bills-words zero (w ∷ ws) h k = absurd (omega arith)
+bills-words (suc n) ws h k =
+    ap₂ (λ (x xs : List ℕ). x ++ xs)
+    (bill-words ws (and-left (holdsBill ws) (holdsBills n (drop 19 ws)) h) (omega arith))
+    (bills-words n (drop 19 ws) (and-right (holdsBill ws) (holdsBills n (drop 19 ws)) h) (rw length-drop (omega arith)))
+    ∙ take-append-drop 19 ws
+
+-- ---- the ledger
+pub length-words : (l : Ledger) → length (l .bills) ≡ 128 → length (ledgerWords l) ≡ 2436
+unfolding ledgerWords headWords
+length-words l h = omega (arith, length-bills (l .bills))
+
+-- words that are those of a ledger
+module _ (ws : List ℕ) (h : holdsLedger ws ≡ true) where
+  pub words-long : length ws ≡ 2436
+  unfolding holdsLedger
+  words-long = eqb-true (length ws) 2436 (and-left (eqb (length ws) 2436) (holdsBills 128 (drop 4 ws)) h)
+
+  pub words-bills : holdsBills 128 (drop 4 ws) ≡ true
+  unfolding holdsLedger
+  words-bills = and-right (eqb (length ws) 2436) (holdsBills 128 (drop 4 ws)) h
+
+  pub of-words : ledgerOf ws ≡ ledgerIn ws
+  unfolding ledgerOf
+  of-words = rw h
+
+-- words to ledger and back
+ledger-in-words : (ws : List ℕ) → length ws ≡ 2436 → holdsBills 128 (drop 4 ws) ≡ true → ledgerWords (ledgerIn ws) ≡ ws
+unfolding ledgerWords headWords ledgerIn
+ledger-in-words ws h k =
+    ap₂ (λ (x xs : List ℕ). x ++ xs) (reads-part 4 0 ws (omega arith))
+    (bills-words 128 (drop 4 ws) k (rw length-drop (omega arith)))
+    ∙ take-append-drop 4 ws
+
+pub words-ledger : (ws : List ℕ) → holdsLedger ws ≡ true → ledgerWords (ledgerOf ws) ≡ ws
+words-ledger ws h = ap ledgerWords (of-words ws h) ∙ ledger-in-words ws (words-long ws h) (words-bills ws h)
+
+-- ledger to words and back
+module _ (l : Ledger) (k : length (l .bills) ≡ 128) where
+  places-hold : every byteCode (l .bills) ≡ true → holdsBills 128 (drop 4 (ledgerWords l)) ≡ true
+  unfolding ledgerWords headWords
+  places-hold h = ap (λ (n : ℕ). holdsBills n (billsWords (l .bills))) (sym k) ∙ bills-hold (l .bills) h
+
+  pub holds-words : every byteCode (l .bills) ≡ true → holdsLedger (ledgerWords l) ≡ true
+  unfolding holdsLedger
+  holds-words h = rw (eq-eqb (length (ledgerWords l)) 2436 (length-words l k)) (places-hold h)
+
+  ledger-in : ledgerIn (ledgerWords l) ≡ l
+  unfolding ledgerIn ledgerWords headWords
+  ledger-in = rw (ap (λ (n : ℕ). billsIn n (billsWords (l .bills))) (sym k) ∙ bills-in (l .bills))
+
+  pub ledger-words : every byteCode (l .bills) ≡ true → ledgerOf (ledgerWords l) ≡ l
+  ledger-words h = of-words (ledgerWords l) (holds-words h) ∙ ledger-in
+
+-- words of no ledger give one that is not sound
+no-sound : soundLedger noLedger ≡ false
+unfolding noLedger soundLedger
+no-sound = refl
+
+pub no-ledger : (ws : List ℕ) → holdsLedger ws ≡ false → soundLedger (ledgerOf ws) ≡ false
+unfolding ledgerOf
+no-ledger ws h = rw h no-sound

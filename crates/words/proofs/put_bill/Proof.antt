@@ -1,0 +1,69 @@
+-- `words::put_bill` meets its contract: the three parts stand one after the other.
+use borrow.Author.Needs.{needs}
+use native.Mathlib.Omega.{arith}
+use mathlib.Core.Path.{ap, _∙_}
+use Rattle.fields.specs.Put.{put}
+use Rattle.words.proofs.PlaceLaws.{put-parts}
+use Rattle.words.proofs.put_bill.Statement.{statement}
+use Rattle.words.proofs.put_bill.Tie as tie
+
+terms-words-requires : tie.Need-terms-words-requires
+terms-words-requires c κs = search needs
+
+latest-words-requires : tie.Need-latest-words-requires
+latest-words-requires c κs = search needs
+
+posted-words-requires : tie.Need-posted-words-requires
+posted-words-requires c κs = search needs
+
+slice-aggregate-put-words : tie.Need-slice-aggregate-put-words
+slice-aggregate-put-words c = search needs
+
+put-words-requires : tie.Need-put-words-requires
+put-words-requires c κs = search needs
+
+add-put-words : tie.Need-add-put-words
+add-put-words c = search needs
+
+slice-aggregate-put-words-2 : tie.Need-slice-aggregate-put-words-2
+slice-aggregate-put-words-2 c = search needs
+
+put-words-requires-2 : tie.Need-put-words-requires-2
+put-words-requires-2 c κs = search needs
+
+add-put-words-2 : tie.Need-add-put-words-2
+add-put-words-2 c = search needs
+
+slice-aggregate-put-words-3 : tie.Need-slice-aggregate-put-words-3
+slice-aggregate-put-words-3 c = search needs
+
+put-words-requires-3 : tie.Need-put-words-requires-3
+put-words-requires-3 c κs = search needs
+
+same-length : tie.Need-same-length
+same-length c = search needs
+
+returns : tie.Need-returns
+returns c =
+    put-parts (c .before .before .before .before .before .before .before .before .before .before .before .before .before .before .before .before .before .before .before .before .before .args .b) (c .before .before .before .before .before .before .before .before .before .before .before .before .before .before .before .before .before .before .before .before .before .args .at) (c .before .before .before .before .before .before .before .before .before .before .before .before .before .before .before .before .before .before .before .before .before .args .words .now) (c .before .before .before .before .before .before .before .before .before .before .before .before .put-words .last .0) (c .before .before .before .before .before .before .before .put-words2 .last .0) (c .before .before .put-words3 .last .0) (omega arith)
+    (c .before .before .before .before .before .before .before .before .before .before .before .before .put-words .ensures ∙ ap (put _ _) (c .before .before .before .before .before .before .before .before .before .before .before .before .before .before .before .before .before .terms-words .ensures))
+    (c .before .before .before .before .before .before .before .put-words2 .ensures ∙ ap (put _ _) (c .before .before .before .before .before .before .before .before .before .before .before .before .before .before .before .before .latest-words .ensures))
+    (c .before .before .put-words3 .ensures ∙ ap (put _ _) (c .before .before .before .before .before .before .before .before .before .before .before .before .before .before .before .posted-words .ensures))
+
+pub put-bill-spec : {M : Type 1} → statement M
+put-bill-spec =
+    tie.close
+    (tie.spec
+    terms-words-requires
+    latest-words-requires
+    posted-words-requires
+    slice-aggregate-put-words
+    put-words-requires
+    add-put-words
+    slice-aggregate-put-words-2
+    put-words-requires-2
+    add-put-words-2
+    slice-aggregate-put-words-3
+    put-words-requires-3
+    same-length
+    returns)

@@ -1,0 +1,160 @@
+-- A ledger as 2436 words of 64 bits: four words, and then 19 words for each of the 128 places. Assumes nothing.
+use Prim.Native.Nat.{ℕ, zero, suc}
+use mathlib.Core.Bool.{Bool, true, cond, _&&_, _||_}
+use mathlib.Core.List.{List, [], _∷_, _++_}
+use lib.Dec.{leb, ltb, eqb}
+use lib.ListN.{length, drop, getD, replicate}
+use Rattle.units.specs.declared.Date.{Date}
+use Rattle.ledger.specs.declared.RateCode.{RateCode}
+use Rattle.ledger.specs.declared.Product.{Product}
+use Rattle.ledger.specs.declared.Product.the-variants as product
+use Rattle.ledger.specs.declared.Posted.{Posted}
+use Rattle.ledger.specs.declared.Posted.the-variants as posted
+use Rattle.ledger.specs.declared.Latest.{Latest}
+use Rattle.ledger.specs.declared.Terms.{Terms}
+use Rattle.ledger.specs.declared.Bill.{Bill}
+use Rattle.ledger.specs.declared.Ledger.{Ledger}
+use Rattle.ledger.specs.Bills.{productByte, cents, blankBill}
+
+-- ---- a ledger's words
+-- 9: cancelled, 0 or 1
+abbrev pub markWord : Bool → ℕ
+markWord m = cond m 1 0
+
+-- 15 to 18: the kind (0 none, 1 Bill Ready, 2 Prepay), charge, applied, owed; "the words that a kind does not use are 0"
+abbrev pub postedWords : Posted → List ℕ
+postedWords posted.None = 0 ∷ 0 ∷ 0 ∷ 0 ∷ []
+postedWords (posted.BillReady charge) = 1 ∷ charge .0 ∷ 0 ∷ 0 ∷ []
+postedWords (posted.Prepay charge applied owed) = 2 ∷ charge .0 ∷ applied .0 ∷ owed .0 ∷ []
+
+-- 0 to 9: account, key, the rate code's four bytes, product (66 or 80), sequence, count of requests, cancelled
+unfoldable pub termsWords : Terms → List ℕ
+termsWords t =
+    t .identity .account
+    ∷ t .identity .key
+    ∷ t .code .first
+    ∷ t .code .second
+    ∷ t .code .tens
+    ∷ t .code .ones
+    ∷ productByte (t .product)
+    ∷ t .sequence
+    ∷ t .requests
+    ∷ markWord (t .cancelled)
+    ∷ []
+
+-- 10 to 14: Tracking ID, consumption, Billing Date, From Date, Scheduled Date
+abbrev pub latestWords : Latest → List ℕ
+latestWords r = r .tracking ∷ r .consumption .0 ∷ r .billing .0 ∷ r .from .0 ∷ r .scheduled .0 ∷ []
+
+-- a place's 19 words
+unfoldable pub billWords : Bill → List ℕ
+billWords b = termsWords (b .terms) ++ latestWords (b .terms .latest) ++ postedWords (b .posted)
+
+unfoldable pub billsWords : List Bill → List ℕ
+billsWords [] = []
+billsWords (b ∷ bs) = billWords b ++ billsWords bs
+
+-- today, next Tracking ID, next Confirmation Number, count of bills
+unfoldable pub headWords : Ledger → List ℕ
+headWords l = l .today .0 ∷ l .«next_tracking» ∷ l .«next_confirmation» ∷ l .count ∷ []
+
+-- the four words and then those of each place in order, whether the count reaches it or not
+unfoldable pub ledgerWords : Ledger → List ℕ
+ledgerWords l = headWords l ++ billsWords (l .bills)
+
+-- ---- which words are those of a ledger
+-- the kind is 0, 1 or 2, and the words that it does not use are 0
+abbrev pub holdsPosted : ℕ → ℕ → ℕ → ℕ → Bool
+holdsPosted kind charge applied owed =
+    (eqb kind 0 && (eqb charge 0 && (eqb applied 0 && eqb owed 0)))
+    || ((eqb kind 1 && (eqb applied 0 && eqb owed 0)) || eqb kind 2)
+
+-- the code's words are bytes
+abbrev pub holdsCode : ℕ → ℕ → ℕ → ℕ → Bool
+holdsCode first second tens ones = ltb first 256 && (ltb second 256 && (ltb tens 256 && ltb ones 256))
+
+-- these words start with the 19 of a place
+unfoldable pub holdsBill : List ℕ → Bool
+holdsBill ws =
+    holdsCode (getD ws 2 0) (getD ws 3 0) (getD ws 4 0) (getD ws 5 0)
+    && ((eqb (getD ws 6 0) 66 || eqb (getD ws 6 0) 80)
+    && (leb (getD ws 9 0) 1
+    && holdsPosted (getD ws 15 0) (getD ws 16 0) (getD ws 17 0) (getD ws 18 0)))
+
+-- each of n places, one after the other
+unfoldable pub holdsBills : ℕ → List ℕ → Bool
+holdsBills zero ws = true
+holdsBills (suc n) ws = holdsBill ws && holdsBills n (drop 19 ws)
+
+unfoldable pub holdsLedger : List ℕ → Bool
+holdsLedger ws = eqb (length ws) 2436 && holdsBills 128 (drop 4 ws)
+
+-- ---- the ledger whose words they are
+abbrev pub date : ℕ → Date
+date n = record { 0 = n }
+
+abbrev pub productIn : ℕ → Product
+productIn w = cond (eqb w 80) product.Prepay product.BillReady
+
+abbrev pub postedIn : ℕ → ℕ → ℕ → ℕ → Posted
+postedIn kind charge applied owed =
+    cond (eqb kind 2)
+    (posted.Prepay (cents charge) (cents applied) (cents owed))
+    (cond (eqb kind 1) (posted.BillReady (cents charge)) posted.None)
+
+abbrev pub latestIn : List ℕ → Latest
+latestIn ws =
+    record {
+      tracking = getD ws 10 0;
+      consumption = record { 0 = getD ws 11 0 };
+      billing = date (getD ws 12 0);
+      from = date (getD ws 13 0);
+      scheduled = date (getD ws 14 0);
+    }
+
+unfoldable pub codeIn : List ℕ → RateCode
+codeIn ws = record { first = getD ws 2 0; second = getD ws 3 0; tens = getD ws 4 0; ones = getD ws 5 0 }
+
+unfoldable pub termsIn : List ℕ → Terms
+termsIn ws =
+    record {
+      identity = record { account = getD ws 0 0; key = getD ws 1 0 };
+      code = codeIn ws;
+      product = productIn (getD ws 6 0);
+      sequence = getD ws 7 0;
+      requests = getD ws 8 0;
+      cancelled = eqb (getD ws 9 0) 1;
+      latest = latestIn ws;
+    }
+
+-- the bill of the first 19 of these words, word by word
+unfoldable pub billIn : List ℕ → Bill
+billIn ws =
+    record { terms = termsIn ws; posted = postedIn (getD ws 15 0) (getD ws 16 0) (getD ws 17 0) (getD ws 18 0) }
+
+-- the bills of n places, one after the other
+unfoldable pub billsIn : ℕ → List ℕ → List Bill
+billsIn zero ws = []
+billsIn (suc n) ws = billIn ws ∷ billsIn n (drop 19 ws)
+
+unfoldable pub ledgerIn : List ℕ → Ledger
+ledgerIn ws =
+    record {
+      today = date (getD ws 0 0);
+      «next_tracking» = getD ws 1 0;
+      «next_confirmation» = getD ws 2 0;
+      count = getD ws 3 0;
+      bills = billsIn 128 (drop 4 ws);
+    }
+
+-- a ledger that is not sound: its count is past the 128 places, so every call answers 2
+unfoldable pub noLedger : Ledger
+noLedger = record { today = date 0; «next_tracking» = 0; «next_confirmation» = 0; count = 129; bills = replicate 128 blankBill }
+
+-- "any words at all give a ledger, or one that is not sound"
+unfoldable pub ledgerOf : List ℕ → Ledger
+ledgerOf ws = cond (holdsLedger ws) (ledgerIn ws) noLedger
+
+-- ---- which ledgers have words that say all of them: each place's code is four bytes, as in every ledger of the code
+abbrev pub byteCode : Bill → Bool
+byteCode b = holdsCode (b .terms .code .first) (b .terms .code .second) (b .terms .code .tens) (b .terms .code .ones)

@@ -1,0 +1,295 @@
+// A ledger as an array of 64-bit words: 2436 words read as a ledger, and a ledger written as 2436 words.
+ghost use mathlib.Core.Path.{_≡_};
+ghost use mathlib.Core.Bool.{true};
+ghost use Prim.Native.Nat.{_+_, _≤_, _<_};
+ghost use lib.ListN.{length, drop};
+ghost use Rattle.fields.specs.Put.{put};
+ghost use Rattle.words.specs.Layout.{markWord, termsWords, latestWords, postedWords, headWords, billWords, ledgerWords, holdsCode, holdsPosted, holdsBill, holdsLedger, productIn, postedIn, codeIn, latestIn, termsIn, billIn, ledgerIn, noLedger, ledgerOf};
+use ledger::Bill;
+use ledger::Identity;
+use ledger::Latest;
+use ledger::Ledger;
+use ledger::Posted;
+use ledger::Product;
+use ledger::RateCode;
+use ledger::Terms;
+use units::Ccf;
+use units::Cents;
+use units::Date;
+
+// ---- which words are those of a ledger
+// Whether four words are bytes.
+fn fits_code(first: u64, second: u64, tens: u64, ones: u64) -> bool
+    ensures { λ r. ⌜ r ≡ holdsCode first second tens ones ⌝ }
+{
+    (first < 256) & ((second < 256) & ((tens < 256) & (ones < 256)))
+}
+
+// Whether the kind is 0, 1 or 2, and the words that it does not use are 0.
+fn fits_posted(kind: u64, charge: u64, applied: u64, owed: u64) -> bool
+    ensures { λ r. ⌜ r ≡ holdsPosted kind charge applied owed ⌝ }
+{
+    ((kind == 0) & ((charge == 0) & ((applied == 0) & (owed == 0))))
+        | (((kind == 1) & ((applied == 0) & (owed == 0))) | (kind == 2))
+}
+
+// Whether the words from index `at` on are those of a place.
+fn fits_in(words: &[u64], at: usize) -> bool
+    requires { ⌜ at + 19 ≤ length (now words) ⌝ }
+    ensures { λ r. ⌜ r ≡ holdsBill (drop at (now (words .entry))) ⌝ }
+{
+    let w = &words[at..];
+    let product = w[6];
+    let code = fits_code(w[2], w[3], w[4], w[5]);
+    let posted = fits_posted(w[15], w[16], w[17], w[18]);
+    code & (((product == 66) | (product == 80)) & ((w[9] <= 1) & posted))
+}
+
+// Whether the words are those of a ledger.
+fn fits(words: &[u64]) -> bool
+    ensures { λ r. ⌜ r ≡ holdsLedger (now (words .entry)) ⌝ }
+{
+    if words.len() != 2436 {
+        return false;
+    }
+    let mut good = true;
+    let mut i = 0;
+    while i < 128 {
+        good = good & fits_in(words, 4 + 19 * i);
+        i += 1;
+    }
+    good
+}
+
+// ---- the ledger whose words they are
+fn product_in(w: u64) -> Product
+    ensures { λ r. ⌜ r ≡ productIn w ⌝ }
+{
+    if w == 80 {
+        return Product::Prepay;
+    }
+    Product::BillReady
+}
+
+fn posted_in(kind: u64, charge: u64, applied: u64, owed: u64) -> Posted
+    ensures { λ r. ⌜ r ≡ postedIn kind charge applied owed ⌝ }
+{
+    if kind == 2 {
+        return Posted::Prepay {
+            charge: Cents(charge),
+            applied: Cents(applied),
+            owed: Cents(owed),
+        };
+    }
+    if kind == 1 {
+        return Posted::BillReady(Cents(charge));
+    }
+    Posted::None
+}
+
+fn latest_in(w: &[u64]) -> Latest
+    requires { ⌜ 19 ≤ length (now w) ⌝ }
+    ensures { λ r. ⌜ r ≡ latestIn (now (w .entry)) ⌝ }
+{
+    Latest {
+        tracking: w[10],
+        consumption: Ccf(w[11]),
+        billing: Date(w[12]),
+        from: Date(w[13]),
+        scheduled: Date(w[14]),
+    }
+}
+
+// A word that is a byte.
+fn byte(w: u64) -> u8
+    requires { ⌜ w < 256 ⌝ }
+    ensures { λ r. ⌜ r ≡ w ⌝ }
+{
+    w as u8
+}
+
+fn code_in(w: &[u64]) -> RateCode
+    requires { ⌜ 19 ≤ length (now w) ⌝ }
+    requires { ⌜ holdsBill (now w) ≡ true ⌝ }
+    ensures { λ r. ⌜ r ≡ codeIn (now (w .entry)) ⌝ }
+{
+    RateCode {
+        first: byte(w[2]),
+        second: byte(w[3]),
+        tens: byte(w[4]),
+        ones: byte(w[5]),
+    }
+}
+
+fn terms_in(w: &[u64]) -> Terms
+    requires { ⌜ 19 ≤ length (now w) ⌝ }
+    requires { ⌜ holdsBill (now w) ≡ true ⌝ }
+    ensures { λ r. ⌜ r ≡ termsIn (now (w .entry)) ⌝ }
+{
+    let code = code_in(w);
+    let product = product_in(w[6]);
+    let latest = latest_in(w);
+    Terms {
+        identity: Identity {
+            account: w[0],
+            key: w[1],
+        },
+        code,
+        product,
+        sequence: w[7],
+        requests: w[8],
+        cancelled: w[9] == 1,
+        latest,
+    }
+}
+
+// The bill of the 19 words from index `at` on.
+fn bill_in(words: &[u64], at: usize) -> Bill
+    requires { ⌜ at + 19 ≤ length (now words) ⌝ }
+    requires { ⌜ holdsBill (drop at (now words)) ≡ true ⌝ }
+    ensures { λ r. ⌜ r ≡ billIn (drop at (now (words .entry))) ⌝ }
+{
+    let w = &words[at..];
+    let terms = terms_in(w);
+    let posted = posted_in(w[15], w[16], w[17], w[18]);
+    Bill { terms, posted }
+}
+
+// The ledger of words that are those of a ledger.
+fn ledger_in(words: &[u64]) -> Ledger
+    requires { ⌜ holdsLedger (now words) ≡ true ⌝ }
+    ensures { λ r. ⌜ r ≡ ledgerIn (now (words .entry)) ⌝ }
+{
+    let mut l = Ledger::empty(Date(words[0]), words[1], words[2]);
+    l.count = words[3] as usize;
+    let mut i = 0;
+    while i < 128 {
+        let b = bill_in(words, 4 + 19 * i);
+        l.bills[i] = b;
+        i += 1;
+    }
+    l
+}
+
+// A ledger that is not sound.
+fn none() -> Ledger
+    ensures { λ r. ⌜ r ≡ noLedger ⌝ }
+{
+    let mut l = Ledger::empty(Date(0), 0, 0);
+    l.count = 129;
+    l
+}
+
+// The ledger whose words these are; one that is not sound where they are those of none.
+pub fn read(words: &[u64]) -> Ledger
+    ensures { λ r. ⌜ r ≡ ledgerOf (now (words .entry)) ⌝ }
+{
+    if fits(words) {
+        return ledger_in(words);
+    }
+    none()
+}
+
+// ---- a ledger's words
+// Writes src into words from index `at` on.
+fn put_words(words: &mut [u64], at: usize, src: &[u64])
+    requires { ⌜ at + length (now src) ≤ length (now words) ⌝ }
+    ensures { λ _. ⌜ now (words .exit) ≡ put (now (words .entry)) at (now (src .entry)) ⌝ }
+{
+    let mut i = 0;
+    while i < src.len() {
+        words[at + i] = src[i];
+        i += 1;
+    }
+}
+
+// 0 or 1.
+fn mark(m: bool) -> u64
+    ensures { λ r. ⌜ r ≡ markWord m ⌝ }
+{
+    if m { 1 } else { 0 }
+}
+
+fn wide(x: u8) -> u64
+    ensures { λ r. ⌜ r ≡ x ⌝ }
+{
+    x as u64
+}
+
+// The kind of posted amounts and its three words.
+fn posted_words(p: Posted) -> [u64; 4]
+    ensures { λ r. ⌜ r ≡ postedWords p ⌝ }
+{
+    match p {
+        Posted::None => [0, 0, 0, 0],
+        Posted::BillReady(charge) => [1, charge.0, 0, 0],
+        Posted::Prepay {
+            charge,
+            applied,
+            owed,
+        } => [2, charge.0, applied.0, owed.0],
+    }
+}
+
+fn latest_words(r: Latest) -> [u64; 5]
+    ensures { λ w. ⌜ w ≡ latestWords r ⌝ }
+{
+    [
+        r.tracking,
+        r.consumption.0,
+        r.billing.0,
+        r.from.0,
+        r.scheduled.0,
+    ]
+}
+
+fn terms_words(t: Terms) -> [u64; 10]
+    ensures { λ w. ⌜ w ≡ termsWords t ⌝ }
+{
+    let p = t.product;
+    [
+        t.identity.account,
+        t.identity.key,
+        wide(t.code.first),
+        wide(t.code.second),
+        wide(t.code.tens),
+        wide(t.code.ones),
+        wide(p.byte()),
+        t.sequence,
+        t.requests,
+        mark(t.cancelled),
+    ]
+}
+
+// Writes a place's 19 words into words from index `at` on.
+fn put_bill(words: &mut [u64], at: usize, b: Bill)
+    requires { ⌜ at + 19 ≤ length (now words) ⌝ }
+    ensures { λ _. ⌜ now (words .exit) ≡ put (now (words .entry)) at (billWords b) ⌝ }
+{
+    let t = b.terms;
+    let r = t.latest;
+    let p = b.posted;
+    let first = terms_words(t);
+    let second = latest_words(r);
+    let third = posted_words(p);
+    put_words(words, at, &first);
+    put_words(words, at + 10, &second);
+    put_words(words, at + 15, &third);
+}
+
+// Writes the ledger's words.
+pub fn write(words: &mut [u64], l: Ledger)
+    requires { ⌜ length (now words) ≡ 2436 ⌝ }
+    ensures { λ _. ⌜ now (words .exit) ≡ ledgerWords l ⌝ }
+{
+    words[0] = l.today.0;
+    words[1] = l.next_tracking;
+    words[2] = l.next_confirmation;
+    words[3] = l.count as u64;
+    let mut i = 0;
+    while i < 128 {
+        let b = l.bills[i];
+        put_bill(words, 4 + 19 * i, b);
+        i += 1;
+    }
+}
