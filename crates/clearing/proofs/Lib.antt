@@ -4,3 +4,4 @@ pub mod Lent
 pub mod LentLedger
 pub mod LentSteps
 pub mod DayCalls
+pub mod BillCalls

@@ -1,10 +1,14 @@
 // The calls on a ledger that is lent: each makes the call by value and stores the ledger that it left.
 ghost use mathlib.Core.Path.{_≡_};
-ghost use Rattle.calls.specs.Causes.{close};
-ghost use Rattle.calls.specs.Machine.{called};
+ghost use lib.ListN.{length};
+ghost use Rattle.fields.specs.Put.{put};
+ghost use Rattle.calls.specs.Causes.{request, cancel, close};
+ghost use Rattle.calls.specs.Machine.{stepIn, called};
 ghost use Rattle.calls.specs.Days.{freshCalled};
 use calls::Answer;
+use calls::Request;
 use calls::Start;
+use ledger::Identity;
 use ledger::Ledger;
 use units::Date;
 
@@ -22,6 +26,28 @@ pub fn close_day(ledger: &mut Ledger, d: Date) -> Answer
     ensures { λ a. ⌜ (now (ledger .exit) ≡ called (now (ledger .entry)) (close d) .ledger) × (a ≡ called (now (ledger .entry)) (close d) .answer) ⌝ }
 {
     let c = calls::days::close_day(*ledger, d);
+    *ledger = c.ledger;
+    c.answer
+}
+
+// The call request: its BIL goes to out.
+pub fn request_bill(ledger: &mut Ledger, r: Request, out: &mut [u8]) -> Answer
+    ensures { λ a. ⌜ (now (ledger .exit) ≡ called (now (ledger .entry)) (request r (length (now (out .entry)))) .ledger)
+        × ((a ≡ called (now (ledger .entry)) (request r (length (now (out .entry)))) .answer)
+        × (now (out .exit) ≡ put (now (out .entry)) 0 (stepIn (now (ledger .entry)) (request r (length (now (out .entry)))) .written))) ⌝ }
+{
+    let c = calls::bills::request_bill(*ledger, out, r);
+    *ledger = c.ledger;
+    c.answer
+}
+
+// The call cancel: its CXL goes to out.
+pub fn cancel_bill(ledger: &mut Ledger, id: Identity, out: &mut [u8]) -> Answer
+    ensures { λ a. ⌜ (now (ledger .exit) ≡ called (now (ledger .entry)) (cancel id (length (now (out .entry)))) .ledger)
+        × ((a ≡ called (now (ledger .entry)) (cancel id (length (now (out .entry)))) .answer)
+        × (now (out .exit) ≡ put (now (out .entry)) 0 (stepIn (now (ledger .entry)) (cancel id (length (now (out .entry)))) .written))) ⌝ }
+{
+    let c = calls::bills::cancel_bill(*ledger, out, id);
     *ledger = c.ledger;
     c.answer
 }
