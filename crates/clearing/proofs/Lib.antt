@@ -5,3 +5,4 @@ pub mod LentLedger
 pub mod LentSteps
 pub mod DayCalls
 pub mod BillCalls
+pub mod LookupCalls

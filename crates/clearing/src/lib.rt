@@ -5,9 +5,12 @@ ghost use Rattle.fields.specs.Put.{put};
 ghost use Rattle.calls.specs.Causes.{request, cancel, close};
 ghost use Rattle.calls.specs.Machine.{stepIn, called};
 ghost use Rattle.calls.specs.Days.{freshCalled};
+ghost use Rattle.calls.specs.Lookups.{OpenBill, amountsIn};
 use calls::Answer;
 use calls::Request;
 use calls::Start;
+use calls::lookups::Amounts;
+use calls::lookups::Place;
 use ledger::Identity;
 use ledger::Ledger;
 use units::Date;
@@ -50,4 +53,18 @@ pub fn cancel_bill(ledger: &mut Ledger, id: Identity, out: &mut [u8]) -> Answer
     let c = calls::bills::cancel_bill(*ledger, out, id);
     *ledger = c.ledger;
     c.answer
+}
+
+// The place of an open bill of an account.
+pub fn open_bill_of(ledger: &Ledger, account: u64) -> Place
+    ensures { λ a. ⌜ OpenBill (now (ledger .entry)) account a ⌝ }
+{
+    calls::lookups::open_bill_of(*ledger, account)
+}
+
+// The amounts of the bill with this identity.
+pub fn amounts_of(ledger: &Ledger, id: Identity) -> Amounts
+    ensures { λ a. ⌜ a ≡ amountsIn (now (ledger .entry)) id ⌝ }
+{
+    calls::lookups::amounts_of(*ledger, id)
 }
