@@ -5,4 +5,5 @@ pub mod LentLedger
 pub mod LentSteps
 pub mod DayCalls
 pub mod BillCalls
+pub mod FileCalls
 pub mod LookupCalls

@@ -2,7 +2,7 @@
 ghost use mathlib.Core.Path.{_≡_};
 ghost use lib.ListN.{length};
 ghost use Rattle.fields.specs.Put.{put};
-ghost use Rattle.calls.specs.Causes.{request, cancel, close};
+ghost use Rattle.calls.specs.Causes.{request, file, cancel, close};
 ghost use Rattle.calls.specs.Machine.{stepIn, called};
 ghost use Rattle.calls.specs.Days.{freshCalled};
 ghost use Rattle.calls.specs.Lookups.{OpenBill, amountsIn};
@@ -51,6 +51,17 @@ pub fn cancel_bill(ledger: &mut Ledger, id: Identity, out: &mut [u8]) -> Answer
         × (now (out .exit) ≡ put (now (out .entry)) 0 (stepIn (now (ledger .entry)) (cancel id (length (now (out .entry)))) .written))) ⌝ }
 {
     let c = calls::bills::cancel_bill(*ledger, out, id);
+    *ledger = c.ledger;
+    c.answer
+}
+
+// Takes a supplier file: its answers go to out.
+pub fn take_file(ledger: &mut Ledger, s: &[u8], out: &mut [u8]) -> Answer
+    ensures { λ a. ⌜ (now (ledger .exit) ≡ called (now (ledger .entry)) (file (now (s .entry)) (length (now (out .entry)))) .ledger)
+        × ((a ≡ called (now (ledger .entry)) (file (now (s .entry)) (length (now (out .entry)))) .answer)
+        × (now (out .exit) ≡ put (now (out .entry)) 0 (stepIn (now (ledger .entry)) (file (now (s .entry)) (length (now (out .entry)))) .written))) ⌝ }
+{
+    let c = calls::files::take_file(*ledger, out, s);
     *ledger = c.ledger;
     c.answer
 }
