@@ -1,0 +1,81 @@
+// The calls on a ledger that is lent: each makes the call by value and stores the ledger that it left.
+ghost use mathlib.Core.Path.{_≡_};
+ghost use lib.ListN.{length};
+ghost use Rattle.fields.specs.Put.{put};
+ghost use Rattle.calls.specs.Causes.{request, file, cancel, close};
+ghost use Rattle.calls.specs.Machine.{stepIn, called};
+ghost use Rattle.calls.specs.Days.{freshCalled};
+ghost use Rattle.calls.specs.Lookups.{OpenBill, amountsIn};
+use calls::Answer;
+use calls::Request;
+use calls::Start;
+use calls::lookups::Amounts;
+use calls::lookups::Place;
+use ledger::Identity;
+use ledger::Ledger;
+use units::Date;
+
+// Begins a history: whatever the ledger held is gone.
+pub fn fresh(ledger: &mut Ledger, s: Start) -> Answer
+    ensures { λ a. ⌜ (now (ledger .exit) ≡ freshCalled (now (ledger .entry)) s .ledger) × (a ≡ freshCalled (now (ledger .entry)) s .answer) ⌝ }
+{
+    let c = calls::days::fresh(*ledger, s);
+    *ledger = c.ledger;
+    c.answer
+}
+
+// Sets today to a later date.
+pub fn close_day(ledger: &mut Ledger, d: Date) -> Answer
+    ensures { λ a. ⌜ (now (ledger .exit) ≡ called (now (ledger .entry)) (close d) .ledger) × (a ≡ called (now (ledger .entry)) (close d) .answer) ⌝ }
+{
+    let c = calls::days::close_day(*ledger, d);
+    *ledger = c.ledger;
+    c.answer
+}
+
+// The call request: its BIL goes to out.
+pub fn request_bill(ledger: &mut Ledger, r: Request, out: &mut [u8]) -> Answer
+    ensures { λ a. ⌜ (now (ledger .exit) ≡ called (now (ledger .entry)) (request r (length (now (out .entry)))) .ledger)
+        × ((a ≡ called (now (ledger .entry)) (request r (length (now (out .entry)))) .answer)
+        × (now (out .exit) ≡ put (now (out .entry)) 0 (stepIn (now (ledger .entry)) (request r (length (now (out .entry)))) .written))) ⌝ }
+{
+    let c = calls::bills::request_bill(*ledger, out, r);
+    *ledger = c.ledger;
+    c.answer
+}
+
+// The call cancel: its CXL goes to out.
+pub fn cancel_bill(ledger: &mut Ledger, id: Identity, out: &mut [u8]) -> Answer
+    ensures { λ a. ⌜ (now (ledger .exit) ≡ called (now (ledger .entry)) (cancel id (length (now (out .entry)))) .ledger)
+        × ((a ≡ called (now (ledger .entry)) (cancel id (length (now (out .entry)))) .answer)
+        × (now (out .exit) ≡ put (now (out .entry)) 0 (stepIn (now (ledger .entry)) (cancel id (length (now (out .entry)))) .written))) ⌝ }
+{
+    let c = calls::bills::cancel_bill(*ledger, out, id);
+    *ledger = c.ledger;
+    c.answer
+}
+
+// Takes a supplier file: its answers go to out.
+pub fn take_file(ledger: &mut Ledger, s: &[u8], out: &mut [u8]) -> Answer
+    ensures { λ a. ⌜ (now (ledger .exit) ≡ called (now (ledger .entry)) (file (now (s .entry)) (length (now (out .entry)))) .ledger)
+        × ((a ≡ called (now (ledger .entry)) (file (now (s .entry)) (length (now (out .entry)))) .answer)
+        × (now (out .exit) ≡ put (now (out .entry)) 0 (stepIn (now (ledger .entry)) (file (now (s .entry)) (length (now (out .entry)))) .written))) ⌝ }
+{
+    let c = calls::files::take_file(*ledger, out, s);
+    *ledger = c.ledger;
+    c.answer
+}
+
+// The place of an open bill of an account.
+pub fn open_bill_of(ledger: &Ledger, account: u64) -> Place
+    ensures { λ a. ⌜ OpenBill (now (ledger .entry)) account a ⌝ }
+{
+    calls::lookups::open_bill_of(*ledger, account)
+}
+
+// The amounts of the bill with this identity.
+pub fn amounts_of(ledger: &Ledger, id: Identity) -> Amounts
+    ensures { λ a. ⌜ a ≡ amountsIn (now (ledger .entry)) id ⌝ }
+{
+    calls::lookups::amounts_of(*ledger, id)
+}
