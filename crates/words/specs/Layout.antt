@@ -1,4 +1,7 @@
--- A ledger as 2436 words of 64 bits: four words, and then 19 words for each of the 128 places. Assumes nothing.
+-- A ledger as 2436 words of 64 bits: today (yyyymmdd), the next Tracking ID, the next Confirmation Number, the count of bills, and then 128
+-- places of 19 words each, place i from word 4 + 19 * i on. In a place: 0 account, 1 key, 2 to 5 the rate code's four bytes, 6 product (66 B,
+-- 80 P), 7 sequence, 8 count of requests, 9 cancelled (0 or 1), 10 Tracking ID, 11 consumption, 12 Billing Date, 13 From Date, 14 Scheduled
+-- Date, 15 kind of posted amounts (0 none, 1 Bill Ready, 2 Prepay), 16 charge, 17 applied, 18 owed. Assumes nothing.
 use Prim.Native.Nat.{ℕ, zero, suc}
 use mathlib.Core.Bool.{Bool, true, cond, _&&_, _||_}
 use mathlib.Core.List.{List, [], _∷_, _++_}
@@ -50,6 +53,7 @@ latestWords r = r .tracking ∷ r .consumption .0 ∷ r .billing .0 ∷ r .from 
 unfoldable pub billWords : Bill → List ℕ
 billWords b = termsWords (b .terms) ++ latestWords (b .terms .latest) ++ postedWords (b .posted)
 
+-- the words of some places, one place after the other
 unfoldable pub billsWords : List Bill → List ℕ
 billsWords [] = []
 billsWords (b ∷ bs) = billWords b ++ billsWords bs
@@ -73,7 +77,7 @@ holdsPosted kind charge applied owed =
 abbrev pub holdsCode : ℕ → ℕ → ℕ → ℕ → Bool
 holdsCode first second tens ones = ltb first 256 && (ltb second 256 && (ltb tens 256 && ltb ones 256))
 
--- these words start with the 19 of a place
+-- these words start with the 19 of a place: the code's words are bytes, the product is 66 or 80, cancelled is 0 or 1
 unfoldable pub holdsBill : List ℕ → Bool
 holdsBill ws =
     holdsCode (getD ws 2 0) (getD ws 3 0) (getD ws 4 0) (getD ws 5 0)
@@ -86,22 +90,27 @@ unfoldable pub holdsBills : ℕ → List ℕ → Bool
 holdsBills zero ws = true
 holdsBills (suc n) ws = holdsBill ws && holdsBills n (drop 19 ws)
 
+-- 2436 words whose 128 places are each a place
 unfoldable pub holdsLedger : List ℕ → Bool
 holdsLedger ws = eqb (length ws) 2436 && holdsBills 128 (drop 4 ws)
 
 -- ---- the ledger whose words they are
+-- the date of a word
 abbrev pub date : ℕ → Date
 date n = record { 0 = n }
 
+-- 80 is P, 66 is B
 abbrev pub productIn : ℕ → Product
 productIn w = cond (eqb w 80) product.Prepay product.BillReady
 
+-- the posted amounts of a kind, a charge, an applied and an owed amount
 abbrev pub postedIn : ℕ → ℕ → ℕ → ℕ → Posted
 postedIn kind charge applied owed =
     cond (eqb kind 2)
     (posted.Prepay (cents charge) (cents applied) (cents owed))
     (cond (eqb kind 1) (posted.BillReady (cents charge)) posted.None)
 
+-- words 10 to 14 of a place
 abbrev pub latestIn : List ℕ → Latest
 latestIn ws =
     record {
@@ -112,9 +121,11 @@ latestIn ws =
       scheduled = date (getD ws 14 0);
     }
 
+-- words 2 to 5 of a place
 unfoldable pub codeIn : List ℕ → RateCode
 codeIn ws = record { first = getD ws 2 0; second = getD ws 3 0; tens = getD ws 4 0; ones = getD ws 5 0 }
 
+-- words 0 to 14 of a place
 unfoldable pub termsIn : List ℕ → Terms
 termsIn ws =
     record {
@@ -137,6 +148,7 @@ unfoldable pub billsIn : ℕ → List ℕ → List Bill
 billsIn zero ws = []
 billsIn (suc n) ws = billIn ws ∷ billsIn n (drop 19 ws)
 
+-- the ledger of 2436 words, word by word
 unfoldable pub ledgerIn : List ℕ → Ledger
 ledgerIn ws =
     record {

@@ -4,7 +4,7 @@ ghost use mathlib.Core.Bool.{true};
 ghost use Prim.Native.Nat.{_+_, _≤_, _<_};
 ghost use lib.ListN.{length, drop};
 ghost use Rattle.fields.specs.Put.{put};
-ghost use Rattle.words.specs.Layout.{markWord, termsWords, latestWords, postedWords, headWords, billWords, ledgerWords, holdsCode, holdsPosted, holdsBill, holdsLedger, productIn, postedIn, codeIn, latestIn, termsIn, billIn, ledgerIn, noLedger, ledgerOf};
+ghost use Rattle.words.specs.Layout.{markWord, termsWords, latestWords, postedWords, billWords, ledgerWords, holdsCode, holdsPosted, holdsBill, holdsLedger, productIn, postedIn, codeIn, latestIn, termsIn, billIn, ledgerIn, noLedger, ledgerOf};
 use ledger::Bill;
 use ledger::Identity;
 use ledger::Latest;
@@ -62,6 +62,7 @@ fn fits(words: &[u64]) -> bool
 }
 
 // ---- the ledger whose words they are
+// B or P.
 fn product_in(w: u64) -> Product
     ensures { λ r. ⌜ r ≡ productIn w ⌝ }
 {
@@ -71,6 +72,7 @@ fn product_in(w: u64) -> Product
     Product::BillReady
 }
 
+// The posted amounts of a kind and its three words.
 fn posted_in(kind: u64, charge: u64, applied: u64, owed: u64) -> Posted
     ensures { λ r. ⌜ r ≡ postedIn kind charge applied owed ⌝ }
 {
@@ -87,6 +89,7 @@ fn posted_in(kind: u64, charge: u64, applied: u64, owed: u64) -> Posted
     Posted::None
 }
 
+// What a bill has from its latest request, of a place's words.
 fn latest_in(w: &[u64]) -> Latest
     requires { ⌜ 19 ≤ length (now w) ⌝ }
     ensures { λ r. ⌜ r ≡ latestIn (now (w .entry)) ⌝ }
@@ -108,6 +111,7 @@ fn byte(w: u64) -> u8
     w as u8
 }
 
+// The rate code of a place's words.
 fn code_in(w: &[u64]) -> RateCode
     requires { ⌜ 19 ≤ length (now w) ⌝ }
     requires { ⌜ holdsBill (now w) ≡ true ⌝ }
@@ -121,6 +125,7 @@ fn code_in(w: &[u64]) -> RateCode
     }
 }
 
+// A bill but for its posted amounts, of a place's words.
 fn terms_in(w: &[u64]) -> Terms
     requires { ⌜ 19 ≤ length (now w) ⌝ }
     requires { ⌜ holdsBill (now w) ≡ true ⌝ }
@@ -210,13 +215,14 @@ fn mark(m: bool) -> u64
     if m { 1 } else { 0 }
 }
 
+// A byte as a word.
 fn wide(x: u8) -> u64
     ensures { λ r. ⌜ r ≡ x ⌝ }
 {
     x as u64
 }
 
-// The kind of posted amounts and its three words.
+// Words 15 to 18 of a place.
 fn posted_words(p: Posted) -> [u64; 4]
     ensures { λ r. ⌜ r ≡ postedWords p ⌝ }
 {
@@ -231,6 +237,7 @@ fn posted_words(p: Posted) -> [u64; 4]
     }
 }
 
+// Words 10 to 14 of a place.
 fn latest_words(r: Latest) -> [u64; 5]
     ensures { λ w. ⌜ w ≡ latestWords r ⌝ }
 {
@@ -243,6 +250,7 @@ fn latest_words(r: Latest) -> [u64; 5]
     ]
 }
 
+// Words 0 to 9 of a place.
 fn terms_words(t: Terms) -> [u64; 10]
     ensures { λ w. ⌜ w ≡ termsWords t ⌝ }
 {
