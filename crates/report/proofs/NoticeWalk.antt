@@ -28,7 +28,7 @@ use Rattle.journal.proofs.ShortLaws.{Fits, turn-fits, turn-length}
 use Rattle.replay.specs.declared.Reader.{Reader}
 use Rattle.replay.specs.Reader.{Good}
 use Rattle.report.specs.declared.Report.the-variants.{Written, TooSmall}
-use Rattle.report.specs.NoticesOf.{Gives}
+use Rattle.report.specs.NoticesOf.{noticesReport, noticed, Gives}
 
 -- before an entry: seen entries and at bytes of the journal are done with, which left l and wrote the first n bytes of the BRN file
 pub record Stands (s : List ℕ) (l : Ledger) (seen at n : ℕ) : Type 0 where
@@ -200,11 +200,13 @@ holds-more s out₀ out seen at n t w g h =
 -- ---- the answer
 module _ (s out₀ : List ℕ) (n : ℕ) (bad : Bool) (all : n ≡ length (brnOf s)) (ends : bad ≡ isBad s) where
   pub too-small : length out₀ < n → Gives s out₀ out₀ (record { report = TooSmall; stopped = bad })
+  unfolding noticesReport noticed
   too-small h =
       let e : ltb (length out₀) (length (brnOf s)) ≡ true = lt-ltb (length out₀) (length (brnOf s)) (omega arith) in
       record { answer = rw e; stopped = ends; bytes = rw e (put-nil out₀ 0) }
 
   pub given : (out : List ℕ) → n ≤ length out₀ → out ≡ put out₀ 0 (brnOf s) → Gives s out₀ out (record { report = Written n; stopped = bad })
+  unfolding noticesReport noticed
   given out h p =
       let e : ltb (length out₀) (length (brnOf s)) ≡ false = le-ltb (length out₀) (length (brnOf s)) (omega arith) in
       record { answer = rw (e, all); stopped = ends; bytes = rw e p }

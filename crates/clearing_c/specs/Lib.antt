@@ -1,0 +1,2 @@
+-- What the functions for C and Rust programs answer.
+pub mod Boundary
