@@ -10,7 +10,7 @@ use Rattle.fields.specs.Put.{put}
 use Rattle.units.specs.declared.Date.{Date}
 use Rattle.ledger.specs.declared.Identity.{Identity}
 use Rattle.ledger.specs.declared.Ledger.{Ledger}
-use Rattle.words.specs.Layout.{ledgerWords}
+use Rattle.words.specs.Layout.{ledgerWords, ledgerOf}
 use Rattle.calls.specs.declared.Start.{Start}
 use Rattle.calls.specs.declared.CodeField.{CodeField}
 use Rattle.calls.specs.declared.Request.{Request}
@@ -21,6 +21,7 @@ use Rattle.calls.specs.declared.lookups.Place.{Place}
 use Rattle.calls.specs.declared.lookups.Place.the-variants as place
 use Rattle.calls.specs.declared.lookups.Amounts.{Amounts}
 use Rattle.calls.specs.declared.lookups.Amounts.the-variants as amounts
+use Rattle.calls.specs.Days.{freshCalled}
 use Rattle.calls.specs.Lookups.{OpenBill}
 use Rattle.journal.specs.Journal.{isBad}
 use Rattle.report.specs.declared.Report.{Report}
@@ -55,10 +56,6 @@ requestOf code id product billing from consumption scheduled =
     }
 
 -- ---- what a call gives back
--- words of another length hold no ledger: 2, also at fresh, which could store none in them
-unfoldable pub answerIn : List ℕ → Answer → Answer
-answerIn ws a = cond (eqb (length ws) 2436) a (answer.Refused 2)
-
 -- 0 for a call that was carried out, else the number of its cause
 abbrev pub numberOf : Answer → ℕ
 numberOf (answer.Done r) = 0
@@ -78,12 +75,23 @@ abbrev pub countsLeft : List ℕ → Answer → List ℕ
 countsLeft xs (answer.Done r) = r .written ∷ r .accepted ∷ r .rejected ∷ r .closed ∷ []
 countsLeft xs (answer.Refused n) = xs
 
--- the number answered, and the words, the change and the counts after a call that by value gives c; they held ws, x and ks before
+-- the number answered, and the words, the change and the counts after a call that by value gives c; they held ws, x and ks before. The words
+-- after hold the ledger that the call leaves
 pub record Gives (c : Called) (ws : List ℕ) (x : ℤ) (ks ws₁ : List ℕ) (x₁ : ℤ) (ks₁ : List ℕ) (n : ℕ) : Type 0 where
-  pub number : n ≡ numberOf (answerIn ws (c .answer))
-  pub words : ws₁ ≡ wordsLeft ws (c .ledger) (answerIn ws (c .answer))
-  pub change : x₁ ≡ changeLeft x (answerIn ws (c .answer))
-  pub counts : ks₁ ≡ countsLeft ks (answerIn ws (c .answer))
+  pub number : n ≡ numberOf (c .answer)
+  pub words : ws₁ ≡ wordsLeft ws (c .ledger) (c .answer)
+  pub ledger : ledgerOf ws₁ ≡ c .ledger
+  pub change : x₁ ≡ changeLeft x (c .answer)
+  pub counts : ks₁ ≡ countsLeft ks (c .answer)
+
+-- "fresh reads none", but words of another length can hold no ledger: 2
+unfoldable pub freshIn : List ℕ → Start → Called
+freshIn ws s = cond (eqb (length ws) 2436) (freshCalled (ledgerOf ws) s) (record { ledger = ledgerOf ws; answer = answer.Refused 2 })
+
+-- what a call by value comes to fits the words: it was carried out on words that hold a ledger, or it left their ledger as it was
+abbrev pub FitsBy : List ℕ → Ledger → Answer → Type 0
+FitsBy ws l (answer.Done r) = length ws ≡ 2436
+FitsBy ws l (answer.Refused n) = l ≡ ledgerOf ws
 
 -- ---- the lookups
 abbrev pub placeNumber : Place → ℕ

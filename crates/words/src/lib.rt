@@ -285,10 +285,11 @@ fn put_bill(words: &mut [u64], at: usize, b: Bill)
     put_words(words, at + 15, &third);
 }
 
-// Writes the ledger's words.
+// Writes the ledger's words, which read back as the ledger.
 pub fn write(words: &mut [u64], l: Ledger)
     requires { ⌜ length (now words) ≡ 2436 ⌝ }
     ensures { λ _. ⌜ now (words .exit) ≡ ledgerWords l ⌝ }
+    ensures { λ _. ⌜ ledgerOf (now (words .exit)) ≡ l ⌝ }
 {
     words[0] = l.today.0;
     words[1] = l.next_tracking;

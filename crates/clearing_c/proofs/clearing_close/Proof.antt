@@ -1,4 +1,4 @@
-use Rattle.clearing_c.proofs.GiveLaws.{gives-as}
+use Rattle.clearing_c.proofs.GiveLaws.{gives-as, fits-as, fits-call}
 use borrow.Author.Needs.{needs}
 use Rattle.clearing_c.proofs.clearing_close.Statement.{statement}
 use Rattle.clearing_c.proofs.clearing_close.Tie as tie
@@ -13,7 +13,7 @@ close-day-requires c κs = search needs
 
 -- src/lib.rt:50:5
 give-requires : tie.Need-give-requires
-give-requires c κs = search needs
+give-requires c κs = fits-as _ (rw (c .before .before .before .before .read .ensures) at (c .before .before .before .close-day .ensures)) (fits-call _ _)
 
 -- src/lib.rt:40:1
 same-length : tie.Need-same-length

@@ -1,4 +1,4 @@
-use Rattle.clearing_c.proofs.GiveLaws.{gives-as}
+use Rattle.clearing_c.proofs.GiveLaws.{gives-as, fits-as, fits-call}
 use borrow.Author.Needs.{needs}
 use Rattle.clearing_c.proofs.clearing_request.Statement.{statement}
 use Rattle.clearing_c.proofs.clearing_request.Tie as tie
@@ -33,7 +33,7 @@ request-bill-requires c κs = search needs
 
 -- src/lib.rt:93:5
 give-requires : tie.Need-give-requires
-give-requires c κs = search needs
+give-requires c κs = fits-as _ (rw (c .before .before .before .before .before .before .before .read .ensures) at (c .before .before .before .before .before .request-bill .ensures .0)) (fits-call _ _)
 
 -- src/lib.rt:59:1
 same-length : tie.Need-same-length

@@ -8,6 +8,8 @@ use Rattle.fields.proofs.PutLaws.{length-put}
 use Rattle.ledger.specs.Bills.{blankBill}
 use Rattle.ledger.proofs.BookLaws.{places}
 use Rattle.words.proofs.WordLaws.{length-bill}
+use Rattle.words.specs.Layout.{ledgerOf}
+use Rattle.words.proofs.ToldLaws.{told-words}
 use Rattle.words.proofs.PlaceLaws.{written, written-none, written-more, written-all}
 use Rattle.words.proofs.write.Statement.{statement}
 use Rattle.words.proofs.write.Tie as tie
@@ -72,7 +74,9 @@ same-length c = omega (arith, c .before .loop .inv .2, c .before .before .before
 returns : tie.Need-returns Inv-loop μ-loop
 returns c =
     let v = c .before .loop .inv in
-    v .3 ∙ written-all (c .before .before .before .args .t2) _ (c .before .loop .i) (omega (arith, places (c .before .before .before .args .t2) _ (c .before .before .before .good .1 .0))) (omega arith)
+    let told = c .before .before .before .good .1 .0 in
+    let e = v .3 ∙ written-all (c .before .before .before .args .t2) _ (c .before .loop .i) (omega (arith, places (c .before .before .before .args .t2) _ told)) (omega arith) in
+    (e, ap ledgerOf e ∙ told-words (c .before .before .before .args .t2) _ told)
 
 pub write-spec : {M : Type 1} → statement M
 write-spec =
