@@ -1,12 +1,13 @@
 -- The lent call `fn f(ledger: &mut Ledger, file: &[u8], out: &mut [u8]) -> Answer { let r = core(*ledger, out, file); *ledger = r.ledger; r.answer }`, walked
--- for every core, which is a call by value, and every meaning of it: as `BillCalls.antt`'s, with a file for the argument. The file is Copy: what it owns is had
--- twice, and one is passed on.
+-- for every core, which is a call by value, and every contract that follows from the core's: as in `BillCalls.antt`, with a file for the argument. The file is
+-- Copy: what it owns is had twice, and one is passed on.
 --     fn-file      its MIR, over the core's name
 --     Core-file    the core's contract:  r ≡ f l xs ys, and the output's last list is g l xs ys, where xs is the file and ys the output on entry
---     meets-file   where that is met, the lent call meets its own: the ledger at exit is `f l xs ys .ledger`, the answer is `f l xs ys .answer`, and the
---                  output's last list is `g l xs ys`
+--     Follows      what the lent call's contract has to say of the core's:  it holds of any r ≡ f l xs ys and zs ≡ g l xs ys, with the ledger of r and zs at exit
+--                  and the answer of r
+--     meets-file   where the core meets its contract, the lent call meets a contract that follows from it
 -- Assumes `Given`.
-use mathlib.Core.Path.{_≡_, refl, ap}
+use mathlib.Core.Path.{_≡_, refl}
 use Prim.Native.Nat.{ℕ}
 use mathlib.Core.List.{[], _∷_, List}
 use lib.ListN.{length}
@@ -19,6 +20,7 @@ use base.Fml.{Fml, fsep, GName, Lft, Share, ftrue, fat, flft, fobs, fbor}
 use prog.Wp.{Heap, Calls, Loops, WpFn, Tables}
 use ghost.Atoms.{Atoms}
 use contract.Monad.{fact}
+use contract.Lifetimes.{Lfts}
 use types.Kit.{Given, Item, ‵, raw, some, later, _⊛_, ⋆, _$_, _∵_, !, qed, by, move, keep, drop, use1, use2, split, join, pick, rewrite, fsplit, fsplit3, fjoin, fjoin3, feqL, feqI, suffices, frame, await, done}
 use types.Run.{addr, look, look-raw, init, store-raw, forget, stop, hop, fld, from, load, of-opd, and-then, no-more, assigns, land, returns, enter, alloc1, alloc0, params1, pass1, pass0, free1, free0}
 use types.Part.{agg, whole, sub, look-in}
@@ -33,15 +35,15 @@ use denote.Slice.{sliceTy, sliceVal, ShrSlice, shr-slice-tells, shr-slice-copy, 
 use denote.Signature.{plain, mutRefTo, mutSliceOf, shrSliceOf}
 use denote.Steps.{owned, peeks, heard, nothing}
 use denote.Struct.Laws as LL
-use denote.Triple.Entry.{onEntry}
+use denote.Triple.Entry.{Args, onEntry}
 use denote.Triple.Spec.{Meets, tripleOf}
 use denote.Triple.Statement.{Contract, Triple}
 use denote.Triple.Call.{calls-at}
-use denote.Triple.Clauses.{Clauses, Ended, ensured, lasts, closing}
-use denote.Triple.Walked.{says, Stays, stay-ref, gave-slice, stay-none-slice, walkOf, goes-none-slice, goes-ref, goes-gave-slice, Walks, ends-at, walked, walk-meets}
+use denote.Triple.Clauses.{Clauses, Ended, atExit, ensured, lasts, closing}
+use denote.Triple.Walked.{Stays, stay-ref, gave-slice, stay-none-slice, walkOf, goes-none-slice, goes-ref, goes-gave-slice, Walks, ends-at, walked, walk-meets}
 use denote.Exit.{Last, yes}
 use Rattle.clearing.proofs.Lent.{Lent, Outcome, Row, Held, tyOf, vals}
-use Rattle.clearing.proofs.LentSteps.{opens-lent, closes-lent}
+use Rattle.clearing.proofs.LentSteps.{opens-lent, closes-lent, gives}
 use Rattle.clearing.proofs.BillCalls.{fn-out}
 
 abbrev pub fn-file : (E : Lent) → Outcome E → Name → Fn
@@ -77,14 +79,12 @@ module _ (E : Lent) (Y : Outcome E) (f : Held E → List ℕ → List ℕ → Y 
     ensures = λ _ r e. fact 𝓤 ((r ≡ f (a .0) (now (a .1 .1 .0)) (now (a .1 .0))) × (now (e .1 .0) ≡ g (a .0) (now (a .1 .1 .0)) (now (a .1 .0))));
   }
 
-  abbrev lent-says : Clauses 𝓤 (lent-ends E Y)
-  lent-says κs a = record {
-    ghost = Unit {0};
-    requires = λ _. emp 𝓤;
-    ensures = λ _ r e. fact 𝓤
-        ((now (e .0) ≡ Y .ledger (f (now (a .0)) (now (a .1 .0)) (now (a .1 .1 .0))))
-        × ((r ≡ Y .answer (f (now (a .0)) (now (a .1 .0)) (now (a .1 .1 .0)))) × (now (e .1 .1 .0) ≡ g (now (a .0)) (now (a .1 .0)) (now (a .1 .1 .0)))));
-  }
+  -- a contract of the lent call follows from the core's: it holds of the ledger and the answer in whatever the core returns, and of what it leaves in the output
+  abbrev pub Follows : Clauses 𝓤 (lent-ends E Y) → Type 1
+  Follows c =
+      (κs : Lfts 3) (a : Args (lent-ends E Y .signature) κs) (g′ : c κs a .ghost) (r : Y .S .Denot) (zs : List ℕ)
+      → r ≡ f (now (a .0)) (now (a .1 .0)) (now (a .1 .1 .0)) → zs ≡ g (now (a .0)) (now (a .1 .0)) (now (a .1 .1 .0))
+      → ent 𝓤 (emp 𝓤) (c κs a .ensures g′ (Y .answer r) (atExit (lent-ends E Y) κs a (Y .ledger r, (tt, (zs, tt)))))
 
   module _ (H : Heap 𝓤) (A : Atoms 𝓤) where
     abbrev pub Core-file : Contract 𝓤
@@ -93,7 +93,7 @@ module _ (E : Lent) (Y : Outcome E) (f : Held E → List ℕ → List ℕ → Y 
     abbrev stayed : Stays (lent-ends E Y .signature .params) (lent-ends E Y .kept)
     stayed = (stay-ref (0 ∷ []) tt (plain (λ _. Row E)), (stay-none-slice (1 ∷ []) tt (plain (λ _. u8)) yes, (gave-slice (2 ∷ []) tt (plain (λ _. u8)), tt)))
 
-    module _ (W : Given 𝓤 H A) where
+    module _ (W : Given 𝓤 H A) (c : Clauses 𝓤 (lent-ends E Y)) (follows : Follows c) where
       module _ (κ κ₁ κ₂ : Lft) (q q₁ q₂ : Share) (b o : ℕ) (γ : GName) (h : Held E)
           (b₁ o₁ : ℕ) (γ₁ : GName) (xs : List ℕ) (room₁ : Room u8 (length xs)) (b₂ o₂ : ℕ) (γ₂ : GName) (ys : List ℕ) (room₂ : Room u8 (length ys)) where
         abbrev n : RefT (List ℕ)
@@ -115,8 +115,8 @@ module _ (E : Lent) (Y : Outcome E) (f : Held E → List ℕ → List ℕ → Y 
         abbrev at : List Val × (List Val × (List Val × Unit {0}))
         at = (vptr b o ∷ [], (t ∷ [], (s ∷ [], tt)))
 
-        abbrev Post : Val → SProp 𝓤
-        Post = walkOf 𝓤 H A (lent-ends E Y) stayed lent-says .post (((κ, (κ₁, (κ₂, tt))), (q, (q₁, (q₂, tt))), tt, x, at), tt)
+        abbrev Post : c (κ, (κ₁, (κ₂, tt))) x .ghost → Val → SProp 𝓤
+        Post g′ = walkOf 𝓤 H A (lent-ends E Y) stayed c .post (((κ, (κ₁, (κ₂, tt))), (q, (q₁, (q₂, tt))), tt, x, at), g′)
 
         -- what the core ensures, of the record r that it returns and the list zs that it leaves in the output
         abbrev Said : Y .S .Denot → List ℕ → Type 0
@@ -146,13 +146,14 @@ module _ (E : Lent) (Y : Outcome E) (f : Held E → List ℕ → List ℕ → Y 
             ‵ (fobs γ (Row E .coded .code (Y .ledger r))) ∷ ‵ (fbor κ (Body (mem (Row E)) b o γ)) ∷ ‵ (flft κ q)
             ∷ (‵ (flft κ₂ q₂) ⊛ ‵ (flft κ₁ q₁) ⊛ ‵ ftrue) ∷ ‵ (finally u8 γ₂ zs) ∷ ‵ File ∷ []
 
-        exits : (r : Y .S .Denot) (zs : List ℕ) (u : Val) → Said r zs → length zs ≡ length ys → Is (Y .R) (Y .answer r) (u ∷ [])
-            → ent 𝓤 (⋆ 𝓤 H A (left r zs)) (Post u)
-        exits r zs u e l is =
+        exits : (g′ : c (κ, (κ₁, (κ₂, tt))) x .ghost) (r : Y .S .Denot) (zs : List ℕ) (u : Val)
+            → Said r zs → length zs ≡ length ys → Is (Y .R) (Y .answer r) (u ∷ [])
+            → ent 𝓤 (⋆ 𝓤 H A (left r zs)) (Post g′ u)
+        exits g′ r zs u e l is =
             qed W (left r zs) ∵
-            suffices ! _ (ends-at 𝓤 H A (lent-ends E Y) stayed lent-says W (((κ, (κ₁, (κ₂, tt))), (q, (q₁, (q₂, tt))), tt, x, at), tt) u (Y .answer r)
+            suffices ! _ (ends-at 𝓤 H A (lent-ends E Y) stayed c W (((κ, (κ₁, (κ₂, tt))), (q, (q₁, (q₂, tt))), tt, x, at), g′) u (Y .answer r)
             (Y .ledger r, (tt, (zs, tt))) (tt, (tt, (l, tt)))) $
-            says ! (ap (Y .ledger) (e .0), (ap (Y .answer) (e .0), e .1)) $
+            gives ! (follows (κ, (κ₁, (κ₂, tt))) x g′ r zs (e .0) (e .1)) $
             move ! (3 ∷ []) $ split ! $ move ! (1 ∷ []) $ split ! $ move ! (2 ∷ 1 ∷ []) $ join ! $ move ! (1 ∷ 0 ∷ []) $ join ! $
             move ! (3 ∷ 0 ∷ []) $ join ! $ frame ! $
             feqI ! (List Val) (vptr b o ∷ []) (vptr b o ∷ []) refl $ fjoin3 ! $ move ! (1 ∷ []) $
@@ -160,9 +161,9 @@ module _ (E : Lent) (Y : Outcome E) (f : Held E → List ℕ → List ℕ → Y 
             owned ! (Y .R) (Is (Y .R)) (Y .reply .makes 𝓤 H A W) (Y .answer r) _ is $ move ! (1 ∷ 0 ∷ []) $ done !
 
         module _ (core : Name) (C : Calls 𝓤 H) (Λ : Loops 𝓤 H) (fm : FmC 𝓤 H (W .laws) C) (known : Triple 𝓤 (C core) Core-file) where
-          walk : ent 𝓤 (onEntry 𝓤 H A (lent-ends E Y .signature) (κ, (κ₁, (κ₂, tt))) (q, (q₁, (q₂, tt))) x at)
-              (WpFn 𝓤 H C Λ (fn-file E Y core) (vptr b o ∷ t ∷ s ∷ []) Post)
-          walk =
+          walk : (g′ : c (κ, (κ₁, (κ₂, tt))) x .ghost) → ent 𝓤 (onEntry 𝓤 H A (lent-ends E Y .signature) (κ, (κ₁, (κ₂, tt))) (q, (q₁, (q₂, tt))) x at)
+              (WpFn 𝓤 H C Λ (fn-file E Y core) (vptr b o ∷ t ∷ s ∷ []) (Post g′))
+          walk g′ =
               qed W ((‵ (flft κ q) ⊛ ‵ (flft κ₁ q₁) ⊛ ‵ (flft κ₂ q₂) ⊛ ‵ ftrue)
               ∷ ‵ (owns (MutRef (named 0) κ (Row E) ∷ ShrSlice (named 1) κ₁ u8 ∷ MutSlice (named 2) κ₂ u8 ∷ []) x at) ∷ []) ∵
               split ! $ move ! (2 ∷ []) $ fsplit ! $ fsplit3 ! $ drop ! $ move ! (2 ∷ []) $ fsplit ! $
@@ -206,24 +207,24 @@ module _ (E : Lent) (Y : Outcome E) (f : Held E → List ℕ → List ℕ → Y 
               forget ! 18 refl $ forget ! 20 refl $
               move ! (20 ∷ 21 ∷ []) $ free1 ! $ move ! (18 ∷ 19 ∷ []) $ free1 ! $ move ! (16 ∷ 17 ∷ []) $ free1 ! $ move ! (14 ∷ 15 ∷ []) $ free1 ! $
               move ! (12 ∷ 13 ∷ []) $ free1 ! $ move ! (10 ∷ 11 ∷ []) $ free1 ! $ move ! (8 ∷ 9 ∷ []) $ free1 ! $ move ! (6 ∷ 7 ∷ []) $ free1 ! $ free0 ! $
-              keep ! (0 ∷ 1 ∷ 2 ∷ 3 ∷ 4 ∷ 6 ∷ []) $ by ! (exits r (zs .1 .0) _ e l (Y .is-answer r v is)))))))))))))))))
+              keep ! (0 ∷ 1 ∷ 2 ∷ 3 ∷ 4 ∷ 6 ∷ []) $ by ! (exits g′ r (zs .1 .0) _ e l (Y .is-answer r v is)))))))))))))))))
 
       walks : (core : Name) (C : Calls 𝓤 H) (Λ : Loops 𝓤 H) → FmC 𝓤 H (W .laws) C → Triple 𝓤 (C core) Core-file
-          → Walks 𝓤 H A (lent-ends E Y) stayed (WpFn 𝓤 H C Λ (fn-file E Y core)) lent-says
+          → Walks 𝓤 H A (lent-ends E Y) stayed (WpFn 𝓤 H C Λ (fn-file E Y core)) c
       walks core C Λ fm known =
-          walked 𝓤 H A (lent-ends E Y) stayed lent-says (WpFn 𝓤 H C Λ (fn-file E Y core)) (λ κs. (ptr-vals, (slice-vals, (slice-vals, tt))))
+          walked 𝓤 H A (lent-ends E Y) stayed c (WpFn 𝓤 H C Λ (fn-file E Y core)) (λ κs. (ptr-vals, (slice-vals, (slice-vals, tt))))
           (λ κs. (mut-tells (named 0) (κs .0) (Row E), (shr-slice-tells (named 1) (κs .1 .0) u8, (mut-slice-tells (named 2) (κs .1 .1 .0) u8, tt))))
-          (λ κs qs bounds a _ are. via 𝓤 _ (fst∗ 𝓤 _ (emp 𝓤))
+          (λ κs qs bounds a g′ are. via 𝓤 _ (fst∗ 𝓤 _ (c κs a .requires g′))
           (walk (κs .0) (κs .1 .0) (κs .1 .1 .0) (qs .0) (qs .1 .0) (qs .1 .1 .0) (a .0 .ptr .0) (a .0 .ptr .1) (a .0 .name) (a .0 .now)
           (a .1 .0 .ptr .0) (a .1 .0 .ptr .1) (a .1 .0 .name) (a .1 .0 .now) (are .1 .0 .0 .1)
-          (a .1 .1 .0 .ptr .0) (a .1 .1 .0 .ptr .1) (a .1 .1 .0 .name) (a .1 .1 .0 .now) (are .1 .1 .0 .0 .1) core C Λ fm known))
+          (a .1 .1 .0 .ptr .0) (a .1 .1 .0 .ptr .1) (a .1 .1 .0 .name) (a .1 .1 .0 .now) (are .1 .1 .0 .0 .1) core C Λ fm known g′))
 
       pub meets-file : (core : Name) (𝓣 : Tables 𝓤 H) → Triple 𝓤 (𝓣 .C core) Core-file
-          → Meets 𝓤 H A (lent-ends E Y .signature) (WpFn 𝓤 H (𝓣 .C) (𝓣 .Λ) (fn-file E Y core)) (closing 𝓤 H A (lent-ends E Y) lent-says)
+          → Meets 𝓤 H A (lent-ends E Y .signature) (WpFn 𝓤 H (𝓣 .C) (𝓣 .Λ) (fn-file E Y core)) (closing 𝓤 H A (lent-ends E Y) c)
       meets-file core 𝓣 known =
           walk-meets 𝓤 H A (lent-ends E Y) stayed W (
             goes-ref 𝓤 H A W 3 0 tt (plain (λ _. Row E)),
             (goes-none-slice 𝓤 H A W 3 (1 ∷ []) tt (plain (λ _. u8)) yes, (goes-gave-slice 𝓤 H A W 3 2 tt (plain (λ _. u8)), tt)),
           )
-          lent-says (WpFn 𝓤 H (𝓣 .C) (𝓣 .Λ) (fn-file E Y core)) (WpFn-mono 𝓤 H (W .laws) 𝓣 (fn-file E Y core))
+          c (WpFn 𝓤 H (𝓣 .C) (𝓣 .Λ) (fn-file E Y core)) (WpFn-mono 𝓤 H (W .laws) 𝓣 (fn-file E Y core))
           (walks core (𝓣 .C) (𝓣 .Λ) (fmOf 𝓤 H (W .laws) 𝓣) known)

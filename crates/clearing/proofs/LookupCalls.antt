@@ -1,8 +1,9 @@
--- The lookup `fn f(ledger: &Ledger, a: P) -> R { core(*ledger, a) }`, walked once for every type of argument and of answer, every core, which is a
--- lookup by value, and all that is said of its answer. The borrow is looked into, the ledger is copied out, the borrow is shut, and the copy is passed on.
+-- The lookup `fn f(ledger: &Ledger, a: P) -> R { core(*ledger, a) }`, walked once for every type of argument and of answer, every core, which is a lookup by
+-- value, and every contract that follows from the core's. The borrow is looked into, the ledger is copied out, the borrow is shut, and the copy is passed on.
 --     fn-look      its MIR, over the MIR types of the argument and of the answer and the core's name
 --     Core-look    the core's contract:  Says l a r
---     meets-look   where that is met, the lookup meets its own: `Says l a r`, where l is the ledger that is lent
+--     Follows      what the lookup's contract has to say of the core's:  it holds of any r with Says l a r, where l is the ledger that is lent
+--     meets-look   where the core meets its contract, the lookup meets a contract that follows from it
 -- Assumes `Given`.
 use mathlib.Core.Path.{refl, sym, ap, subst}
 use Prim.Native.Nat.{ℕ}
@@ -16,6 +17,7 @@ use base.Fml.{GName, Lft, Share, ftrue, flft, fres, fshr-bor}
 use prog.Wp.{Heap, Calls, Loops, WpFn, Tables}
 use ghost.Atoms.{Atoms, sem}
 use contract.Monad.{fact}
+use contract.Lifetimes.{Lfts}
 use types.Kit.{Given, ‵, raw, some, later, _⊛_, ⋆, _$_, _∵_, !, qed, by, move, keep, drop, use0, use1, split, join, pick, fsplit, fsplit3, fjoin, fjoin3, feqI, suffices, frame, await, done}
 use types.Run.{look, look-raw, init, forget, stop, hop, from, load, of-opd, and-then, no-more, assigns, land, returns, enter, alloc1, alloc0, params1, pass1, pass0, free1, free0}
 use sound.WpLaws.{FmC, fmOf, WpFn-mono}
@@ -27,15 +29,16 @@ use denote.Signature.{plain, shrRefTo}
 use denote.Steps.{only, looks, shuts, owned, peeks, heard, nothing}
 use denote.Struct.Steps.{spelt}
 use denote.Struct.Laws as LL
-use denote.Triple.Entry.{onEntry}
+use denote.Triple.Entry.{Args, onEntry}
 use denote.Triple.Spec.{Meets, tripleOf}
 use denote.Triple.Statement.{Contract, Triple}
 use denote.Triple.Call.{calls-at}
-use denote.Triple.Clauses.{Clauses, Ended, ensured, lasts, closing}
-use denote.Triple.Walked.{says, Stays, stay-none-ref, stay-none, walkOf, goes-none, goes-none-ref, Walks, ends-at, walked, walk-meets}
+use denote.Triple.Clauses.{Clauses, Ended, atExit, ensured, lasts, closing}
+use denote.Triple.Walked.{Stays, stay-none-ref, stay-none, walkOf, goes-none, goes-none-ref, Walks, ends-at, walked, walk-meets}
 use denote.Exit.{yes}
 use Rattle.clearing.proofs.Argument.{Arg}
 use Rattle.clearing.proofs.Lent.{Lent, Row, Held, tyOf, vals}
+use Rattle.clearing.proofs.LentSteps.{gives}
 
 abbrev pub fn-look : Lent → Ty → Ty → Name → Fn
 fn-look E τ ρ core = record {
@@ -72,8 +75,11 @@ module _ (E : Lent) (P : RattleType) (X : Arg P) (R : RattleType) (Y : Arg R) (S
   abbrev core-says : Clauses 𝓤 (core-ends E P R)
   core-says κs a = record { ghost = Unit {0}; requires = λ _. emp 𝓤; ensures = λ _ r e. fact 𝓤 (Says (a .0) (a .1 .0) r) }
 
-  abbrev lent-says : Clauses 𝓤 (lent-ends E P R)
-  lent-says κs a = record { ghost = Unit {0}; requires = λ _. emp 𝓤; ensures = λ _ r e. fact 𝓤 (Says (now (a .0)) (a .1 .0) r) }
+  -- a contract of the lookup follows from the core's: it holds of whatever the core answers
+  abbrev pub Follows : Clauses 𝓤 (lent-ends E P R) → Type 1
+  Follows c =
+      (κs : Lfts 1) (a : Args (lent-ends E P R .signature) κs) (g : c κs a .ghost) (r : R .Denot) → Says (now (a .0)) (a .1 .0) r
+      → ent 𝓤 (emp 𝓤) (c κs a .ensures g r (atExit (lent-ends E P R) κs a (tt, (X .last (a .1 .0), tt))))
 
   module _ (H : Heap 𝓤) (A : Atoms 𝓤) where
     abbrev pub Core-look : Contract 𝓤
@@ -82,7 +88,7 @@ module _ (E : Lent) (P : RattleType) (X : Arg P) (R : RattleType) (Y : Arg R) (S
     abbrev stayed : Stays (lent-ends E P R .signature .params) (lent-ends E P R .kept)
     stayed = (stay-none-ref (0 ∷ []) tt (plain (λ _. Row E)) yes, (stay-none (λ _. P) yes, tt))
 
-    module _ (W : Given 𝓤 H A) where
+    module _ (W : Given 𝓤 H A) (c : Clauses 𝓤 (lent-ends E P R)) (follows : Follows c) where
       module _ (κ : Lft) (q : Share) (b o : ℕ) (γ : GName) (h : Held E) (n : P .Denot) (isn : Is P n (X .val n ∷ [])) where
         abbrev x : RefT (Held E) × (P .Denot × Unit {0})
         x = (record { ptr = (b, o); name = γ; now = h }, (n, tt))
@@ -90,8 +96,8 @@ module _ (E : Lent) (P : RattleType) (X : Arg P) (R : RattleType) (Y : Arg R) (S
         abbrev at : List Val × (List Val × Unit {0})
         at = (vptr b o ∷ [], (X .val n ∷ [], tt))
 
-        abbrev Post : Val → SProp 𝓤
-        Post = walkOf 𝓤 H A (lent-ends E P R) stayed lent-says .post (((κ, tt), (q, tt), tt, x, at), tt)
+        abbrev Post : c (κ, tt) x .ghost → Val → SProp 𝓤
+        Post g = walkOf 𝓤 H A (lent-ends E P R) stayed c .post (((κ, tt), (q, tt), tt, x, at), g)
 
         -- what the core's triple binds outside
         abbrev to-core : Core-look .Ghost
@@ -106,19 +112,20 @@ module _ (E : Lent) (P : RattleType) (X : Arg P) (R : RattleType) (Y : Arg R) (S
         said : (r : R .Denot) → ent 𝓤 (ensured 𝓤 H A (core-ends E P R) core-says tt (h, (n, tt)) tt r) (fact 𝓤 (Says h n r))
         said r = exE 𝓤 _ (λ ws. snd∗ 𝓤 (sem 𝓤 H A (lasts (core-ends E P R) tt (h, (n, tt)) ws)) (fact 𝓤 (Says h n r)))
 
-        exits : (r : R .Denot) (u : Val) → Says h n r → Is R r (u ∷ [])
-            → ent 𝓤 (⋆ 𝓤 H A (‵ (flft κ q) ∷ ‵ (fres γ (Row E .coded .code h)) ∷ ‵ (fshr-bor κ (λ s. partAt (Row E) s h b o)) ∷ [])) (Post u)
-        exits r u e is =
+        exits : (g : c (κ, tt) x .ghost) (r : R .Denot) (u : Val) → Says h n r → Is R r (u ∷ [])
+            → ent 𝓤 (⋆ 𝓤 H A (‵ (flft κ q) ∷ ‵ (fres γ (Row E .coded .code h)) ∷ ‵ (fshr-bor κ (λ s. partAt (Row E) s h b o)) ∷ [])) (Post g u)
+        exits g r u e is =
             qed W (‵ (flft κ q) ∷ ‵ (fres γ (Row E .coded .code h)) ∷ ‵ (fshr-bor κ (λ s. partAt (Row E) s h b o)) ∷ []) ∵
-            suffices ! _ (ends-at 𝓤 H A (lent-ends E P R) stayed lent-says W (((κ, tt), (q, tt), tt, x, at), tt) u r (tt, (X .last n, tt)) (tt, (tt, tt))) $
-            says ! e $ nothing ! $ move ! (1 ∷ 0 ∷ []) $ join ! $ frame ! $ feqI ! (List Val) (vptr b o ∷ []) (vptr b o ∷ []) refl $ fjoin3 ! $
+            suffices ! _ (ends-at 𝓤 H A (lent-ends E P R) stayed c W (((κ, tt), (q, tt), tt, x, at), g) u r (tt, (X .last n, tt)) (tt, (tt, tt))) $
+            gives ! (follows (κ, tt) x g r e) $ nothing ! $ move ! (1 ∷ 0 ∷ []) $ join ! $ frame ! $
+            feqI ! (List Val) (vptr b o ∷ []) (vptr b o ∷ []) refl $ fjoin3 ! $
             nothing ! $ owned ! P (Is P) (X .makes 𝓤 H A W) n _ isn $ fjoin ! $ move ! (1 ∷ 0 ∷ []) $ fjoin ! $ frame ! $
             owned ! R (Is R) (Y .makes 𝓤 H A W) r _ is $ done !
 
         module _ (core : Name) (C : Calls 𝓤 H) (Λ : Loops 𝓤 H) (fm : FmC 𝓤 H (W .laws) C) (known : Triple 𝓤 (C core) Core-look) where
-          walk : ent 𝓤 (onEntry 𝓤 H A (lent-ends E P R .signature) (κ, tt) (q, tt) x at)
-              (WpFn 𝓤 H C Λ (fn-look E (X .ty) (Y .ty) core) (vptr b o ∷ X .val n ∷ []) Post)
-          walk =
+          walk : (g : c (κ, tt) x .ghost) → ent 𝓤 (onEntry 𝓤 H A (lent-ends E P R .signature) (κ, tt) (q, tt) x at)
+              (WpFn 𝓤 H C Λ (fn-look E (X .ty) (Y .ty) core) (vptr b o ∷ X .val n ∷ []) (Post g))
+          walk g =
               qed W ((‵ (flft κ q) ⊛ ‵ ftrue) ∷ ‵ (owns (ShrRef (named 0) κ (Row E) ∷ P ∷ []) x at) ∷ []) ∵ enter ! C Λ (fn-look E (X .ty) (Y .ty) core)
               (vptr b o ∷ X .val n ∷ []) _ $
               alloc1 ! (λ l₀. alloc1 ! (λ l₁. alloc1 ! (λ l₂. alloc1 ! (λ l₃. alloc0 ! $ params1 ! $ pass1 ! (init ! 4 refl (tt, tt)) $
@@ -144,20 +151,20 @@ module _ (E : Lent) (P : RattleType) (X : Arg P) (R : RattleType) (Y : Arg R) (S
               (Y .typed 𝓤 H A W r (subst (Is R r) (Y .tells r (v ∷ []) is) is)))) $
               returns ! (look ! 11 refl) $ forget ! 5 refl $ forget ! 7 refl $ forget ! 9 refl $ forget ! 11 refl $
               move ! (11 ∷ 12 ∷ []) $ free1 ! $ move ! (9 ∷ 10 ∷ []) $ free1 ! $ move ! (7 ∷ 8 ∷ []) $ free1 ! $ move ! (5 ∷ 6 ∷ []) $ free1 ! $ free0 ! $
-              keep ! (0 ∷ 3 ∷ 1 ∷ []) $ by ! (exits r v e is)))))))))))
+              keep ! (0 ∷ 3 ∷ 1 ∷ []) $ by ! (exits g r v e is)))))))))))
 
       walks : (core : Name) (C : Calls 𝓤 H) (Λ : Loops 𝓤 H) → FmC 𝓤 H (W .laws) C → Triple 𝓤 (C core) Core-look
-          → Walks 𝓤 H A (lent-ends E P R) stayed (WpFn 𝓤 H C Λ (fn-look E (X .ty) (Y .ty) core)) lent-says
+          → Walks 𝓤 H A (lent-ends E P R) stayed (WpFn 𝓤 H C Λ (fn-look E (X .ty) (Y .ty) core)) c
       walks core C Λ fm known =
-          walked 𝓤 H A (lent-ends E P R) stayed lent-says (WpFn 𝓤 H C Λ (fn-look E (X .ty) (Y .ty) core)) (λ κs. (ptr-vals, ((λ z. X .val z ∷ []), tt)))
+          walked 𝓤 H A (lent-ends E P R) stayed c (WpFn 𝓤 H C Λ (fn-look E (X .ty) (Y .ty) core)) (λ κs. (ptr-vals, ((λ z. X .val z ∷ []), tt)))
           (λ κs. (shr-tells (named 0) (κs .0) (Row E), (X .tells, tt)))
-          (λ κs qs bounds a _ are. via 𝓤 _ (fst∗ 𝓤 _ (emp 𝓤))
-          (walk (κs .0) (qs .0) (a .0 .ptr .0) (a .0 .ptr .1) (a .0 .name) (a .0 .now) (a .1 .0) (are .1 .0) core C Λ fm known))
+          (λ κs qs bounds a g are. via 𝓤 _ (fst∗ 𝓤 _ (c κs a .requires g))
+          (walk (κs .0) (qs .0) (a .0 .ptr .0) (a .0 .ptr .1) (a .0 .name) (a .0 .now) (a .1 .0) (are .1 .0) core C Λ fm known g))
 
       pub meets-look : (core : Name) (𝓣 : Tables 𝓤 H) → Triple 𝓤 (𝓣 .C core) Core-look
-          → Meets 𝓤 H A (lent-ends E P R .signature) (WpFn 𝓤 H (𝓣 .C) (𝓣 .Λ) (fn-look E (X .ty) (Y .ty) core)) (closing 𝓤 H A (lent-ends E P R) lent-says)
+          → Meets 𝓤 H A (lent-ends E P R .signature) (WpFn 𝓤 H (𝓣 .C) (𝓣 .Λ) (fn-look E (X .ty) (Y .ty) core)) (closing 𝓤 H A (lent-ends E P R) c)
       meets-look core 𝓣 known =
           walk-meets 𝓤 H A (lent-ends E P R) stayed W
           (goes-none-ref 𝓤 H A W 1 (0 ∷ []) tt (plain (λ _. Row E)) yes, (goes-none 𝓤 H A W 1 (λ _. P) yes (X .silent 1 𝓤 H A W), tt))
-          lent-says (WpFn 𝓤 H (𝓣 .C) (𝓣 .Λ) (fn-look E (X .ty) (Y .ty) core)) (WpFn-mono 𝓤 H (W .laws) 𝓣 (fn-look E (X .ty) (Y .ty) core))
+          c (WpFn 𝓤 H (𝓣 .C) (𝓣 .Λ) (fn-look E (X .ty) (Y .ty) core)) (WpFn-mono 𝓤 H (W .laws) 𝓣 (fn-look E (X .ty) (Y .ty) core))
           (walks core (𝓣 .C) (𝓣 .Λ) (fmOf 𝓤 H (W .laws) 𝓣) known)

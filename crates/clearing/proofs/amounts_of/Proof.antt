@@ -1,5 +1,7 @@
 -- `clearing::amounts_of` meets its contract: `LookupCalls.antt`'s walk, at `calls::lookups::amounts_of`. Assumes nothing.
 use mathlib.Core.Path.{_≡_}
+use base.Logic.{emp}
+use contract.Monad.{factI}
 use contract.Running.{givenOf, tables, tablesOf}
 use denote.Triple.Spec.{tripleOf}
 use denote.Triple.Table.{entered, cited}
@@ -36,6 +38,8 @@ unfolding code.routine tablesOf
 amounts-of-spec 𝓤 H 𝓜 𝓖 𝓡 =
     entered 𝓤 H (tripleOf 𝓤 H (𝓖 .A) amounts-of.signature (amounts-of.spec 𝓤 H (𝓖 .A) (𝓜 .mem) (𝓡 .run)))
     (tables 𝓤 H 𝓜 𝓡 code.env .C) (tables 𝓤 H 𝓜 𝓡 code.env .Λ) #amounts code.function (code.unfolded 𝓤 H 𝓜 𝓡)
-    (meets-look lent P.the-row argument R.the-row answer Found 𝓤 H (𝓖 .A) (givenOf 𝓤 H 𝓜 𝓖) #core (tablesOf 𝓤 H 𝓜 (tables 𝓤 H 𝓜 𝓡 code.env))
+    (meets-look lent P.the-row argument R.the-row answer Found 𝓤 H (𝓖 .A) (givenOf 𝓤 H 𝓜 𝓖) (amounts-of.clauses 𝓤 H (𝓖 .A) (𝓜 .mem) (𝓡 .run))
+    (λ κs a g r e. factI 𝓤 _ (emp 𝓤) e)
+    #core (tablesOf 𝓤 H 𝓜 (tables 𝓤 H 𝓜 𝓡 code.env))
     (cited 𝓤 H (Core-look lent P.the-row argument R.the-row answer Found 𝓤 H (𝓖 .A))
     𝓜 𝓡 code.env #core core-def.routine code.calls-calls·lookups·amounts-of (core-thm.met 𝓤 H 𝓜 𝓖 𝓡)))

@@ -1,7 +1,10 @@
 -- `clearing::cancel_bill` meets its contract: `BillCalls.antt`'s walk, at `calls::bills::cancel_bill`. Assumes nothing.
+use mathlib.Core.Path.{ap}
 use Prim.Native.Nat.{ℕ}
 use mathlib.Core.List.{List}
 use lib.ListN.{length}
+use base.Logic.{emp}
+use contract.Monad.{factI}
 use contract.Running.{givenOf, tables, tablesOf}
 use denote.Triple.Spec.{tripleOf}
 use denote.Triple.Table.{entered, cited}
@@ -38,6 +41,8 @@ unfolding code.routine tablesOf
 cancel-bill-spec 𝓤 H 𝓜 𝓖 𝓡 =
     entered 𝓤 H (tripleOf 𝓤 H (𝓖 .A) cancel-bill.signature (cancel-bill.spec 𝓤 H (𝓖 .A) (𝓜 .mem) (𝓡 .run)))
     (tables 𝓤 H 𝓜 𝓡 code.env .C) (tables 𝓤 H 𝓜 𝓡 code.env .Λ) #cancel code.function (code.unfolded 𝓤 H 𝓜 𝓡)
-    (meets-bill lent outcome P.the-row argument returned written 𝓤 H (𝓖 .A) (givenOf 𝓤 H 𝓜 𝓖) #core (tablesOf 𝓤 H 𝓜 (tables 𝓤 H 𝓜 𝓡 code.env))
+    (meets-bill lent outcome P.the-row argument returned written 𝓤 H (𝓖 .A) (givenOf 𝓤 H 𝓜 𝓖) (cancel-bill.clauses 𝓤 H (𝓖 .A) (𝓜 .mem) (𝓡 .run))
+    (λ κs a g r zs e w. factI 𝓤 _ (emp 𝓤) (ap (λ (z : Called). z .ledger) e, (ap (λ (z : Called). z .answer) e, w)))
+    #core (tablesOf 𝓤 H 𝓜 (tables 𝓤 H 𝓜 𝓡 code.env))
     (cited 𝓤 H (Core-bill lent outcome P.the-row argument returned written 𝓤 H (𝓖 .A))
     𝓜 𝓡 code.env #core core-def.routine code.calls-calls·bills·cancel-bill (core-thm.met 𝓤 H 𝓜 𝓖 𝓡)))

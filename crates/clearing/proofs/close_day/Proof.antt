@@ -1,4 +1,7 @@
 -- `clearing::close_day` meets its contract: `DayCalls.antt`'s walk, at `calls::days::close_day`. Assumes nothing.
+use mathlib.Core.Path.{ap}
+use base.Logic.{emp}
+use contract.Monad.{factI}
 use contract.Running.{givenOf, tables, tablesOf}
 use denote.Triple.Spec.{tripleOf}
 use denote.Triple.Table.{entered, cited}
@@ -31,6 +34,8 @@ unfolding code.routine tablesOf
 close-day-spec 𝓤 H 𝓜 𝓖 𝓡 =
     entered 𝓤 H (tripleOf 𝓤 H (𝓖 .A) close-day.signature (close-day.spec 𝓤 H (𝓖 .A) (𝓜 .mem) (𝓡 .run)))
     (tables 𝓤 H 𝓜 𝓡 code.env .C) (tables 𝓤 H 𝓜 𝓡 code.env .Λ) #close code.function (code.unfolded 𝓤 H 𝓜 𝓡)
-    (meets-day lent outcome P.the-row argument closed 𝓤 H (𝓖 .A) (givenOf 𝓤 H 𝓜 𝓖) #core (tablesOf 𝓤 H 𝓜 (tables 𝓤 H 𝓜 𝓡 code.env))
+    (meets-day lent outcome P.the-row argument closed 𝓤 H (𝓖 .A) (givenOf 𝓤 H 𝓜 𝓖) (close-day.clauses 𝓤 H (𝓖 .A) (𝓜 .mem) (𝓡 .run))
+    (λ κs a g r e. factI 𝓤 _ (emp 𝓤) (ap (λ (z : Called). z .ledger) e, ap (λ (z : Called). z .answer) e))
+    #core (tablesOf 𝓤 H 𝓜 (tables 𝓤 H 𝓜 𝓡 code.env))
     (cited 𝓤 H (Core-day lent outcome P.the-row argument closed 𝓤 H (𝓖 .A))
     𝓜 𝓡 code.env #core core-def.routine code.calls-calls·days·close-day (core-thm.met 𝓤 H 𝓜 𝓖 𝓡)))

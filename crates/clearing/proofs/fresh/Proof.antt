@@ -1,7 +1,11 @@
 -- `clearing::fresh` meets its contract: `DayCalls.antt`'s walk, at `calls::days::fresh`. Assumes nothing.
+use mathlib.Core.Path.{ap}
+use base.Logic.{emp}
+use contract.Monad.{factI}
 use contract.Running.{givenOf, tables, tablesOf}
 use denote.Triple.Spec.{tripleOf}
 use denote.Triple.Table.{entered, cited}
+use Rattle.calls.specs.declared.Called.{Called}
 use Rattle.calls.specs.Days.{freshCalled}
 use Rattle.calls.proofs.Start as P
 use Rattle.calls.proofs.Start.Laws as P′
@@ -24,6 +28,8 @@ unfolding code.routine tablesOf
 fresh-spec 𝓤 H 𝓜 𝓖 𝓡 =
     entered 𝓤 H (tripleOf 𝓤 H (𝓖 .A) fresh.signature (fresh.spec 𝓤 H (𝓖 .A) (𝓜 .mem) (𝓡 .run)))
     (tables 𝓤 H 𝓜 𝓡 code.env .C) (tables 𝓤 H 𝓜 𝓡 code.env .Λ) #fresh code.function (code.unfolded 𝓤 H 𝓜 𝓡)
-    (meets-day lent outcome P.the-row argument freshCalled 𝓤 H (𝓖 .A) (givenOf 𝓤 H 𝓜 𝓖) #core (tablesOf 𝓤 H 𝓜 (tables 𝓤 H 𝓜 𝓡 code.env))
+    (meets-day lent outcome P.the-row argument freshCalled 𝓤 H (𝓖 .A) (givenOf 𝓤 H 𝓜 𝓖) (fresh.clauses 𝓤 H (𝓖 .A) (𝓜 .mem) (𝓡 .run))
+    (λ κs a g r e. factI 𝓤 _ (emp 𝓤) (ap (λ (z : Called). z .ledger) e, ap (λ (z : Called). z .answer) e))
+    #core (tablesOf 𝓤 H 𝓜 (tables 𝓤 H 𝓜 𝓡 code.env))
     (cited 𝓤 H (Core-day lent outcome P.the-row argument freshCalled 𝓤 H (𝓖 .A))
     𝓜 𝓡 code.env #core core-def.routine code.calls-calls·days·fresh (core-thm.met 𝓤 H 𝓜 𝓖 𝓡)))
