@@ -2,3 +2,5 @@
 pub mod ListLaws
 pub mod BookLaws
 pub mod SoundLaws
+pub mod LendArray
+pub mod LentBills
