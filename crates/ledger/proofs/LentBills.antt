@@ -1,4 +1,4 @@
--- An array of 128 bills and its first n, as a walk that lends these as a slice reads them. Assumes nothing; the laws under a model assume `Given`.
+-- What walks over lent bills share: an array of 128 bills and its first n, lent as a slice, and a turn of a loop past its test. Assumes nothing; the laws under a model assume `Given`.
 use mathlib.Core.Path.{_≡_, sym, subst}
 use Prim.Native.Nat.{ℕ, _≤_, _<_, _^_, _*_}
 use mathlib.Core.List.{List, [], _∷_}

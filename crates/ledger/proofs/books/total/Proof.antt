@@ -4,7 +4,7 @@
 use mathlib.Core.Path.{_≡_, refl, sym, ap, _∙_}
 use mathlib.Core.Bool.{true}
 use Prim.Native.Nat.{ℕ, _+_, _-_, _≤_, _<_, _^_}
-use native.Mathlib.Nat.{lt-of-le-of-lt, lt-trans}
+use native.Mathlib.Nat.{lt-of-le-of-lt}
 use native.Mathlib.Numerals.{add-one-le, add-one-dec}
 use native.Mathlib.Omega.{arith}
 use mathlib.Core.WellFounded.{WellFounded, InvImage·wf}
@@ -32,11 +32,9 @@ use sound.WpLaws.{fmOf, WpFn-mono}
 use denote.RattleType.{owns}
 use denote.Laws.{Is, shows}
 use denote.Memory.{pointee}
-use denote.Plain.{uint-makes}
-use denote.Builtin.{usize}
 use denote.Ref.{RefT}
 use denote.Signature.{plain}
-use denote.Slice.{sliceTy, sliceVal, ShrSlice, Room, slice-vals, shr-slice-tells, shr-slice-copy}
+use denote.Slice.{sliceTy, ShrSlice, Room, slice-vals, shr-slice-tells, shr-slice-copy}
 use denote.Steps.{nothing, owned, peeks, heard}
 use denote.Struct.Laws as LL
 use denote.Triple.Entry.{onEntry}
@@ -57,9 +55,9 @@ use Rattle.ledger.specs.Books.{billCharge, smallCharge, totalOf}
 use Rattle.ledger.proofs.ListLaws.{sum-more, sum-first}
 use Rattle.ledger.proofs.BookLaws.{total-small}
 use Rattle.ledger.proofs.LentBills.{after-test}
+use Rattle.ledger.proofs.BillAtLaws.{BillAt, lent, lent-val, Lent, to-at, goes-at, Told, said-at}
 use Rattle.ledger.proofs.Bill as B
 use Rattle.ledger.proofs.Bill.Laws as B′
-use Rattle.ledger.proofs.books.bill_at as bill-at
 use Rattle.ledger.proofs.books.bill_at.Symbol as bill-at-def
 use Rattle.ledger.proofs.books.bill_at.Symbol.{name as #ledger·books·bill-at}
 use Rattle.ledger.proofs.books.bill_at.Met as bill-at-thm
@@ -83,9 +81,6 @@ abbrev slice : Ty
 slice = sliceTy (tyRef (named 0) imm (pointee (B.the-row .written)))
 
 -- the contracts that the proof cites
-abbrev BillAt : {M : Type 1} (𝓤 : URA M) (H : Heap 𝓤) (A : Atoms 𝓤) (mem : Memory → SProp 𝓤) (run : Routine → Fun 𝓤) → Contract 𝓤
-BillAt 𝓤 H A mem run = tripleOf 𝓤 H A bill-at.signature (bill-at.spec 𝓤 H A mem run)
-
 abbrev AddCharge : {M : Type 1} (𝓤 : URA M) (H : Heap 𝓤) (A : Atoms 𝓤) (mem : Memory → SProp 𝓤) (run : Routine → Fun 𝓤) → Contract 𝓤
 AddCharge 𝓤 H A mem run = tripleOf 𝓤 H A add-charge.signature (add-charge.spec 𝓤 H A mem run)
 
@@ -115,13 +110,13 @@ module _ {M : Type 1} (𝓤 : URA M) (H : Heap 𝓤) (A : Atoms 𝓤) (W : Given
   n = length ys
 
   abbrev y : RefT (List Bill)
-  y = record { ptr = (b, o); name = γ; now = ys }
+  y = lent κ b o γ ys
 
   abbrev s : Val
-  s = sliceVal (b, o) n
+  s = lent-val κ b o γ ys
 
   abbrev Own : Fml
-  Own = ShrSlice (named 0) κ B.the-row .own y (s ∷ [])
+  Own = Lent κ b o γ ys
 
   abbrev Post : Val → SProp 𝓤
   Post = walkOf 𝓤 H A total.ended stayed (total.clauses 𝓤 H A mem run) .post (((κ, tt), (q, tt), tt, (y, tt), (s ∷ [], tt)), tt)
@@ -132,16 +127,6 @@ module _ {M : Type 1} (𝓤 : URA M) (H : Heap 𝓤) (A : Atoms 𝓤) (W : Given
       frame ! $ nothing ! $ move ! (1 ∷ 0 ∷ []) $ fjoin ! $ owned ! U.the-row (Is U.the-row) (LL.makes U.the-type U′.the-plain 𝓤 H A) r _ is $ move ! (1 ∷ 0 ∷ []) $ done !
 
   -- ---- the calls of a turn
-  abbrev to-at : ℕ → BillAt 𝓤 H A mem run .Ghost
-  to-at i = (((κ, tt), (q, tt), tt, (y, (i, tt)), (s ∷ [], (vint w64 i ∷ [], tt))), tt)
-
-  goes-at : (i : ℕ) → i < n → ent 𝓤 (⋆ 𝓤 H A ((‵ (flft κ q) ⊛ ‵ ftrue) ∷ ‵ Own ∷ [])) (BillAt 𝓤 H A mem run .pre (to-at i))
-  goes-at i l =
-      qed W ((‵ (flft κ q) ⊛ ‵ ftrue) ∷ ‵ Own ∷ []) ∵ says ! l $ frame ! $ nothing ! $ owned ! usize (Is usize) (uint-makes 𝓤 H A W w64) i _ (refl, lt-trans l (room .0)) $ fjoin ! $ move ! (1 ∷ 0 ∷ []) $ fjoin ! $ done !
-
-  said-at : (i : ℕ) (r : Bill) → ent 𝓤 (ensured 𝓤 H A bill-at.ended (bill-at.clauses 𝓤 H A mem run) (κ, tt) (y, (i, tt)) tt r) (fact 𝓤 (r ≡ getD ys i blankBill))
-  said-at i r = exE 𝓤 _ (λ ws. snd∗ 𝓤 (sem 𝓤 H A (lasts bill-at.ended (κ, tt) (y, (i, tt)) ws)) (fact 𝓤 (r ≡ getD ys i blankBill)))
-
   abbrev to-add : Cents → Val → Bill → Val → AddCharge 𝓤 H A mem run .Ghost
   to-add m u r v = ((tt, tt, tt, (m, (r, tt)), (u ∷ [], (v ∷ [], tt))), tt)
 
@@ -186,11 +171,11 @@ module _ {M : Type 1} (𝓤 : URA M) (H : Heap 𝓤) (A : Atoms 𝓤) (W : Given
         first ! $ branches ! (load ! (from ! (stop !)) (look ! 2 refl))
         (λ less. skips ! $ exec ! C Λ En (after-test mir.turn-1) (anyQ (Turned c)) $
         move ! (15 ∷ []) $ use1 W (‵ Own ⊛ ‵ Own) (shr-slice-copy 𝓤 H A W (named 0) κ B.the-row .twice y (s ∷ [])) $ split ! $
-        move ! (16 ∷ 0 ∷ []) $ use2 W (raw (BillAt 𝓤 H A mem run .pre (to-at (c .i)))) (goes-at (c .i) (ltb→lt (c .i) n less)) $
+        move ! (16 ∷ 0 ∷ []) $ use2 W (raw (BillAt 𝓤 H A mem run .pre (to-at κ b o γ ys 𝓤 H A mem run q (c .i)))) (goes-at κ b o γ ys 𝓤 H A mem run q (c .i) W room (ltb→lt (c .i) n less)) $
         -- [what `bill_at` asks; what the slice owns; _6; …; _5; …; _4; …; _3; …; _2; …; _1; …; room for _0; …]
-        calls-at ! (fmOf 𝓤 H (W .laws) 𝓣) (BillAt 𝓤 H A mem run) known-at (to-at (c .i)) (and-then ! (load ! (from ! (stop !)) (look ! 12 refl)) (and-then ! (load ! (from ! (stop !)) (look ! 8 refl)) (no-more !))) (λ v.
-        use1 W (later (some (λ (r : Bill). ((‵ (flft κ q) ⊛ ‵ ftrue) ⊛ ‵ (B.the-row .own r (v ∷ []))) ⊛ raw (ensured 𝓤 H A bill-at.ended (bill-at.clauses 𝓤 H A mem run) (κ, tt) (y, (c .i, tt)) tt r)))) (id⊢ 𝓤 _) $ await ! tt $ pick ! (λ r.
-        split ! $ move ! (1 ∷ []) $ use1 W (raw (fact 𝓤 (r ≡ getD ys (c .i) blankBill))) (said-at (c .i) r) $ heard ! (r ≡ getD ys (c .i) blankBill) (λ e. split ! $ move ! (1 ∷ []) $
+        calls-at ! (fmOf 𝓤 H (W .laws) 𝓣) (BillAt 𝓤 H A mem run) known-at (to-at κ b o γ ys 𝓤 H A mem run q (c .i)) (and-then ! (load ! (from ! (stop !)) (look ! 12 refl)) (and-then ! (load ! (from ! (stop !)) (look ! 8 refl)) (no-more !))) (λ v.
+        use1 W (later (some (λ (r : Bill). ((‵ (flft κ q) ⊛ ‵ ftrue) ⊛ ‵ (B.the-row .own r (v ∷ []))) ⊛ raw (Told κ b o γ ys 𝓤 H A mem run q (c .i) r)))) (id⊢ 𝓤 _) $ await ! tt $ pick ! (λ r.
+        split ! $ move ! (1 ∷ []) $ use1 W (raw (fact 𝓤 (r ≡ getD ys (c .i) blankBill))) (said-at κ b o γ ys 𝓤 H A mem run q (c .i) r) $ heard ! (r ≡ getD ys (c .i) blankBill) (λ e. split ! $ move ! (1 ∷ []) $
         peeks ! B.the-row (Is B.the-row) (shows 𝓤 H A B.the-row) r (v ∷ []) (λ is. drop ! $
         -- [the token; what the slice owns; room for _6; …]
         land ! (from ! (stop !)) (init ! 2 refl (LL.lawful B.the-type B′.the-laws 𝓤 H A W .typed r _ is .0)) $
