@@ -2,3 +2,6 @@
 pub mod ListLaws
 pub mod BookLaws
 pub mod SoundLaws
+pub mod LendArray
+pub mod LentBills
+pub mod BillAtLaws

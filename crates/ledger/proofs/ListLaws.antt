@@ -6,8 +6,8 @@ use mathlib.Core.List.{List, [], _∷_, _++_}
 use native.Mathlib.Omega.{arith}
 use native.Mathlib.Nat.{not-suc-le-zero, le-of-suc-le-suc}
 use native.Mathlib.Numerals.{add-one}
-use lib.ListN.{length, getD, set}
-use lib.Seq.{slice, slice-cons, slice-empty}
+use lib.ListN.{length, getD, set, take, drop, take-append-drop}
+use lib.Seq.{slice, slice-cons, slice-empty, take-suc}
 use Rattle.fields.proofs.BoolLaws.{and-left, and-right}
 use Rattle.ledger.specs.declared.Found.{Found}
 use Rattle.ledger.specs.declared.Found.the-variants.{At}
@@ -55,6 +55,13 @@ module _ {A : Type 0} where
   sum-append f [] ys = omega arith
   sum-append f (x ∷ xs) ys = omega (arith, sum-append f xs ys)
 
+  -- the sum over the first elements: with one more, and against the whole
+  pub sum-more : (f : A → ℕ) (xs : List A) (i : ℕ) (d : A) → i < length xs → sum f (take (i + 1) xs) ≡ sum f (take i xs) + f (getD xs i d)
+  sum-more f xs i d h = rw (add-one i, take-suc xs i d h) (omega (arith, sum-append f (take i xs) (getD xs i d ∷ [])))
+
+  pub sum-first : (f : A → ℕ) (xs : List A) (i : ℕ) → sum f (take i xs) ≤ sum f xs
+  sum-first f xs i = omega (arith, sum-append f (take i xs) (drop i xs), ap (sum f) (take-append-drop i xs))
+
   -- one element replaced: the new sum and what went make the old sum and what came
   pub sum-set : (f : A → ℕ) (xs : List A) (i : ℕ) (y d : A) → i < length xs → sum f (set xs i y) + f (getD xs i d) ≡ sum f xs + f y
   sum-set f [] i y d h = omega arith
@@ -75,15 +82,6 @@ module _ {A : Type 0} where
 module _ {A : Type 0} (n i : ℕ) (xs : List A) (d : A) (h : i < n) (k : n ≤ length xs) where
   pub slice-step : slice i n xs ≡ getD xs i d ∷ slice (i + 1) n xs
   slice-step = simp (slice-cons i n xs d h k, add-one i)
-
-  pub sum-step : (f : A → ℕ) → sum f (slice i n xs) ≡ f (getD xs i d) + sum f (slice (i + 1) n xs)
-  sum-step f = rw slice-step
-
-  pub every-head : (p : A → Bool) → every p (slice i n xs) ≡ true → p (getD xs i d) ≡ true
-  every-head p a = and-left (p (getD xs i d)) (every p (slice (i + 1) n xs)) (rw slice-step at a)
-
-  pub every-tail : (p : A → Bool) → every p (slice i n xs) ≡ true → every p (slice (i + 1) n xs) ≡ true
-  every-tail p a = and-right (p (getD xs i d)) (every p (slice (i + 1) n xs)) (rw slice-step at a)
 
   pub has-hit : (p : A → Bool) → p (getD xs i d) ≡ true → has p (slice i n xs) ≡ true
   has-hit p e = rw (slice-step, e)

@@ -1,10 +1,12 @@
 // The ledger: its bills found, replaced, added and summed, and the signed change of its total.
 ghost use mathlib.Core.Path.{_≡_};
 ghost use mathlib.Core.Bool.{true};
-ghost use Prim.Native.Nat.{_<_, _≤_, _^_};
+ghost use Prim.Native.Nat.{_+_, _<_, _≤_, _^_};
+ghost use lib.ListN.{length, getD, take};
 ghost use lib.IntN.{pos, _-ℤ_};
 ghost use Rattle.ledger.specs.Lists.{every};
-ghost use Rattle.ledger.specs.Books.{emptyLedger, live, placeOf, replaced, appended, smallCharge, totalOf};
+ghost use Rattle.ledger.specs.Bills.{blankBill};
+ghost use Rattle.ledger.specs.Books.{emptyLedger, live, placeOf, replaced, appended, billCharge, smallCharge, totalOf};
 use crate::Bill;
 use crate::Found;
 use crate::Identity;
@@ -69,17 +71,49 @@ impl Ledger {
         requires { ⌜ (self .count ≤ 128) × (every smallCharge (live self) ≡ true) ⌝ }
         ensures { λ r. ⌜ r .0 ≡ totalOf (live self) ⌝ }
     {
+        let b = self.bills;
         let n = self.count;
-        let mut sum = Cents(0);
-        let mut i = 0;
-        while i < n {
-            let b = self.bills[i];
-            let p = b.posted;
-            sum = sum.plus(p.charge());
-            i += 1;
-        }
-        sum
+        total_first(b, n)
     }
+}
+
+// A bill of a lent slice.
+pub fn bill_at(bills: &[Bill], i: usize) -> Bill
+    requires { ⌜ i < length (now bills) ⌝ }
+    ensures { λ r. ⌜ r ≡ getD (now (bills .entry)) i blankBill ⌝ }
+{
+    bills[i]
+}
+
+// A sum, and the charge of one bill more.
+fn add_charge(sum: Cents, b: Bill) -> Cents
+    requires { ⌜ sum .0 + billCharge b < 2 ^ 64 ⌝ }
+    ensures { λ r. ⌜ r .0 ≡ sum .0 + billCharge b ⌝ }
+{
+    let p = b.posted;
+    sum.plus(p.charge())
+}
+
+// The sum of the posted charges of lent bills.
+pub fn total(bills: &[Bill]) -> Cents
+    requires { ⌜ (length (now bills) ≤ 128) × (every smallCharge (now bills) ≡ true) ⌝ }
+    ensures { λ r. ⌜ r .0 ≡ totalOf (now (bills .entry)) ⌝ }
+{
+    let mut sum = Cents(0);
+    let mut i: usize = 0;
+    while i < bills.len() {
+        sum = add_charge(sum, bill_at(bills, i));
+        i += 1;
+    }
+    sum
+}
+
+// The same of an array's first n bills, which it lends. It takes no slice, so callers need no walk by hand.
+fn total_first(bills: [Bill; 128], n: usize) -> Cents
+    requires { ⌜ (n ≤ 128) × (every smallCharge (take n bills) ≡ true) ⌝ }
+    ensures { λ r. ⌜ r .0 ≡ totalOf (take n bills) ⌝ }
+{
+    total(&bills[..n])
 }
 
 // The signed change of a total.

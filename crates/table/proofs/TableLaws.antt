@@ -5,12 +5,12 @@ use mathlib.Core.Bool.{Bool, true, false}
 use mathlib.Core.List.{List, [], _∷_, _++_, append-assoc, append-nil}
 use native.Mathlib.Omega.{arith}
 use native.Mathlib.Numerals.{add-one}
-use lib.ListN.{length, getD, take, length-append}
-use lib.Seq.{take-suc}
+use lib.ListN.{length, getD, take, drop, length-append, take-append-drop}
+use lib.Seq.{take-suc, length-take-le}
 use Rattle.fields.specs.Digits.{digits, number}
 use Rattle.fields.specs.Put.{put}
 use Rattle.fields.proofs.DigitLaws.{length-digits, number-digits}
-use Rattle.fields.proofs.PutLaws.{Wrote, next}
+use Rattle.fields.proofs.PutLaws.{length-put, first, next}
 use Rattle.units.specs.declared.Date.{Date}
 use Rattle.ledger.specs.declared.Posted.{Posted}
 use Rattle.ledger.specs.declared.Terms.{Terms}
@@ -73,19 +73,17 @@ lines-more today bs i h =
     ∙ lines-append today (take i bs) (getD bs i blankBill ∷ [])
     ∙ ap (λ (l : List ℕ). linesOf today (take i bs) ++ l) (append-nil (lineOf today (getD bs i blankBill)))
 
--- a turn of the loop over the bills
-pub line-more : {xs us vs : List ℕ} {at : ℕ} (today : Date) (bs : List Bill) (i end : ℕ) → i < length bs
-    → Wrote xs at us (linesOf today (take i bs)) (85 * i) → end ≡ at + 85 * i
-    → vs ≡ put us end (lineOf today (getD bs i blankBill)) → Wrote xs at vs (linesOf today (take (i + 1) bs)) (85 * (i + 1))
-line-more {xs} {us} {vs} {at} today bs i end h w e f =
-    let b : Bill = getD bs i blankBill in
-    let t = next w (lineOf today b) (f ∙ ap (λ (k : ℕ). put us k (lineOf today b)) e) (length-line today b) in
-    let m : linesOf today (take (i + 1) bs) ≡ linesOf today (take i bs) ++ lineOf today b = lines-more today bs i h in
-    record {
-      same = t .same ∙ ap (put xs at) (sym m);
-      long = ap (λ (l : List ℕ). length l) m ∙ t .long ∙ (omega arith);
-      fits = t .fits;
-    }
+-- the output with the lines of the first i bills: it keeps its length, and one line more
+module _ (xs : List ℕ) (at : ℕ) (today : Date) (bs : List Bill) (i : ℕ) where
+  pub lines-kept : at + 85 * length bs ≤ length xs → length (put xs at (linesOf today (take i bs))) ≡ length xs
+  lines-kept h = length-put xs at (linesOf today (take i bs)) (omega (arith, length-lines today (take i bs), length-append (take i bs) (drop i bs), ap (λ (l : List Bill). length l) (take-append-drop i bs), h))
+
+  pub line-more : at ≤ length xs → i < length bs
+      → put xs at (linesOf today (take (i + 1) bs)) ≡ put (put xs at (linesOf today (take i bs))) (at + 85 * i) (lineOf today (getD bs i blankBill))
+  line-more h l =
+      let k : length (linesOf today (take i bs)) ≡ 85 * i = length-lines today (take i bs) ∙ ap (λ (j : ℕ). 85 * j) (length-take-le i bs (omega arith)) in
+      let w = first xs at (linesOf today (take i bs)) h refl k in
+      ap (put xs at) (lines-more today bs i l) ∙ sym (next w (lineOf today (getD bs i blankBill)) refl (length-line today _) .same)
 
 -- ---- the whole
 -- a table has at most 10,970 bytes

@@ -3,7 +3,7 @@ ghost use mathlib.Core.Path.{_≡_};
 ghost use mathlib.Core.Bool.{true};
 ghost use mathlib.Core.List.{[], _∷_};
 ghost use Prim.Native.Nat.{_+_, _*_, _≤_};
-ghost use lib.ListN.{length};
+ghost use lib.ListN.{length, take};
 ghost use Rattle.fields.specs.Digits.{digits};
 ghost use Rattle.fields.specs.Put.{put};
 ghost use Rattle.ledger.specs.Lists.{every};
@@ -17,6 +17,7 @@ use ledger::Product;
 use ledger::RateCode;
 use ledger::State;
 use ledger::Terms;
+use ledger::books;
 use units::Cents;
 use units::Date;
 
@@ -110,23 +111,27 @@ fn put_line(out: &mut [u8], at: usize, b: Bill, today: Date)
     put_state(out, at + 83, terms, today);
 }
 
-// Writes the bills' lines, and answers where they end.
-fn put_lines(out: &mut [u8], at: usize, l: Ledger) -> usize
-    requires { ⌜ (l .count ≤ 128) × (at + 10880 ≤ length (now out)) ⌝ }
-    ensures { λ r. ⌜ r ≡ at + 85 * l .count ⌝ }
-    ensures { λ _. ⌜ now (out .exit) ≡ put (now (out .entry)) at (linesOf (l .today) (live l)) ⌝ }
+// Writes the lines of lent bills, and answers where they end.
+fn put_lines(bills: &[Bill], out: &mut [u8], at: usize, today: Date) -> usize
+    requires { ⌜ at + 85 * length (now bills) ≤ length (now out) ⌝ }
+    ensures { λ r. ⌜ (r ≡ at + 85 * length (now (bills .entry))) × (now (out .exit) ≡ put (now (out .entry)) at (linesOf today (now (bills .entry)))) ⌝ }
 {
-    let n = l.count;
-    let today = l.today;
     let mut end = at;
-    let mut i = 0;
-    while i < n {
-        let b = l.bills[i];
-        put_line(out, end, b, today);
+    let mut i: usize = 0;
+    while i < bills.len() {
+        put_line(out, end, books::bill_at(bills, i), today);
         end += 85;
         i += 1;
     }
     end
+}
+
+// The same of an array's first n bills, which it lends. It takes no slice of bills, so callers need no walk by hand.
+fn lines_first(bills: [Bill; 128], n: usize, out: &mut [u8], at: usize, today: Date) -> usize
+    requires { ⌜ (n ≤ 128) × (at + 85 * n ≤ length (now out)) ⌝ }
+    ensures { λ r. ⌜ (r ≡ at + 85 * n) × (now (out .exit) ≡ put (now (out .entry)) at (linesOf today (take n bills))) ⌝ }
+{
+    put_lines(&bills[..n], out, at, today)
 }
 
 // Writes the total's line, 23 bytes.
@@ -164,7 +169,10 @@ pub fn write(out: &mut [u8], l: Ledger, stopped: bool) -> usize
         0,
         b"account,key,code,kind,seq,ccf,charge,applied,owed,state\n",
     );
-    let end = put_lines(out, 56, l);
+    let bills = l.bills;
+    let n = l.count;
+    let today = l.today;
+    let end = lines_first(bills, n, out, 56, today);
     let total = l.total();
     put_total(out, end, total);
     put_stop(out, end + 23, stopped)

@@ -20,8 +20,8 @@ slice-aggregate-put-bytes c = search needs
 put-bytes-requires : tie.Need-put-bytes-requires
 put-bytes-requires c κs = search needs
 
-put-lines-requires : tie.Need-put-lines-requires
-put-lines-requires c κs = search needs
+lines-first-requires : tie.Need-lines-first-requires
+lines-first-requires c κs = search needs
 
 total-requires : tie.Need-total-requires
 total-requires c κs = search needs
@@ -41,19 +41,19 @@ same-length c = search needs
 returns : tie.Need-returns
 unfolding tableOf heading ended
 returns c =
-    let a = c .before .before .before .before .before .before .before .before .before .before .before .before .before .before .before .before .before .before .before .args in
+    let a = c .before .before .before .before .before .before .before .before .before .before .before .before .before .before .before .before .before .before .before .before .before .args in
     let l : Ledger = a .l in
     let stop : List ℕ = stopLine (a .stopped) in
-    let k : length (live l) ≡ l .count = length-live l (omega (arith, places l _ (c .before .before .before .before .before .before .before .before .before .before .before .before .before .before .before .before .before .before .before .good .1 .0), c .before .before .before .before .before .before .before .before .before .before .before .before .before .before .before .before .before .before .before .pre .0)) in
+    let k : length (live l) ≡ l .count = length-live l (omega (arith, places l _ (c .before .before .before .before .before .before .before .before .before .before .before .before .before .before .before .before .before .before .before .before .before .good .1 .0), c .before .before .before .before .before .before .before .before .before .before .before .before .before .before .before .before .before .before .before .before .before .pre .0)) in
     let m : length (linesOf (l .today) (live l)) ≡ 85 * l .count = length-lines (l .today) (live l) ∙ ap (λ (j : ℕ). 85 * j) k in
-    let e1 : c .before .before .before .before .before .before .before .before .before .before .before .put-lines .result ≡ 0 + (56 + 85 * l .count) = omega (arith, c .before .before .before .before .before .before .before .before .before .before .before .put-lines .ensures .0) in
-    let e2 : c .before .before .before .before .before .before .before .before .before .before .before .put-lines .result + 23 ≡ 0 + (56 + 85 * l .count + 23) = omega (arith, e1) in
-    let w1 = first (a .out .now) 0 heading (omega arith) (c .before .before .before .before .before .before .before .before .before .before .before .before .before .before .before .put-bytes .ensures) refl in
-    let w2 = next w1 _ (c .before .before .before .before .before .before .before .before .before .before .before .put-lines .ensures .1) m in
+    let e1 : c .before .before .before .before .before .before .before .before .before .before .before .lines-first .result ≡ 0 + (56 + 85 * l .count) = omega (arith, c .before .before .before .before .before .before .before .before .before .before .before .lines-first .ensures .0) in
+    let e2 : c .before .before .before .before .before .before .before .before .before .before .before .lines-first .result + 23 ≡ 0 + (56 + 85 * l .count + 23) = omega (arith, e1) in
+    let w1 = first (a .out .now) 0 heading (omega arith) (c .before .before .before .before .before .before .before .before .before .before .before .before .before .before .before .before .before .put-bytes .ensures) refl in
+    let w2 = next w1 _ (c .before .before .before .before .before .before .before .before .before .before .before .lines-first .ensures .1) m in
     let w3 = next w2 (totalLine (totalOf (live l))) (rw (e1, c .before .before .before .before .before .before .before .before .total .ensures) at (c .before .before .before .before .before .before .put-total .ensures)) (length-total _) in
     let w4 = next w3 stop (rw e2 at (c .before .before .put-stop .ensures .1)) refl in
     let r : c .before .before .put-stop .result ≡ length (tableOf (book l) (a .stopped)) = c .before .before .put-stop .ensures .0 ∙ (omega (arith, w4 .long, e2)) in
-    (r, (w4 .same, omega (arith, r, length-table (book l) (a .stopped) (omega (arith, k, c .before .before .before .before .before .before .before .before .before .before .before .before .before .before .before .before .before .before .before .pre .0)))))
+    (r, (w4 .same, omega (arith, r, length-table (book l) (a .stopped) (omega (arith, k, c .before .before .before .before .before .before .before .before .before .before .before .before .before .before .before .before .before .before .before .before .before .pre .0)))))
 
 pub write-spec : {M : Type 1} → statement M
 write-spec =
@@ -61,7 +61,7 @@ write-spec =
     (tie.spec
     slice-aggregate-put-bytes
     put-bytes-requires
-    put-lines-requires
+    lines-first-requires
     total-requires
     put-total-requires
     add-put-stop
