@@ -9,17 +9,19 @@ use lib.ListN.{length, take, drop, length-append, length-drop}
 use lib.Seq.{length-take-le, take-add, drop-at}
 use Rattle.fields.specs.Put.{part, put}
 use Rattle.fields.proofs.PutLaws.{part-put}
+use Rattle.ledger.specs.declared.Ledger.{Ledger}
 use Rattle.ledger.specs.Books.{Book, book}
 use Rattle.journal.specs.Journal.{Parsed, parse, parseUpTo, makes}
 use Rattle.journal.proofs.JournalLaws.{parse-append}
 use Rattle.journal.proofs.BeginLaws.{makes-append}
 use Rattle.replay.specs.declared.Reader.{Reader}
 use Rattle.replay.specs.declared.Walked.{Walked}
-use Rattle.replay.specs.Reader.{Good, Walks, Read, Feeds}
+use Rattle.replay.specs.Reader.{Good, leaves, Walks, Read, Feeds}
+use Rattle.replay.proofs.ReaderLaws.{leaves-append}
 
 pub read-none : (r : Reader) → Good r → Read r [] r false []
-unfolding parse parseUpTo makes
-read-none r g = record { good = g; ledger = refl; seen = sym (add-zero (r .seen)); ends = refl; left = refl }
+unfolding parse parseUpTo makes leaves
+read-none r g = record { good = g; ledger = refl; whole = refl; seen = sym (add-zero (r .seen)); ends = refl; left = refl }
 
 -- one piece more, behind what is left
 module _ (r : Reader) (s : List ℕ) (k : Reader) (rest : List ℕ) (q : Read r s k false rest) (ys : List ℕ) where
@@ -44,6 +46,11 @@ module _ (r : Reader) (s : List ℕ) (k : Reader) (rest : List ℕ) (q : Read r 
             ∙ ap (λ (m : Book). makes m (second .entries)) (q .ledger)
             ∙ sym (makes-append (book (r .ledger)) (first .entries) (second .entries))
             ∙ ap (λ (p : Parsed). makes (book (r .ledger)) (p .entries)) (sym both);
+        whole =
+            x .whole
+            ∙ ap (λ (m : Ledger). leaves m (second .entries)) (q .whole)
+            ∙ sym (leaves-append (r .ledger) (first .entries) (second .entries))
+            ∙ ap (λ (p : Parsed). leaves (r .ledger) (p .entries)) (sym both);
         seen =
             omega (
               arith,
@@ -93,6 +100,7 @@ module _ (r : Reader) (n : ℕ) (before after : List ℕ) (w : Walked) (have : �
             record {
               good = x .good;
               ledger = x .ledger;
+              whole = x .whole;
               seen = x .seen;
               ends = x .stopped;
               left = ap (take have) bytes ∙ front before rest have (sym size);

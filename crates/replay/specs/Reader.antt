@@ -2,13 +2,14 @@
 use Prim.Native.Nat.{ℕ, _+_, _≤_}
 use mathlib.Core.Path.{_≡_}
 use mathlib.Core.Bool.{Bool, true}
-use mathlib.Core.List.{List, map}
+use mathlib.Core.List.{List, [], _∷_, map}
 use lib.ListN.{length, take, drop, replicate}
 use Rattle.fields.specs.Put.{put}
 use Rattle.ledger.specs.declared.Bill.{Bill}
-use Rattle.ledger.specs.Books.{book, emptyLedger}
+use Rattle.ledger.specs.declared.Ledger.{Ledger}
+use Rattle.ledger.specs.Books.{book, stored, emptyLedger}
 use Rattle.ledger.specs.Sound.{soundLedger}
-use Rattle.journal.specs.Journal.{parse, makes}
+use Rattle.journal.specs.Journal.{Entry, parse, made, makes}
 use Rattle.replay.specs.declared.Reader.{Reader}
 use Rattle.replay.specs.declared.Walked.{Walked}
 use Rattle.replay.specs.declared.Fed.{Fed}
@@ -35,11 +36,17 @@ started =
       seen = 0;
     }
 
+-- the struct after some entries: each leaves the book that it makes and, past its bills, what the struct held
+unfoldable pub leaves : Ledger → List Entry → Ledger
+leaves l [] = l
+leaves l (e ∷ es) = leaves (stored l (made (e .body) (e .bytes) (book l))) es
+
 -- the whole entries at the start of src were made on the ledger of r, and the bytes after them are left
 pub record Walks (r : Reader) (src : List ℕ) (w : Walked) : Type 0 where
   pub good : Good (w .reader)
   pub used : w .used ≤ length src
   pub ledger : book (w .reader .ledger) ≡ makes (book (r .ledger)) (parse (r .seen) src .entries)
+  pub whole : w .reader .ledger ≡ leaves (r .ledger) (parse (r .seen) src .entries)
   pub seen : w .reader .seen ≡ r .seen + length (parse (r .seen) src .entries)
   pub stopped : w .stopped ≡ parse (r .seen) src .stopped
   pub rest : drop (w .used) src ≡ parse (r .seen) src .rest
@@ -49,6 +56,7 @@ pub record Walks (r : Reader) (src : List ℕ) (w : Walked) : Type 0 where
 pub record Read (r : Reader) (s : List ℕ) (k : Reader) (stopped : Bool) (rest : List ℕ) : Type 0 where
   pub good : Good k
   pub ledger : book (k .ledger) ≡ makes (book (r .ledger)) (parse (r .seen) s .entries)
+  pub whole : k .ledger ≡ leaves (r .ledger) (parse (r .seen) s .entries)
   pub seen : k .seen ≡ r .seen + length (parse (r .seen) s .entries)
   pub ends : stopped ≡ parse (r .seen) s .stopped
   pub left : rest ≡ parse (r .seen) s .rest
