@@ -1,7 +1,7 @@
 // Standard input in pieces, for the programs.
 ghost use Prim.Native.Nat.{_≤_};
 ghost use lib.ListN.{length};
-ghost use Rattle.input.specs.Filled.{Holds};
+ghost use Rattle.input.specs.Filled.{Fills};
 use libc::STDIN_FILENO;
 
 // What a read came to: the buffer holds so many bytes, the input has ended, or the read failed.
@@ -14,7 +14,7 @@ pub enum Filled {
 // Reads bytes of standard input into buf from index `have` on.
 pub fn fill(buf: &mut [u8], have: usize) -> Filled
     requires { ⌜ have ≤ length (now buf) ⌝ }
-    ensures { λ r. ⌜ Holds have (length (now (buf .exit))) r ⌝ }
+    ensures { λ r. ⌜ Fills have (now (buf .entry)) (now (buf .exit)) r ⌝ }
 {
     let got = libc::read(STDIN_FILENO, &mut buf[have..]);
     if got < 0 {

@@ -4,8 +4,8 @@ pub mod make;
 ghost use mathlib.Core.Path.{_≡_};
 ghost use mathlib.Core.Bool.{true};
 ghost use Prim.Native.Nat.{_+_, _-_, _≤_, _<_};
-ghost use lib.ListN.{length, take, drop};
-ghost use Rattle.fields.specs.Put.{part};
+ghost use lib.ListN.{length};
+ghost use Rattle.fields.specs.Put.{part, put};
 ghost use Rattle.journal.specs.Entries.{codeIn, freshBody, requestBody, cancelBody, closeBody, bodyOf, goodLength, inTurn, wholeOf, headBy, headOf};
 use calls::CodeField;
 use calls::Request;
@@ -217,7 +217,7 @@ pub fn head_at(s: &[u8], seen: u64) -> Head
 // Moves the bytes from index `from` up to n to the start, and answers how many there are.
 pub fn keep(buf: &mut [u8], from: usize, n: usize) -> usize
     requires { ⌜ (from ≤ n) × (n ≤ length (now buf)) ⌝ }
-    ensures { λ r. ⌜ (r ≡ n - from) × (take r (now (buf .exit)) ≡ take r (drop from (now (buf .entry)))) ⌝ }
+    ensures { λ r. ⌜ (r ≡ n - from) × (now (buf .exit) ≡ put (now (buf .entry)) 0 (part (now (buf .entry)) from (n - from))) ⌝ }
 {
     let mut i = 0;
     let mut j = from;

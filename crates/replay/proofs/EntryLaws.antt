@@ -26,6 +26,7 @@ use Rattle.verdict.specs.Lines.{isNothing}
 use Rattle.groups.specs.Groups.{taken}
 use Rattle.groups.specs.Steps.{billAt}
 use Rattle.groups.proofs.TurnLaws.{stored-book}
+use Rattle.groups.proofs.GroupWalk.{book-stored}
 use Rattle.calls.specs.declared.Start.{Start}
 use Rattle.calls.specs.declared.Request.{Request}
 use Rattle.calls.specs.declared.Called.{Called}
@@ -81,6 +82,26 @@ module _ (l : Ledger) (c : Call) where
   ran-stop : (n : ℕ) → causeIn l c ≡ Stop n → ran l (c ∷ []) ≡ l
   unfolding ran
   ran-stop n e = sym (ap (λ (r : Called). r .ledger) (called-stop l c n e))
+
+  -- past its bills the struct holds what it held
+  ran-one : l .count ≤ length (l .bills) → ran l (c ∷ []) ≡ stored l (book (ran l (c ∷ [])))
+  ran-one h = go (causeIn l c) refl
+    where
+      go : (k : Check) → causeIn l c ≡ k → ran l (c ∷ []) ≡ stored l (book (ran l (c ∷ [])))
+      go Clear e = let x = ran-clear e in x ∙ ap (stored l) (sym (ap book x ∙ book-stored l (next (book l) c)))
+      go (Stop n) e = let x = ran-stop n e in x ∙ sym (stored-book l h) ∙ ap (λ (k : Ledger). stored l (book k)) (sym x)
+
+ran-none : (l : Ledger) → l .count ≤ length (l .bills) → ran l [] ≡ stored l (book (ran l []))
+unfolding ran
+ran-none l h = sym (stored-book l h)
+
+ran-kept : (b : Body) (s : List ℕ) (l : Ledger) → l .count ≤ length (l .bills) → ran l (callOf b s) ≡ stored l (book (ran l (callOf b s)))
+ran-kept (body.Fresh x) s l h = ran-none l h
+ran-kept (body.Request r) s l h = ran-one l (request r 64200) h
+ran-kept body.File s l h = ran-one l (file s 64200) h
+ran-kept (body.Cancel id) s l h = ran-one l (cancel id 64200) h
+ran-kept (body.Close d) s l h = ran-one l (close d) h
+ran-kept body.Unread s l h = ran-none l h
 
 -- the struct after them: only a file has any
 abbrev pub filed : Body → List ℕ → Ledger → Ledger
@@ -197,23 +218,28 @@ unfolding ran
 unread-by l p = kept-same l p
 
 -- ---- an entry, its groups taken
--- the book that an entry leaves, and that it is sound
+-- the struct that an entry leaves, and that it is sound
 pub record Entered (b : Body) (s : List ℕ) (l k : Ledger) : Type 0 where
-  pub books : book k ≡ made b s (book l)
+  pub whole : k ≡ stored l (made b s (book l))
   pub sure : soundLedger k ≡ true
 
-entered-by : (b : Body) (s : List ℕ) (l k : Ledger) → soundLedger l ≡ true → made b s (book l) ≡ after (book l) (callOf b s) → k ≡ ran l (callOf b s)
-    → Entered b s l k
-entered-by b s l k h n e =
+entered-by : (b : Body) (s : List ℕ) (l k : Ledger) → length (l .bills) ≡ 128 → soundLedger l ≡ true
+    → made b s (book l) ≡ after (book l) (callOf b s) → k ≡ ran l (callOf b s) → Entered b s l k
+entered-by b s l k long h n e =
     record {
-      books = ap book e ∙ runs l h (callOf b s) .ledger ∙ sym n;
+      whole = e ∙ ran-kept b s l (fits l long h) ∙ ap (stored l) (runs l h (callOf b s) .ledger ∙ sym n);
       sure = rw e (runs l h (callOf b s) .kept);
     }
 
-fresh-entered : (x : Start) (s : List ℕ) (l : Ledger) (bs : List Bill) → first (freshCauses x) ≡ Clear
+fresh-entered : (x : Start) (s : List ℕ) (l : Ledger) (bs : List Bill) → bs ≡ l .bills → first (freshCauses x) ≡ Clear
     → Entered (body.Fresh x) s l (record { today = x .today; «next_tracking» = x .tracking; «next_confirmation» = x .confirmation; count = 0; bills = bs })
 unfolding soundLedger
-fresh-entered x s l bs e = record { books = refl; sure = fresh-sound x e }
+fresh-entered x s l bs q e =
+    record {
+      whole =
+          ap (λ (m : List Bill). record { today = x .today; «next_tracking» = x .tracking; «next_confirmation» = x .confirmation; count = 0; bills = m }) q;
+      sure = fresh-sound x e;
+    }
 
 -- the bill at an entry's place
 pub sound-for : (k : Ledger) → length (k .bills) ≡ 128 → soundLedger k ≡ true → (ns ks : List ℕ) → Lists k ns ks → (b : Body) (f : Found) (p : ℕ)
@@ -228,21 +254,22 @@ sound-for k long h ns ks w (body.Cancel id) f p e q =
 sound-for k long h ns ks w (body.Close d) f p e q = rw e tt
 sound-for k long h ns ks w body.Unread f p e q = rw e tt
 
-module _ (l : Ledger) (sure : soundLedger l ≡ true) (k : Ledger) (long : length (k .bills) ≡ 128) (ns ks : List ℕ) (w : Lists k ns ks) (s : List ℕ) where
+module _ (l : Ledger) (room : length (l .bills) ≡ 128) (sure : soundLedger l ≡ true) (k : Ledger) (long : length (k .bills) ≡ 128) (ns ks : List ℕ) (w : Lists k ns ks) (s : List ℕ) where
   -- a call of a body that is no file
   module _ (b : Body) (n : made b s (book k) ≡ after (book k) (callOf b s)) (z : k ≡ l) (x : Ledger) where
     by-call : (soundLedger k ≡ true → x ≡ ran k (callOf b s)) → Entered b s l x
     by-call e =
         let h : soundLedger k ≡ true = rw z sure in
-        subst (λ (y : Ledger). Entered b s y x) z (entered-by b s k x h n (e h))
+        subst (λ (y : Ledger). Entered b s y x) z (entered-by b s k x long h n (e h))
 
   pub entered : (b : Body) → k ≡ filed b s l → Taken b → (f : Found) (p : ℕ) → f ≡ findFor b (take (k .count) ns) (take (k .count) ks)
       → p ≡ slotOf f (k .count) → Entered b s l (leftAt k p (leftBy b (topOf k) f (billAt k p)))
   unfolding findFor leftBy after
-  entered (body.Fresh x) z t f p e q = fresh-entered x s l _ t
+  entered (body.Fresh x) z t f p e q =
+      fresh-entered x s l _ (set-getD (k .bills) p blankBill ∙ ap (λ (m : Ledger). m .bills) z) t
   entered (body.Request r) z t f p e q =
       by-call (body.Request r) refl z _ (λ h. request-by k long h f p q r (e ∙ lists-find k ns ks w (r .identity)) _ refl)
-  entered body.File z t f p e q = entered-by body.File s l _ sure refl (kept-same k p ∙ z)
+  entered body.File z t f p e q = entered-by body.File s l _ room sure refl (kept-same k p ∙ z)
   entered (body.Cancel id) z t f p e q =
       by-call (body.Cancel id) refl z _ (λ h. cancel-by k long h f p q id (e ∙ lists-find k ns ks w id) _ refl)
   entered (body.Close d) z t f p e q = by-call (body.Close d) refl z _ (λ h. close-by k long h f p q d _ refl)

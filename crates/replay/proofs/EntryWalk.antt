@@ -13,22 +13,23 @@ use lib.Seq.{take-all, drop-drop}
 use Rattle.fields.specs.Put.{part}
 use Rattle.ledger.specs.declared.Ledger.{Ledger}
 use Rattle.ledger.specs.declared.Found.{Found}
-use Rattle.ledger.specs.Books.{Book, book}
+use Rattle.ledger.specs.Books.{book}
 use Rattle.ledger.specs.Sound.{soundLedger}
 use Rattle.groups.specs.Steps.{billAt}
 use Rattle.journal.specs.declared.Body.{Body}
 use Rattle.journal.specs.declared.Head.{Head}
 use Rattle.journal.specs.declared.Head.the-variants.{Cut, Bad, Whole}
 use Rattle.journal.specs.Entries.{headOf}
-use Rattle.journal.specs.Journal.{Parsed, parse, made, makes}
+use Rattle.journal.specs.Journal.{Parsed, parse}
 use Rattle.journal.proofs.Head as head
 use Rattle.journal.proofs.HeadLaws.{whole-fits}
 use Rattle.journal.proofs.JournalLaws.{parse-cut, parse-bad, parse-whole}
 use Rattle.journal.proofs.BeginLaws.{whole-taken}
 use Rattle.replay.specs.declared.Reader.{Reader}
 use Rattle.replay.specs.declared.settle.Left.{Left}
-use Rattle.replay.specs.Reader.{accountOf, keyOf, Good, Walks}
+use Rattle.replay.specs.Reader.{accountOf, keyOf, Good, leaves, Walks}
 use Rattle.replay.specs.Steps.{isBad, findFor, slotOf, leftBy, topOf, leftAt}
+use Rattle.replay.proofs.ReaderLaws.{book-leaves}
 use Rattle.replay.proofs.SearchLaws.{map-set}
 use Rattle.replay.proofs.SpotLaws.{Lists}
 use Rattle.replay.proofs.EntryLaws.{filed, Entered, entered}
@@ -39,7 +40,7 @@ pub record Going (src : List ℕ) (l₀ : Ledger) (seen₀ : ℕ) (l : Ledger) (
   pub lists : Lists l ns ks
   pub places : length (l .bills) ≡ 128
   pub sure : soundLedger l ≡ true
-  pub books : makes (book l) (parse seen (drop at src) .entries) ≡ makes (book l₀) (parse seen₀ src .entries)
+  pub whole : leaves l (parse seen (drop at src) .entries) ≡ leaves l₀ (parse seen₀ src .entries)
   pub count : seen + length (parse seen (drop at src) .entries) ≡ seen₀ + length (parse seen₀ src .entries)
   pub stopped : parse seen (drop at src) .stopped ≡ parse seen₀ src .stopped
   pub rest : parse seen (drop at src) .rest ≡ parse seen₀ src .rest
@@ -52,7 +53,7 @@ going-start src r h g =
       lists = record { accounts = g .accounts; keys = g .keys };
       places = h;
       sure = g .sound;
-      books = refl;
+      whole = refl;
       count = refl;
       stopped = refl;
       rest = refl;
@@ -72,12 +73,14 @@ module _ (src : List ℕ) (r : Reader) (l : Ledger) (ns ks : List ℕ) (seen at 
   -- the end: an entry cut short, or a bad one
   ended : (b : Bool) → parse seen (drop at src) ≡ record { entries = []; stopped = b; rest = drop at src }
       → Walks r src (record { reader = record { ledger = l; accounts = ns; keys = ks; seen = seen }; used = at; stopped = b })
-  unfolding makes
+  unfolding leaves
   ended b e =
+      let same = ap (λ (p : Parsed). leaves l (p .entries)) (sym e) ∙ w .whole in
       record {
         good = record { accounts = w .lists .accounts; keys = w .lists .keys; sound = w .sure };
         used = w .within;
-        ledger = ap (λ (p : Parsed). makes (book l) (p .entries)) (sym e) ∙ w .books;
+        ledger = ap book same ∙ book-leaves (r .ledger) (parse (r .seen) src .entries);
+        whole = same;
         seen = sym (add-zero seen) ∙ ap (λ (p : Parsed). seen + length (p .entries)) (sym e) ∙ w .count;
         stopped = ap (λ (p : Parsed). p .stopped) (sym e) ∙ w .stopped;
         rest = ap (λ (p : Parsed). p .rest) (sym e) ∙ w .rest;
@@ -122,10 +125,10 @@ module _ (src : List ℕ) (r : Reader) (l : Ledger) (ns ks : List ℕ) (seen at 
         (f : Found) (p : ℕ) (x : Left) (i : f ≡ findFor b (take (k .count) ns) (take (k .count) ks)) (q : p ≡ slotOf f (k .count))
         (y : x ≡ leftBy b (topOf k) f (billAt k p)) where
       done : Entered b bytes l (leftAt k p x)
-      done = rw y (entered l (w .sure) k places ns ks lists bytes b z (whole-taken seen (drop at src) b n (head-is (Whole b n) e)) f p i q)
+      done = rw y (entered l (w .places) (w .sure) k places ns ks lists bytes b z (whole-taken seen (drop at src) b n (head-is (Whole b n) e)) f p i q)
 
       pub went-on : Going src (r .ledger) (r .seen) (leftAt k p x) (set ns p (accountOf (x .bill))) (set ks p (keyOf (x .bill))) (seen + 1) (at + n)
-      unfolding makes
+      unfolding leaves
       went-on =
           record {
             within = fits .1;
@@ -136,10 +139,10 @@ module _ (src : List ℕ) (r : Reader) (l : Ledger) (ns ks : List ℕ) (seen at 
                 };
             places = length-set (k .bills) p (x .bill) ∙ places;
             sure = done .sure;
-            books =
-                ap (λ (m : Book). makes m (parse (seen + 1) (drop (at + n) src) .entries)) (done .books)
-                ∙ ap (λ (m : Parsed). makes (book l) (m .entries)) (sym parsed)
-                ∙ w .books;
+            whole =
+                ap (λ (m : Ledger). leaves m (parse (seen + 1) (drop (at + n) src) .entries)) (done .whole)
+                ∙ ap (λ (m : Parsed). leaves l (m .entries)) (sym parsed)
+                ∙ w .whole;
             count = omega (arith, ap (λ (m : Parsed). length (m .entries)) parsed, w .count);
             stopped = ap (λ (m : Parsed). m .stopped) (sym parsed) ∙ w .stopped;
             rest = ap (λ (m : Parsed). m .rest) (sym parsed) ∙ w .rest;

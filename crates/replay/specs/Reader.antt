@@ -1,15 +1,18 @@
--- What a reader holds, and what a walk over some bytes of a journal leaves. Assumes nothing.
+-- What a reader holds, and what reading some bytes of a journal leaves. Assumes nothing.
 use Prim.Native.Nat.{ℕ, _+_, _≤_}
 use mathlib.Core.Path.{_≡_}
-use mathlib.Core.Bool.{true}
-use mathlib.Core.List.{List, map}
-use lib.ListN.{length, drop}
+use mathlib.Core.Bool.{Bool, true}
+use mathlib.Core.List.{List, [], _∷_, map}
+use lib.ListN.{length, take, drop, replicate}
+use Rattle.fields.specs.Put.{put}
 use Rattle.ledger.specs.declared.Bill.{Bill}
-use Rattle.ledger.specs.Books.{book}
+use Rattle.ledger.specs.declared.Ledger.{Ledger}
+use Rattle.ledger.specs.Books.{book, stored, emptyLedger}
 use Rattle.ledger.specs.Sound.{soundLedger}
-use Rattle.journal.specs.Journal.{parse, makes}
+use Rattle.journal.specs.Journal.{Entry, parse, made, makes}
 use Rattle.replay.specs.declared.Reader.{Reader}
 use Rattle.replay.specs.declared.Walked.{Walked}
+use Rattle.replay.specs.declared.Fed.{Fed}
 
 abbrev pub accountOf : Bill → ℕ
 accountOf b = b .terms .identity .account
@@ -23,11 +26,43 @@ pub record Good (r : Reader) : Type 0 where
   pub keys : r .keys ≡ map keyOf (r .ledger .bills)
   pub sound : soundLedger (r .ledger) ≡ true
 
+-- the reader before the first entry: no bill, and in every place a blank one
+abbrev pub started : Reader
+started =
+    record {
+      ledger = emptyLedger (record { 0 = 19000101 }) 1 1;
+      accounts = replicate 128 0;
+      keys = replicate 128 0;
+      seen = 0;
+    }
+
+-- the struct after some entries: each leaves the book that it makes and, past its bills, what the struct held
+unfoldable pub leaves : Ledger → List Entry → Ledger
+leaves l [] = l
+leaves l (e ∷ es) = leaves (stored l (made (e .body) (e .bytes) (book l))) es
+
 -- the whole entries at the start of src were made on the ledger of r, and the bytes after them are left
 pub record Walks (r : Reader) (src : List ℕ) (w : Walked) : Type 0 where
   pub good : Good (w .reader)
   pub used : w .used ≤ length src
   pub ledger : book (w .reader .ledger) ≡ makes (book (r .ledger)) (parse (r .seen) src .entries)
+  pub whole : w .reader .ledger ≡ leaves (r .ledger) (parse (r .seen) src .entries)
   pub seen : w .reader .seen ≡ r .seen + length (parse (r .seen) src .entries)
   pub stopped : w .stopped ≡ parse (r .seen) src .stopped
   pub rest : drop (w .used) src ≡ parse (r .seen) src .rest
+
+-- the bytes s were read from the reader r on, in one piece or in several: k is the reader after their whole entries, stopped says whether a bad
+-- entry follows these, and rest is the bytes after them
+pub record Read (r : Reader) (s : List ℕ) (k : Reader) (stopped : Bool) (rest : List ℕ) : Type 0 where
+  pub good : Good k
+  pub ledger : book (k .ledger) ≡ makes (book (r .ledger)) (parse (r .seen) s .entries)
+  pub whole : k .ledger ≡ leaves (r .ledger) (parse (r .seen) s .entries)
+  pub seen : k .seen ≡ r .seen + length (parse (r .seen) s .entries)
+  pub ends : stopped ≡ parse (r .seen) s .stopped
+  pub left : rest ≡ parse (r .seen) s .rest
+
+-- the first n bytes of a buffer were read from r on: the bytes left stand at its start, and every other byte is as it was
+pub record Feeds (r : Reader) (n : ℕ) (before after : List ℕ) (f : Fed) : Type 0 where
+  pub read : Read r (take n before) (f .reader) (f .stopped) (take (f .have) after)
+  pub have : f .have ≡ length (parse (r .seen) (take n before) .rest)
+  pub bytes : after ≡ put before 0 (parse (r .seen) (take n before) .rest)

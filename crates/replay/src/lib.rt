@@ -4,9 +4,11 @@ pub mod settle;
 pub mod turns;
 
 ghost use mathlib.Core.Path.{_≡_};
+ghost use Prim.Native.Nat.{_≤_};
+ghost use lib.ListN.{length};
 ghost use Rattle.ledger.specs.Books.{book};
 ghost use Rattle.journal.specs.Journal.{noBook};
-ghost use Rattle.replay.specs.Reader.{Good, Walks};
+ghost use Rattle.replay.specs.Reader.{Good, started, Walks, Feeds};
 use crate::settle::Top;
 use journal::Head;
 use ledger::Ledger;
@@ -27,9 +29,16 @@ pub struct Walked {
     pub stopped: bool,
 }
 
+// The reader after some bytes of a buffer, how many bytes are left at its start, and whether a bad entry stopped it.
+pub struct Fed {
+    pub reader: Reader,
+    pub have: usize,
+    pub stopped: bool,
+}
+
 // Before the first entry.
 pub fn start() -> Reader
-    ensures { λ r. ⌜ (Good r) × (book (r .ledger) ≡ noBook) × (r .seen ≡ 0) ⌝ }
+    ensures { λ r. ⌜ (Good r) × (book (r .ledger) ≡ noBook) × (r .seen ≡ 0) × (r ≡ started) ⌝ }
 {
     let l = Ledger::empty(Date(19000101), 1, 1);
     Reader {
@@ -113,5 +122,23 @@ pub fn walk(src: &[u8], r: Reader) -> Walked
         l.count = t.count;
         seen += 1;
         at = end;
+    }
+}
+
+// Makes the whole entries of the first n bytes of buf, and moves the bytes that are left to its start.
+pub fn feed(buf: &mut [u8], r: Reader, n: usize) -> Fed
+    requires { ⌜ Good r ⌝ }
+    requires { ⌜ n ≤ length (now buf) ⌝ }
+    ensures { λ f. ⌜ Feeds r n (now (buf .entry)) (now (buf .exit)) f ⌝ }
+{
+    let w = walk(&buf[..n], r);
+    let reader = w.reader;
+    let used = w.used;
+    let stopped = w.stopped;
+    let have = journal::keep(buf, used, n);
+    Fed {
+        reader,
+        have,
+        stopped,
     }
 }

@@ -58,10 +58,10 @@ returns-2 : tie.Need-returns-2 Inv-loop μ-loop
 returns-2 c = search needs
 
 array-share-prefix-buf : tie.Need-array-share-prefix-buf Inv-loop μ-loop
-array-share-prefix-buf c = let b = rw (c .before .f .given .1) at (c .before .before .before .before .fill .ensures) in omega (arith, b .1, c .before .before .before .before .fill .kept .0, c .before .before .before .before .before .before .before .loop .inv .room)
+array-share-prefix-buf c = let b = rw (c .before .f .given .1) at (c .before .before .before .before .fill .ensures .holds) in omega (arith, b .1, c .before .before .before .before .fill .kept .0, c .before .before .before .before .before .before .before .loop .inv .room)
 
 slice-aggregate-run : tie.Need-slice-aggregate-run Inv-loop μ-loop
-slice-aggregate-run c = let b = rw (c .before .before .f .given .1) at (c .before .before .before .before .before .fill .ensures) in sym (length-take-le _ _ (b .1))
+slice-aggregate-run c = let b = rw (c .before .before .f .given .1) at (c .before .before .before .before .before .fill .ensures .holds) in sym (length-take-le _ _ (b .1))
 
 slice-aggregate-run-2 : tie.Need-slice-aggregate-run-2 Inv-loop μ-loop
 slice-aggregate-run-2 c = search needs
@@ -76,13 +76,13 @@ slice-aggregate-keep : tie.Need-slice-aggregate-keep Inv-loop μ-loop
 slice-aggregate-keep c = search needs
 
 keep-requires : tie.Need-keep-requires Inv-loop μ-loop
-keep-requires c κs = let b = rw (c .before .before .before .before .before .before .before .before .before .f .given .1) at (c .before .before .before .before .before .before .before .before .before .before .before .before .fill .ensures) in let k = length-take-le (c .before .before .before .before .before .before .before .before .before .f .given .0 .0) (c .before .before .before .before .before .before .before .before .before .before .before .before .fill .last .0) (b .1) in (omega (arith, c .before .before .before .before .before .run .ensures .0, k), b .1)
+keep-requires c κs = let b = rw (c .before .before .before .before .before .before .before .before .before .f .given .1) at (c .before .before .before .before .before .before .before .before .before .before .before .before .fill .ensures .holds) in let k = length-take-le (c .before .before .before .before .before .before .before .before .before .f .given .0 .0) (c .before .before .before .before .before .before .before .before .before .before .before .before .fill .last .0) (b .1) in (omega (arith, c .before .before .before .before .before .run .ensures .0, k), b .1)
 
 loop-less : tie.Need-loop-less Inv-loop μ-loop
 loop-less c = search needs
 
 loop-again : tie.Need-loop-again Inv-loop μ-loop
-loop-again c = let b = rw (c .before .before .before .before .before .before .before .before .before .before .before .f .given .1) at (c .before .before .before .before .before .before .before .before .before .before .before .before .before .before .fill .ensures) in record { room = c .before .keep .kept .0 ∙ c .before .before .before .before .before .before .before .before .before .before .before .before .before .before .fill .kept .0 ∙ c .before .before .before .before .before .before .before .before .before .before .before .before .before .before .before .before .before .loop .inv .room; lent = c .before .before .before .before .before .before .before .run .kept .1 .1 .1 .0 ∙ c .before .before .before .before .before .before .before .before .before .before .before .before .before .before .before .before .before .loop .inv .lent; few = c .before .before .before .before .before .before .before .run .ensures .1; held = omega (arith, c .before .keep .ensures .0, b .1, c .before .before .before .before .before .before .before .before .before .before .before .before .before .before .fill .kept .0, c .before .before .before .before .before .before .before .before .before .before .before .before .before .before .before .before .before .loop .inv .room) }
+loop-again c = let b = rw (c .before .before .before .before .before .before .before .before .before .before .before .f .given .1) at (c .before .before .before .before .before .before .before .before .before .before .before .before .before .before .fill .ensures .holds) in record { room = c .before .keep .kept .0 ∙ c .before .before .before .before .before .before .before .before .before .before .before .before .before .before .fill .kept .0 ∙ c .before .before .before .before .before .before .before .before .before .before .before .before .before .before .before .before .before .loop .inv .room; lent = c .before .before .before .before .before .before .before .run .kept .1 .1 .1 .0 ∙ c .before .before .before .before .before .before .before .before .before .before .before .before .before .before .before .before .before .loop .inv .lent; few = c .before .before .before .before .before .before .before .run .ensures .1; held = omega (arith, c .before .keep .ensures .0, b .1, c .before .before .before .before .before .before .before .before .before .before .before .before .before .before .fill .kept .0, c .before .before .before .before .before .before .before .before .before .before .before .before .before .before .before .before .before .loop .inv .room) }
 
 returns-4 : tie.Need-returns-4 Inv-loop μ-loop
 returns-4 c = search needs

@@ -56,16 +56,16 @@ enum-known-f : tie.Need-enum-known-f Inv-loop μ-loop
 enum-known-f c = search needs
 
 slice-reshare-prefix-walk : tie.Need-slice-reshare-prefix-walk Inv-loop μ-loop
-slice-reshare-prefix-walk c = let b = rw (c .before .f .given .1) at (c .before .before .before .before .before .fill .ensures) in b .1
+slice-reshare-prefix-walk c = let b = rw (c .before .f .given .1) at (c .before .before .before .before .before .fill .ensures .holds) in b .1
 
 slice-aggregate-walk : tie.Need-slice-aggregate-walk Inv-loop μ-loop
-slice-aggregate-walk c = let b = rw (c .before .before .f .given .1) at (c .before .before .before .before .before .before .fill .ensures) in sym (length-take-le _ _ (b .1))
+slice-aggregate-walk c = let b = rw (c .before .before .f .given .1) at (c .before .before .before .before .before .before .fill .ensures .holds) in sym (length-take-le _ _ (b .1))
 
 walk-requires : tie.Need-walk-requires Inv-loop μ-loop
 walk-requires c κs = c .before .before .before .before .before .before .before .before .before .loop .inv .good
 
 keep-requires : tie.Need-keep-requires Inv-loop μ-loop
-keep-requires c κs = let b = rw (c .before .before .before .before .before .f .given .1) at (c .before .before .before .before .before .before .before .before .before .fill .ensures) in let k = length-take-le (c .before .before .before .before .before .f .given .0 .0) (c .before .before .before .before .before .before .before .before .before .fill .last .0) (b .1) in (omega (arith, c .before .before .walk .ensures .used, k), b .1)
+keep-requires c κs = let b = rw (c .before .before .before .before .before .f .given .1) at (c .before .before .before .before .before .before .before .before .before .fill .ensures .holds) in let k = length-take-le (c .before .before .before .before .before .f .given .0 .0) (c .before .before .before .before .before .before .before .before .before .fill .last .0) (b .1) in (omega (arith, c .before .before .walk .ensures .used, k), b .1)
 
 same-length-3 : tie.Need-same-length-3 Inv-loop μ-loop
 same-length-3 c = search needs
@@ -77,7 +77,7 @@ loop-less : tie.Need-loop-less Inv-loop μ-loop
 loop-less c = search needs
 
 loop-again : tie.Need-loop-again Inv-loop μ-loop
-loop-again c = let b = rw (c .before .before .before .before .before .before .before .before .before .f .given .1) at (c .before .before .before .before .before .before .before .before .before .before .before .before .before .fill .ensures) in record { room = c .before .before .before .keep .kept .0 ∙ c .before .before .before .before .before .before .before .before .before .before .before .before .before .fill .kept .0 ∙ c .before .before .before .before .before .before .before .before .before .before .before .before .before .before .before .before .loop .inv .room; good = c .before .before .before .before .before .before .walk .ensures .good; held = omega (arith, c .before .before .before .keep .ensures .0, b .1, c .before .before .before .before .before .before .before .before .before .before .before .before .before .fill .kept .0, c .before .before .before .before .before .before .before .before .before .before .before .before .before .before .before .before .loop .inv .room) }
+loop-again c = let b = rw (c .before .before .before .before .before .before .before .before .before .f .given .1) at (c .before .before .before .before .before .before .before .before .before .before .before .before .before .fill .ensures .holds) in record { room = c .before .before .before .keep .kept .0 ∙ c .before .before .before .before .before .before .before .before .before .before .before .before .before .fill .kept .0 ∙ c .before .before .before .before .before .before .before .before .before .before .before .before .before .before .before .before .loop .inv .room; good = c .before .before .before .before .before .before .walk .ensures .good; held = omega (arith, c .before .before .before .keep .ensures .0, b .1, c .before .before .before .before .before .before .before .before .before .before .before .before .before .fill .kept .0, c .before .before .before .before .before .before .before .before .before .before .before .before .before .before .before .before .loop .inv .room) }
 
 same-length-4 : tie.Need-same-length-4 Inv-loop μ-loop
 same-length-4 c = search needs
