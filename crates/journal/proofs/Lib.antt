@@ -8,3 +8,4 @@ pub mod JournalLaws
 pub mod BeginLaws
 pub mod ShortLaws
 pub mod NoticeLaws
+pub mod TurnLaws

@@ -1,3 +1,3 @@
 -- Laws that belong to no one function.
 pub mod ReportLaws
-pub mod NoticeWalk
+pub mod BrnLaws

@@ -6,12 +6,15 @@ use mathlib.Core.Path.{_≡_, refl, _∙_}
 use mathlib.Core.List.{List}
 use lib.ListN.{length}
 use Rattle.ledger.specs.declared.Ledger.{Ledger}
-use Rattle.report.proofs.NoticeWalk.{Stands, starts, goes-on, at-end}
+use Rattle.journal.specs.Journal.{noBook}
+use Rattle.journal.specs.Made.{brnOf}
+use Rattle.journal.proofs.TurnLaws.{Stands, starts, goes-on, at-end}
+use Rattle.report.proofs.BrnLaws.{ends-bad}
 use Rattle.report.proofs.brn_file.measure.Statement.{statement}
 use Rattle.report.proofs.brn_file.measure.Tie as tie
 
 record Inv (s written : List ℕ) (l : Ledger) (seen at n : ℕ) : Type 0 where
-  stands : Stands s l seen at n
+  stands : Stands noBook 0 s l seen at n
   room : length written ≡ 64200
 
 abbrev Inv-loop : tie.InvT-loop
@@ -24,7 +27,7 @@ start-requires : tie.Need-start-requires Inv-loop μ-loop
 start-requires c κs = search needs
 
 loop-holds : tie.Need-loop-holds Inv-loop μ-loop
-loop-holds c = record { stands = starts _ _ (c .before .start .ensures .0) (c .before .start .ensures .1); room = refl }
+loop-holds c = record { stands = starts _ _ _ _ (omega arith) (c .before .start .ensures .0 .sound) (c .before .start .ensures .1); room = refl }
 
 slice-aggregate-next-entry : tie.Need-slice-aggregate-next-entry Inv-loop μ-loop
 slice-aggregate-next-entry c = search needs
@@ -48,22 +51,23 @@ ends-bad-requires : tie.Need-ends-bad-requires Inv-loop μ-loop
 ends-bad-requires c κs = search needs
 
 returns : tie.Need-returns Inv-loop μ-loop
-returns c = let x = at-end _ _ _ _ _ (c .before .before .before .before .before .before .before .loop .inv .stands) _ (c .before .before .before .before .next-entry .ensures .0) (c .before .if1 .taken) in (x .all, c .ends-bad .ensures ∙ x .bad)
+unfolding brnOf
+returns c = let x = at-end _ _ _ _ _ _ _ (c .before .before .before .before .before .before .before .loop .inv .stands) _ (c .before .before .before .before .next-entry .ensures .0) (c .before .if1 .taken) in (x .all, c .ends-bad .ensures ∙ ends-bad _ _ _ _ _ _ x)
 
 add-n : tie.Need-add-n Inv-loop μ-loop
-add-n c = let x = goes-on _ _ _ _ _ (c .before .before .before .before .before .before .before .loop .inv .stands) _ (c .before .before .before .before .next-entry .ensures .0) (omega arith) in omega (arith, x .next .small, x .next .few)
+add-n c = let x = goes-on _ _ _ _ _ _ _ (c .before .before .before .before .before .before .before .loop .inv .stands) _ (c .before .before .before .before .next-entry .ensures .0) (omega arith) in omega (arith, x .next .small, x .next .few)
 
 add-at : tie.Need-add-at Inv-loop μ-loop
-add-at c = let x = goes-on _ _ _ _ _ (c .before .before .before .before .before .before .before .loop .inv .stands) _ (c .before .before .before .before .next-entry .ensures .0) (omega arith) in omega (arith, x .next .within)
+add-at c = let x = goes-on _ _ _ _ _ _ _ (c .before .before .before .before .before .before .before .loop .inv .stands) _ (c .before .before .before .before .next-entry .ensures .0) (omega arith) in omega (arith, x .next .within)
 
 add-seen : tie.Need-add-seen Inv-loop μ-loop
-add-seen c = let x = goes-on _ _ _ _ _ (c .before .before .before .before .before .before .before .loop .inv .stands) _ (c .before .before .before .before .next-entry .ensures .0) (omega arith) in omega (arith, x .next .few)
+add-seen c = let x = goes-on _ _ _ _ _ _ _ (c .before .before .before .before .before .before .before .loop .inv .stands) _ (c .before .before .before .before .next-entry .ensures .0) (omega arith) in omega (arith, x .next .few)
 
 loop-less : tie.Need-loop-less Inv-loop μ-loop
-loop-less c = let x = goes-on _ _ _ _ _ (c .before .before .before .before .before .before .before .loop .inv .stands) _ (c .before .before .before .before .next-entry .ensures .0) (omega arith) in omega (arith, x .next .within)
+loop-less c = let x = goes-on _ _ _ _ _ _ _ (c .before .before .before .before .before .before .before .loop .inv .stands) _ (c .before .before .before .before .next-entry .ensures .0) (omega arith) in omega (arith, x .next .within)
 
 loop-again : tie.Need-loop-again Inv-loop μ-loop
-loop-again c = record { stands = goes-on _ _ _ _ _ (c .before .before .before .before .before .before .before .loop .inv .stands) _ (c .before .before .before .before .next-entry .ensures .0) (omega arith) .next; room = c .before .before .before .before .next-entry .kept .1 .0 ∙ c .before .before .before .before .before .before .before .loop .inv .room }
+loop-again c = record { stands = goes-on _ _ _ _ _ _ _ (c .before .before .before .before .before .before .before .loop .inv .stands) _ (c .before .before .before .before .next-entry .ensures .0) (omega arith) .next; room = c .before .before .before .before .next-entry .kept .1 .0 ∙ c .before .before .before .before .before .before .before .loop .inv .room }
 
 pub measure-spec : {M : Type 1} → statement M
 measure-spec =

@@ -1,6 +1,6 @@
 -- `report::brn_file::post_notices` meets its contract: what is measured is what is filled in.
 use borrow.Author.Needs.{needs}
-use Rattle.report.proofs.NoticeWalk.{too-small, given}
+use Rattle.report.proofs.BrnLaws.{too-small, given}
 use Rattle.report.proofs.brn_file.post_notices.Statement.{statement}
 use Rattle.report.proofs.brn_file.post_notices.Tie as tie
 
