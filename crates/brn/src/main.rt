@@ -1,22 +1,28 @@
 // Reads a journal on standard input and writes the notices of every call carried out, in order: the bytes of a BRN file.
 ghost use mathlib.Core.Path.{_≡_};
 ghost use Prim.Native.Nat.{_≤_};
+ghost use mathlib.Core.Bool.{true};
 ghost use lib.ListN.{length};
+ghost use Rattle.ledger.specs.Sound.{soundLedger};
+ghost use Rattle.brn.specs.Pieces.{Runs, Reads};
 use input::Filled;
 use ledger::Ledger;
 use libc::STDERR_FILENO;
 use libc::STDOUT_FILENO;
 use units::Date;
 
-// Where the reading stands after a piece of the journal, and whether it goes on.
+// What came of a piece of the journal: the ledger, how many entries came by then, how many of the piece's bytes are done with, how many bytes
+// of notices were written, whether the output has no room for another call's, and whether a bad entry came.
 struct Read {
     ledger: Ledger,
     seen: u64,
     used: usize,
-    goes_on: bool,
+    written: usize,
+    full: bool,
+    stopped: bool,
 }
 
-// Writes what a call wrote.
+// Writes the notices of a piece.
 fn write_notices(out: &[u8]) -> bool {
     let is_written = io::write_all(STDOUT_FILENO, out);
     if !is_written {
@@ -32,54 +38,67 @@ fn warn(stopped: bool) {
     }
 }
 
-// Makes the calls of the whole entries of a piece and writes their notices.
+// Makes the calls of the whole entries of a piece, as long as the output has room for another call's notices.
 fn run(first: Ledger, before: u64, s: &[u8], out: &mut [u8]) -> Read
-    requires { ⌜ (length (now out) ≡ 64200) × (before ≤ 1000000000) ⌝ }
-    ensures { λ r. ⌜ (r .used ≤ length (now (s .entry))) × (r .seen ≤ 1000000000) ⌝ }
+    requires { ⌜ (64200 ≤ length (now out)) × (before ≤ 1000000000) × (soundLedger first ≡ true) ⌝ }
+    ensures { λ r. ⌜ Runs first before (now (s .entry)) (now (out .entry)) (now (out .exit)) r ⌝ }
 {
     let mut l = first;
     let mut seen = before;
     let mut at = 0;
-    loop {
-        let t = journal::make::next_entry(l, out, &s[at..], seen);
+    let mut n = 0;
+    while 64200 <= out.len() - n {
+        let end = n + 64200;
+        let t = journal::make::next_entry(l, &mut out[n..end], &s[at..], seen);
         let next = t.ledger;
         l = next;
         let used = t.used;
-        let stopped = t.stopped;
         if used == 0 {
-            warn(stopped);
             return Read {
                 ledger: l,
                 seen,
                 used: at,
-                goes_on: !stopped,
+                written: n,
+                full: false,
+                stopped: t.stopped,
             };
         }
-        let n = t.written;
-        let is_written = write_notices(&out[..n]);
+        n += t.written;
         at += used;
         seen += 1;
-        if !is_written {
-            return Read {
-                ledger: l,
-                seen,
-                used: at,
-                goes_on: false,
-            };
-        }
     }
+    Read {
+        ledger: l,
+        seen,
+        used: at,
+        written: n,
+        full: true,
+        stopped: false,
+    }
+}
+
+// Reads on where all entries that were read are made.
+fn more(buf: &mut [u8], have: usize, full: bool) -> Filled
+    requires { ⌜ have ≤ length (now buf) ⌝ }
+    ensures { λ r. ⌜ Reads have (now (buf .entry)) (now (buf .exit)) r ⌝ }
+{
+    if full {
+        return Filled::Bytes(have);
+    }
+    input::fill(buf, have)
 }
 
 fn main() {
     let mut buf = [0u8; 262144];
-    let mut out = [0u8; 64200];
+    let mut out = [0u8; 262144];
     let mut l = Ledger::empty(Date(19000101), 1, 1);
     let mut seen = 0;
     let mut have = 0;
+    let mut full = false;
     let mut turns = u64::MAX;
     while 0 < turns {
         turns -= 1;
-        let f = input::fill(&mut buf, have);
+        let f = more(&mut buf, have, full);
         let Filled::Bytes(n) = f else {
             if let Filled::Failed = f {
                 os::fail(b"read");
@@ -89,12 +108,17 @@ fn main() {
             return;
         };
         let r = run(l, seen, &buf[..n], &mut out);
-        if !r.goes_on {
+        let written = r.written;
+        let is_written = write_notices(&out[..written]);
+        let stopped = r.stopped;
+        warn(is_written & stopped);
+        if !is_written | stopped {
             return;
         }
         let next = r.ledger;
         l = next;
         seen = r.seen;
+        full = r.full;
         let used = r.used;
         have = journal::keep(&mut buf, used, n);
     }

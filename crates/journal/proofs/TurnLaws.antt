@@ -83,8 +83,10 @@ pub record Goes (k : Book) (seen₀ : ℕ) (s : List ℕ) (seen at n : ℕ) (t :
   pub long : length w ≡ t .written
   pub short : t .written ≤ 64200
 
--- a turn that used none up: all is written and made, and this is how the bytes end
+-- a turn that used none up: no entry is left, all is written and made, and this is how the bytes end
 pub record Ends (k : Book) (seen₀ : ℕ) (s : List ℕ) (l : Ledger) (seen at n : ℕ) (bad : Bool) : Type 0 where
+  pub stands : Stands k seen₀ s l seen at n
+  pub left : parse seen (drop at s) ≡ record { entries = []; stopped = bad; rest = drop at s }
   pub all : n ≡ length (noticesIn k seen₀ s)
   pub books : book l ≡ makes k (parse seen₀ s .entries)
   pub count : seen ≡ seen₀ + length (parse seen₀ s .entries)
@@ -153,6 +155,8 @@ module _ (k : Book) (seen₀ : ℕ) (s : List ℕ) (l : Ledger) (seen at n : ℕ
   ended b e =
       let a : drop n (noticesIn k seen₀ s) ≡ [] = sym (w .notices) ∙ ap (λ (p : Parsed). noticesOf (book l) (p .entries)) e in
       record {
+        stands = w;
+        left = e;
         all = omega (arith, length-drop n (noticesIn k seen₀ s), ap length a, w .written);
         books = ap (λ (p : Parsed). makes (book l) (p .entries)) (sym e) ∙ w .books;
         count = sym (add-zero seen) ∙ ap (λ (p : Parsed). seen + length (p .entries)) (sym e) ∙ w .count;
@@ -173,12 +177,20 @@ module _ (k : Book) (seen₀ : ℕ) (s : List ℕ) (l : Ledger) (seen at n : ℕ
   stops Bad e t q z = rw q (ended true (parse-bad seen (drop at s) e))
   stops (Whole b m) e t q z = absurd (omega (arith, ap (λ (u : Turned). u .used) q, whole-fits seen (drop at s) b m e .0))
 
+  quiet : (h : Head) → headOf seen (drop at s) ≡ h → (t : Turned) → t ≡ turnedOn h l (drop at s) → t .used ≡ 0 → turnWritten h l (drop at s) ≡ []
+  quiet Cut e t q z = refl
+  quiet Bad e t q z = refl
+  quiet (Whole b m) e t q z = absurd (omega (arith, ap (λ (u : Turned). u .used) q, whole-fits seen (drop at s) b m e .0))
+
   module _ (t : Turned) (e : t ≡ turnedOn (headOf seen here) l here) where
     pub goes-on : 0 < t .used → Goes k seen₀ s seen at n t (turnWritten (headOf seen here) l here)
     goes-on p = rw tail (went (headOf seen (drop at s)) refl t (rw tail at e) p)
 
     pub at-end : t .used ≡ 0 → Ends k seen₀ s (t .ledger) seen at n (t .stopped)
     at-end z = stops (headOf seen (drop at s)) refl t (rw tail at e) z
+
+    pub end-written : t .used ≡ 0 → turnWritten (headOf seen here) l here ≡ []
+    end-written z = rw tail (quiet (headOf seen (drop at s)) refl t (rw tail at e) z)
 
 -- ---- the bytes in an output
 -- out holds the first n of the bytes b

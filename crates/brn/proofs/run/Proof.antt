@@ -1,91 +1,85 @@
--- `brn::run` meets its contract: an entry is used up at each turn, and no turn writes more than the output has.
+-- `brn::run` meets its contract: each turn's notices come after those of the turns before.
 use borrow.Author.Needs.{needs}
 use native.Mathlib.Omega.{arith}
-use Prim.Native.Nat.{ℕ, _-_, _≤_, _<_}
-use mathlib.Core.Path.{_≡_, sym, ap, subst}
+use Prim.Native.Nat.{ℕ, _-_, _≤_}
+use mathlib.Core.Path.{_≡_, refl, sym, ap, _∙_}
 use mathlib.Core.List.{List}
 use lib.ListN.{length}
-use lib.Seq.{length-take-le}
 use Rattle.ledger.specs.declared.Ledger.{Ledger}
-use Rattle.journal.specs.declared.make.Turned.{Turned}
-use Rattle.journal.specs.Entries.{headOf}
-use Rattle.journal.specs.Made.{turnedOn}
-use Rattle.journal.proofs.ShortLaws.{turn-fits}
+use Rattle.ledger.specs.Books.{book}
+use Rattle.journal.proofs.TurnLaws.{noticesIn, Stands, starts, goes-on, at-end, end-written, Holds, holds-none, holds-more}
+use Rattle.brn.proofs.PieceLaws.{length-lent, put-turn, put-none, ran-all, ran-full}
 use Rattle.brn.proofs.run.Statement.{statement}
 use Rattle.brn.proofs.run.Tie as tie
 
-record Inv (s out : List ℕ) (seen at : ℕ) : Type 0 where
-  within : at ≤ length s
-  room : length out ≡ 64200
-  few : seen ≤ 1000000000
-
--- what a turn uses and writes
-record Took (s : List ℕ) (seen : ℕ) (t : Turned) : Type 0 where
-  used : t .used ≤ length s
-  few : 0 < t .used → seen < 1000000000
-  written : t .written ≤ 64200
-
-took : (l : Ledger) (s : List ℕ) (seen : ℕ) (t : Turned) → t ≡ turnedOn (headOf seen s) l s → Took s seen t
-took l s seen t e =
-    let f = turn-fits seen l s in
-    subst (λ (u : Turned). Took s seen u) (sym e) (record { used = f .used; few = f .few; written = f .written })
+record Inv (before : ℕ) (s out₀ : List ℕ) (first : Ledger) (out : List ℕ) (l : Ledger) (seen at n : ℕ) : Type 0 where
+  stands : Stands (book first) before s l seen at n
+  holds : Holds (noticesIn (book first) before s) out₀ out n
+  room : n ≤ length out
+  fits : 64200 ≤ length out
 
 abbrev Inv-loop : tie.InvT-loop
-Inv-loop before s out₀ l₀ seen₀ at₀ out l seen at = Inv s out seen at
+Inv-loop before s out₀ l₀ seen₀ at₀ n₀ out l seen at n = Inv before s out₀ l₀ out l seen at n
 
 abbrev μ-loop : tie.MeasureT-loop
-μ-loop before s out₀ l₀ seen₀ at₀ out l seen at = length s - at
+μ-loop before s out₀ l₀ seen₀ at₀ n₀ out l seen at n = length s - at
 
 loop-holds : tie.Need-loop-holds Inv-loop μ-loop
-loop-holds c = record { within = omega arith; room = c .before .before .pre .0; few = c .before .before .pre .1 }
+loop-holds c = record { stands = starts _ _ _ _ (c .before .before .pre .1) (c .before .before .pre .2) refl; holds = holds-none _ _; room = omega arith; fits = c .before .before .pre .0 }
+
+sub-loop : tie.Need-sub-loop Inv-loop μ-loop
+sub-loop c = omega (arith, c .loop .inv .room)
+
+add-end : tie.Need-add-end Inv-loop μ-loop
+add-end c = omega (arith, c .before .loop .inv .room)
 
 sub-next-entry : tie.Need-sub-next-entry Inv-loop μ-loop
-sub-next-entry c = omega (arith, c .before .loop .inv .within)
+sub-next-entry c = omega (arith, c .before .loop .inv .room)
 
 part-next-entry-start : tie.Need-part-next-entry-start Inv-loop μ-loop
-part-next-entry-start c = c .before .loop .inv .within
+part-next-entry-start c = omega (arith, c .before .loop .inv .room)
 
 part-next-entry-end : tie.Need-part-next-entry-end Inv-loop μ-loop
-part-next-entry-end c = omega arith
+part-next-entry-end c = omega (arith, c .before .loop .inv .room)
+
+sub-next-entry-2 : tie.Need-sub-next-entry-2 Inv-loop μ-loop
+sub-next-entry-2 c = omega (arith, c .before .before .loop .inv .stands .within)
+
+part-next-entry-start-2 : tie.Need-part-next-entry-start-2 Inv-loop μ-loop
+part-next-entry-start-2 c = omega (arith, c .before .before .loop .inv .stands .within)
+
+part-next-entry-end-2 : tie.Need-part-next-entry-end-2 Inv-loop μ-loop
+part-next-entry-end-2 c = omega (arith, c .before .before .loop .inv .stands .within)
 
 next-entry-requires : tie.Need-next-entry-requires Inv-loop μ-loop
-next-entry-requires c κs = c .before .before .loop .inv .room
-
-warn-requires : tie.Need-warn-requires Inv-loop μ-loop
-warn-requires c κs = search needs
+next-entry-requires c κs = length-lent _ _ (c .before .before .before .loop .inv .room) (c .before .before .loop-test .taken)
 
 same-length : tie.Need-same-length Inv-loop μ-loop
-same-length c = search needs
+same-length c = ap length (put-none _ _ (c .before .before .before .before .before .before .before .before .loop .inv .room) (c .before .before .before .before .before .before .before .loop-test .taken) _ _ (end-written _ _ _ _ _ _ _ (c .before .before .before .before .before .before .before .before .loop .inv .stands) _ (c .before .before .before .before .next-entry .ensures .0) (c .if1 .taken)) (c .before .before .before .before .next-entry .ensures .1)) ∙ c .before .before .before .before .before .before .before .before .loop .inv .holds .kept
 
 returns : tie.Need-returns Inv-loop μ-loop
-returns c = (c .before .before .before .before .before .before .before .before .loop .inv .within, c .before .before .before .before .before .before .before .before .loop .inv .few)
+returns c = let x = at-end _ _ _ _ _ _ _ (c .before .before .before .before .before .before .before .before .loop .inv .stands) _ (c .before .before .before .before .next-entry .ensures .0) (c .if1 .taken) in rw (put-none _ _ (c .before .before .before .before .before .before .before .before .loop .inv .room) (c .before .before .before .before .before .before .before .loop-test .taken) _ _ (end-written _ _ _ _ _ _ _ (c .before .before .before .before .before .before .before .before .loop .inv .stands) _ (c .before .before .before .before .next-entry .ensures .0) (c .if1 .taken)) (c .before .before .before .before .next-entry .ensures .1)) (ran-all _ _ _ _ _ _ _ _ _ (x .stands) (c .before .before .before .before .before .before .before .before .loop .inv .holds) (c .before .before .before .before .before .before .before .before .loop .inv .room) _ (x .left))
 
-slice-reshare-prefix-write-notices : tie.Need-slice-reshare-prefix-write-notices Inv-loop μ-loop
-slice-reshare-prefix-write-notices c = let k = took _ _ _ _ (c .before .before .before .before .next-entry .ensures .0) in omega (arith, k .written, c .before .before .before .before .before .before .before .loop .inv .room)
-
-slice-aggregate-write-notices : tie.Need-slice-aggregate-write-notices Inv-loop μ-loop
-slice-aggregate-write-notices c = let k = took _ _ _ _ (c .before .before .before .before .before .next-entry .ensures .0) in sym (length-take-le _ _ (omega (arith, k .written, c .before .before .before .before .before .before .before .before .loop .inv .room)))
-
-write-notices-requires : tie.Need-write-notices-requires Inv-loop μ-loop
-write-notices-requires c κs = search needs
+add-n : tie.Need-add-n Inv-loop μ-loop
+add-n c = let x = goes-on _ _ _ _ _ _ _ (c .before .before .before .before .before .before .before .before .before .loop .inv .stands) _ (c .before .before .before .before .before .next-entry .ensures .0) (omega arith) in omega (arith, x .next .within, x .next .few, x .short, c .before .before .before .before .before .before .before .before .before .loop .inv .room)
 
 add-at : tie.Need-add-at Inv-loop μ-loop
-add-at c = let k = took _ _ _ _ (c .before .before .before .before .before .before .next-entry .ensures .0) in omega (arith, k .used, c .before .before .before .before .before .before .before .before .before .loop .inv .within)
+add-at c = let x = goes-on _ _ _ _ _ _ _ (c .before .before .before .before .before .before .before .before .before .loop .inv .stands) _ (c .before .before .before .before .before .next-entry .ensures .0) (omega arith) in omega (arith, x .next .within, x .next .few, x .short, c .before .before .before .before .before .before .before .before .before .loop .inv .room)
 
 add-seen : tie.Need-add-seen Inv-loop μ-loop
-add-seen c = omega (arith, c .before .before .before .before .before .before .before .before .before .loop .inv .few)
-
-same-length-2 : tie.Need-same-length-2 Inv-loop μ-loop
-same-length-2 c = search needs
-
-returns-2 : tie.Need-returns-2 Inv-loop μ-loop
-returns-2 c = let k = took _ _ _ _ (c .before .before .before .before .before .before .before .next-entry .ensures .0) in let f = k .few (omega arith) in (omega (arith, k .used, c .before .before .before .before .before .before .before .before .before .before .loop .inv .within), omega arith)
+add-seen c = let x = goes-on _ _ _ _ _ _ _ (c .before .before .before .before .before .before .before .before .before .loop .inv .stands) _ (c .before .before .before .before .before .next-entry .ensures .0) (omega arith) in omega (arith, x .next .within, x .next .few, x .short, c .before .before .before .before .before .before .before .before .before .loop .inv .room)
 
 loop-less : tie.Need-loop-less Inv-loop μ-loop
-loop-less c = let k = took _ _ _ _ (c .before .before .before .before .before .before .before .next-entry .ensures .0) in omega (arith, k .used, c .before .before .before .before .before .before .before .before .before .before .loop .inv .within)
+loop-less c = let x = goes-on _ _ _ _ _ _ _ (c .before .before .before .before .before .before .before .before .before .loop .inv .stands) _ (c .before .before .before .before .before .next-entry .ensures .0) (omega arith) in omega (arith, x .next .within, x .next .few, x .short, c .before .before .before .before .before .before .before .before .before .loop .inv .room)
 
 loop-again : tie.Need-loop-again Inv-loop μ-loop
-loop-again c = let k = took _ _ _ _ (c .before .before .before .before .before .before .before .next-entry .ensures .0) in let f = k .few (omega arith) in record { within = omega (arith, k .used, c .before .before .before .before .before .before .before .before .before .before .loop .inv .within); room = omega (arith, c .before .before .before .before .before .before .before .before .before .before .loop .inv .room); few = omega arith }
+loop-again c = let x = goes-on _ _ _ _ _ _ _ (c .before .before .before .before .before .before .before .before .before .loop .inv .stands) _ (c .before .before .before .before .before .next-entry .ensures .0) (omega arith) in let e = put-turn _ _ (c .before .before .before .before .before .before .before .before .before .loop .inv .room) (c .before .before .before .before .before .before .before .before .loop-test .taken) _ _ (omega (arith, x .long, x .short)) (c .before .before .before .before .before .next-entry .ensures .1) in let h = holds-more _ _ _ _ _ _ (x .next .written) (omega (arith, x .short, c .before .before .before .before .before .before .before .before .before .loop .inv .holds .kept, c .before .before .before .before .before .before .before .before .before .loop .inv .room, c .before .before .before .before .before .before .before .before .loop-test .taken)) (x .long) (x .front) (c .before .before .before .before .before .before .before .before .before .loop .inv .holds) in record { stands = x .next; holds = rw e h; room = rw e (omega (arith, x .short, h .kept, c .before .before .before .before .before .before .before .before .before .loop .inv .holds .kept, c .before .before .before .before .before .before .before .before .before .loop .inv .room, c .before .before .before .before .before .before .before .before .loop-test .taken)); fits = rw e (omega (arith, h .kept, c .before .before .before .before .before .before .before .before .before .loop .inv .holds .kept, c .before .before .before .before .before .before .before .before .before .loop .inv .fits)) }
+
+same-length-2 : tie.Need-same-length-2 Inv-loop μ-loop
+same-length-2 c = c .before .loop .inv .holds .kept
+
+returns-2 : tie.Need-returns-2 Inv-loop μ-loop
+returns-2 c = ran-full _ _ _ _ _ _ _ _ _ (c .before .loop .inv .stands) (c .before .loop .inv .holds) (c .before .loop .inv .room) (c .before .loop .inv .fits) (omega (arith, c .loop-test .left))
 
 pub run-spec : {M : Type 1} → statement M
 run-spec =
@@ -94,19 +88,21 @@ run-spec =
     Inv-loop
     μ-loop
     loop-holds
+    sub-loop
+    add-end
     sub-next-entry
     part-next-entry-start
     part-next-entry-end
+    sub-next-entry-2
+    part-next-entry-start-2
+    part-next-entry-end-2
     next-entry-requires
-    warn-requires
     same-length
     returns
-    slice-reshare-prefix-write-notices
-    slice-aggregate-write-notices
-    write-notices-requires
+    add-n
     add-at
     add-seen
-    same-length-2
-    returns-2
     loop-less
-    loop-again)
+    loop-again
+    same-length-2
+    returns-2)
