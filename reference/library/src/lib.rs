@@ -2,6 +2,7 @@
 //!
 //! Each returns 0 if the call is carried out, else document 01's number; then all that was lent to it holds what it
 //! held before. A slice is never null, and two that are lent for writing never overlap: what C must promise, Rust sees to.
+//! `change`: new posted total minus old, in cents; `counts`: bytes written, groups accepted, groups rejected, bills closed.
 
 mod raw;
 
@@ -18,26 +19,22 @@ pub struct Request {
     pub scheduled: u64,
 }
 
-/// What a call that changes the ledger returns beside its number.
-#[derive(Clone, Copy, Debug, Default, PartialEq, Eq)]
-pub struct Done {
-    /// New posted total minus old, in cents.
-    pub change: i64,
-    /// Bytes written, groups accepted, groups rejected, bills closed.
-    pub counts: [u64; 4],
-}
-
 /// Fresh: today and the two next numbers; any 2436 words do.
-pub fn fresh(ledger: &mut [u64], today: u64, tracking: u64, confirmation: u64, done: &mut Done) -> u64 {
+pub fn fresh(
+    ledger: &mut [u64],
+    today: u64,
+    tracking: u64,
+    confirmation: u64,
+    change: &mut i64,
+    counts: &mut [u64; 4],
+) -> u64 {
     let (words, length) = (ledger.as_mut_ptr(), ledger.len());
     // SAFETY: every pointer and length comes from a reference, so it is valid, aligned and overlaps no other.
-    unsafe {
-        raw::clearing_fresh(words, length, today, tracking, confirmation, &mut done.change, done.counts.as_mut_ptr())
-    }
+    unsafe { raw::clearing_fresh(words, length, today, tracking, confirmation, change, counts.as_mut_ptr()) }
 }
 
 /// Request: writes a BIL.
-pub fn request(ledger: &mut [u64], request: &Request, out: &mut [u8], done: &mut Done) -> u64 {
+pub fn request(ledger: &mut [u64], request: &Request, out: &mut [u8], change: &mut i64, counts: &mut [u64; 4]) -> u64 {
     // SAFETY: as for fresh.
     unsafe {
         raw::clearing_request(
@@ -53,14 +50,14 @@ pub fn request(ledger: &mut [u64], request: &Request, out: &mut [u8], done: &mut
             request.scheduled,
             out.as_mut_ptr(),
             out.len(),
-            &mut done.change,
-            done.counts.as_mut_ptr(),
+            change,
+            counts.as_mut_ptr(),
         )
     }
 }
 
 /// File: decides its groups in order, writes an ACF or REJ for each.
-pub fn file(ledger: &mut [u64], file: &[u8], out: &mut [u8], done: &mut Done) -> u64 {
+pub fn file(ledger: &mut [u64], file: &[u8], out: &mut [u8], change: &mut i64, counts: &mut [u64; 4]) -> u64 {
     // SAFETY: as for fresh.
     unsafe {
         raw::clearing_file(
@@ -70,14 +67,21 @@ pub fn file(ledger: &mut [u64], file: &[u8], out: &mut [u8], done: &mut Done) ->
             file.len(),
             out.as_mut_ptr(),
             out.len(),
-            &mut done.change,
-            done.counts.as_mut_ptr(),
+            change,
+            counts.as_mut_ptr(),
         )
     }
 }
 
 /// Cancel: writes a CXL.
-pub fn cancel(ledger: &mut [u64], account: u64, key: u64, out: &mut [u8], done: &mut Done) -> u64 {
+pub fn cancel(
+    ledger: &mut [u64],
+    account: u64,
+    key: u64,
+    out: &mut [u8],
+    change: &mut i64,
+    counts: &mut [u64; 4],
+) -> u64 {
     // SAFETY: as for fresh.
     unsafe {
         raw::clearing_cancel(
@@ -87,17 +91,17 @@ pub fn cancel(ledger: &mut [u64], account: u64, key: u64, out: &mut [u8], done: 
             key,
             out.as_mut_ptr(),
             out.len(),
-            &mut done.change,
-            done.counts.as_mut_ptr(),
+            change,
+            counts.as_mut_ptr(),
         )
     }
 }
 
 /// Close of day.
-pub fn close(ledger: &mut [u64], today: u64, done: &mut Done) -> u64 {
+pub fn close(ledger: &mut [u64], today: u64, change: &mut i64, counts: &mut [u64; 4]) -> u64 {
     let (words, length) = (ledger.as_mut_ptr(), ledger.len());
     // SAFETY: as for fresh.
-    unsafe { raw::clearing_close(words, length, today, &mut done.change, done.counts.as_mut_ptr()) }
+    unsafe { raw::clearing_close(words, length, today, change, counts.as_mut_ptr()) }
 }
 
 /// The place of an open bill of an account.

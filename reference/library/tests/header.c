@@ -6,7 +6,7 @@
 #include <string.h>
 
 static uint64_t ledger[CLEARING_WORDS];
-static uint8_t out[CLEARING_TABLE];
+static uint8_t out[CLEARING_TABLE_BYTES];
 static int64_t change;
 static uint64_t counts[4];
 
@@ -23,10 +23,10 @@ static void put(uint8_t *record, int position, const char *text) {
 }
 
 /* An RSP for the example's bill: 85 Ccf, 4250 cents, all of it in tier 1. */
-static void make_file(uint8_t file[CLEARING_NOTICE]) {
-    uint8_t *header = file, *detail = file + CLEARING_RECORD;
-    memset(file, ' ', CLEARING_NOTICE);
-    header[CLEARING_RECORD - 1] = detail[CLEARING_RECORD - 1] = 13;
+static void make_file(uint8_t file[CLEARING_NOTICE_BYTES]) {
+    uint8_t *header = file, *detail = file + CLEARING_RECORD_BYTES;
+    memset(file, ' ', CLEARING_NOTICE_BYTES);
+    header[CLEARING_RECORD_BYTES - 1] = detail[CLEARING_RECORD_BYTES - 1] = 13;
     put(header, 1, "34ZZC4012345678001900000000101RSP20171113");
     put(header, 42, "0000000002017111601");
     put(detail, 1, "34ZZC4012345678001900000000102RSP20171113");
@@ -42,7 +42,7 @@ static size_t make_journal(uint8_t *journal, const uint8_t *file) {
     static const char request[] = "ZZC401234567800190007B2017111320171013000000008520171116";
     size_t length = 0;
     const struct { const void *body; size_t length; } entries[3] = {
-        {fresh, sizeof fresh - 1}, {request, sizeof request - 1}, {file, CLEARING_NOTICE}};
+        {fresh, sizeof fresh - 1}, {request, sizeof request - 1}, {file, CLEARING_NOTICE_BYTES}};
     for (uint8_t tag = 0; tag < 3; tag++) {
         journal[length] = tag;
         journal[length + 1] = (uint8_t)(entries[tag].length / 256);
@@ -60,11 +60,12 @@ static int try_calls(const uint8_t *file) {
     return expect("fresh", clearing_fresh(ledger, CLEARING_WORDS, 20171113, 1, 1, &change, counts), CLEARING_DONE)
         && expect("request",
                   clearing_request(ledger, CLEARING_WORDS, code, account, 7, 'B', 20171113, 20171013, 85, 20171116, out,
-                                   CLEARING_NOTICE, &change, counts),
+                                   CLEARING_NOTICE_BYTES, &change, counts),
                   CLEARING_DONE)
-        && expect("bytes of the BIL", counts[0], CLEARING_NOTICE)
+        && expect("bytes of the BIL", counts[0], CLEARING_NOTICE_BYTES)
         && expect("file",
-                  clearing_file(ledger, CLEARING_WORDS, file, CLEARING_NOTICE, out, CLEARING_NOTICE, &change, counts),
+                  clearing_file(ledger, CLEARING_WORDS, file, CLEARING_NOTICE_BYTES, out, CLEARING_NOTICE_BYTES,
+                                &change, counts),
                   CLEARING_DONE)
         && expect("accepted", counts[1], 1) && expect("change", (uint64_t)change, 4250)
         && expect("open bill", clearing_open_bill(ledger, CLEARING_WORDS, account, &place), CLEARING_DONE)
@@ -74,19 +75,20 @@ static int try_calls(const uint8_t *file) {
         && expect("word of the charge", ledger[CLEARING_PLACE(0) + CLEARING_CHARGE], 4250)
         && expect("close", clearing_close(ledger, CLEARING_WORDS, 20171117, &change, counts), CLEARING_DONE)
         && expect("closed", counts[3], 1)
-        && expect("cancel", clearing_cancel(ledger, CLEARING_WORDS, account, 7, out, CLEARING_NOTICE, &change, counts),
+        && expect("cancel",
+                  clearing_cancel(ledger, CLEARING_WORDS, account, 7, out, CLEARING_NOTICE_BYTES, &change, counts),
                   CLEARING_DONE)
         && expect("change", (uint64_t)-change, 4250);
 }
 
 int main(void) {
-    uint8_t file[CLEARING_NOTICE], journal[1000];
+    uint8_t file[CLEARING_NOTICE_BYTES], journal[1000];
     uint64_t told[2] = {9, 9};
     make_file(file);
     size_t length = make_journal(journal, file);
     if (!try_calls(file)
         || !expect("notices", clearing_notices(journal, length, out, sizeof out, told), CLEARING_DONE)
-        || !expect("bytes of the notices", told[0], 3 * CLEARING_RECORD)
+        || !expect("bytes of the notices", told[0], 3 * CLEARING_RECORD_BYTES)
         || !expect("table", clearing_table(journal, length, out, sizeof out, told), CLEARING_DONE)
         || !expect("told", told[1], 0)) {
         return 1;

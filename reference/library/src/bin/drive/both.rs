@@ -1,6 +1,5 @@
 //! A ledger in words, lent to the library, beside the reference's ledger: each call is given to both and compared.
 
-use library::Done;
 use reference::words::{self, BLANK, FIELDS, HEAD, WORDS};
 use reference::{Cause, Ledger};
 
@@ -18,7 +17,8 @@ pub struct Both {
 
 /// What a call may write beside ledger and output.
 struct Figures {
-    done: Lent<Done>,
+    change: Lent<i64>,
+    counts: Lent<u64>,
     place: Lent<u64>,
     amounts: Lent<u64>,
 }
@@ -62,7 +62,7 @@ impl Both {
             return Err(format!("answered {number}, expected {wanted}"));
         }
         same(&out, &wanted_out, "output", &|at| format!("byte {at}"))?;
-        if let (Ok(Answer::Done(_)), Some(ledger)) = (answer, &ledger) {
+        if let (Ok(Answer::Done(..)), Some(ledger)) = (answer, &ledger) {
             if let Call::Fresh { .. } = call {
                 wanted_words[HEAD.len()..].as_chunks_mut().0.fill(BLANK);
             }
@@ -81,9 +81,9 @@ impl Figures {
     /// Values that no call returns.
     fn new(turn: u64) -> Figures {
         let odd = 0xdead_beef_0000_0000 + turn;
-        let done = Done { change: i64::MIN + turn as i64, counts: [odd, odd + 1, odd + 2, odd + 3] };
         Figures {
-            done: Lent::new(&[done], done, 0),
+            change: Lent::new(&[odd as i64], !odd as i64, 0),
+            counts: Lent::new(&[odd, odd + 1, odd + 2, odd + 3], !odd, 0),
             place: Lent::new(&[odd], !odd, 0),
             amounts: Lent::new(&[odd, odd + 1, odd + 2], !odd, 0),
         }
@@ -99,7 +99,10 @@ impl Figures {
     ) -> Result<(), String> {
         let mut wanted = Figures::new(turn);
         match answer {
-            Ok(Answer::Done(done)) => wanted.done.lend()[0] = done,
+            Ok(Answer::Done(change, counts)) => {
+                wanted.change.lend()[0] = change;
+                wanted.counts.lend().copy_from_slice(&counts);
+            }
             Ok(Answer::Amounts(amounts)) => wanted.amounts.lend().copy_from_slice(&amounts),
             Ok(Answer::Open) => {
                 let place = self.place.inside()[0];
@@ -110,7 +113,8 @@ impl Figures {
             }
             Err(_) => {}
         }
-        same(&self.done, wanted.done.inside(), "change and counts", &|_| "they".into())?;
+        same(&self.change, wanted.change.inside(), "change", &|_| "it".into())?;
+        same(&self.counts, wanted.counts.inside(), "counts", &|at| format!("number {at}"))?;
         same(&self.place, wanted.place.inside(), "place", &|_| "it".into())?;
         same(&self.amounts, wanted.amounts.inside(), "amounts", &|at| format!("number {at}"))
     }
@@ -125,18 +129,21 @@ fn is_open_bill(ledger: &Ledger, call: &Call, place: u64) -> bool {
 /// Gives a call to the library; what is lent for reading only must stay as it is.
 fn run(call: &Call, words: &mut [u64], out: &mut [u8], figures: &mut Figures) -> Result<u64, String> {
     let given = call.clone();
-    let done = &mut figures.done.lend()[0];
+    let change = &mut figures.change.lend()[0];
+    let counts = figures.counts.lend().first_chunk_mut().expect("four counts");
     let number = match &given {
-        Call::Fresh { today, tracking, confirmation } => library::fresh(words, *today, *tracking, *confirmation, done),
-        Call::Request(request) => library::request(words, request, out, done),
+        Call::Fresh { today, tracking, confirmation } => {
+            library::fresh(words, *today, *tracking, *confirmation, change, counts)
+        }
+        Call::Request(request) => library::request(words, request, out, change, counts),
         Call::File(file) => {
             let file = Lent::new(file, b'#', out.len() % 8);
-            let number = library::file(words, file.inside(), out, done);
+            let number = library::file(words, file.inside(), out, change, counts);
             same(&file, given_file(call), "file", &|at| format!("byte {at}"))?;
             number
         }
-        Call::Cancel { account, key } => library::cancel(words, *account, *key, out, done),
-        Call::Close { today } => library::close(words, *today, done),
+        Call::Cancel { account, key } => library::cancel(words, *account, *key, out, change, counts),
+        Call::Close { today } => library::close(words, *today, change, counts),
         Call::OpenBill { account } => library::open_bill(words, *account, &mut figures.place.lend()[0]),
         Call::Amounts { account, key } => {
             let amounts = figures.amounts.lend().first_chunk_mut().expect("three amounts");

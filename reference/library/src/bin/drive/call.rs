@@ -2,7 +2,7 @@
 
 use std::fmt;
 
-use library::{Done, Request};
+use library::Request;
 use reference::fields::{Product, RateCode};
 use reference::notices::NOTICE_LENGTH;
 use reference::words::{consumption, date, identity, text};
@@ -22,7 +22,8 @@ pub enum Call {
 /// What a call that is carried out returns.
 #[derive(Clone, Copy, Debug, PartialEq, Eq)]
 pub enum Answer {
-    Done(Done),
+    /// Change and counts.
+    Done(i64, [u64; 4]),
     /// The place of any open bill of the account.
     Open,
     Amounts([u64; 3]),
@@ -54,7 +55,7 @@ impl Call {
     pub fn answer(&self, ledger: &mut Option<Ledger>, out: &mut [u8]) -> Result<Answer, Cause> {
         if let Call::Fresh { today, tracking, confirmation } = self {
             *ledger = Some(Ledger::fresh(&text(*today, 8), &text(*tracking, 9), &text(*confirmation, 9))?);
-            return Ok(Answer::Done(Done::default()));
+            return Ok(Answer::Done(0, [0; 4]));
         }
         let ledger = ledger.as_mut().ok_or(Cause::BadField)?;
         match self {
@@ -135,7 +136,7 @@ impl fmt::Display for Call {
 }
 
 fn figures(change: i64, counts: [usize; 4]) -> Answer {
-    Answer::Done(Done { change, counts: counts.map(|count| count as u64) })
+    Answer::Done(change, counts.map(|count| count as u64))
 }
 
 fn read(request: &Request) -> Option<reference::Request> {

@@ -1,7 +1,9 @@
 //! Whole journals: the library's table and notices, and what it tells, against the reference's.
 
 use reference::generator;
-use reference::journal::replay_notices;
+use reference::groups::entry;
+use reference::journal::{replay, replay_notices, FRESH, REQUEST};
+use reference::ledger::BILL_LIMIT;
 use reference::prng::Prng;
 use reference::table::table;
 
@@ -27,11 +29,31 @@ struct Wanted<'a> {
 
 pub fn drive(seed: u64, tally: &mut Tally) -> Result<(), String> {
     let mut rng = Prng::new(seed ^ 0x7ab1_e000_0000_0000);
-    let journal = &generator::make(seed);
-    let mut notices = Vec::new();
-    let replayed = replay_notices(&journal[..], &mut notices).map_err(|error| error.to_string())?;
-    let (lines, stopped) = (table(&replayed), replayed.stopped);
     let told = |told: String| format!("journal of seed {seed}: {told}");
+    try_journal(&generator::make(seed), &mut rng, tally).map_err(told)
+}
+
+/// A journal of 128 bills that ends in a stray byte has the longest table.
+pub fn longest(tally: &mut Tally) -> Result<(), String> {
+    let mut journal = entry(FRESH, b"20171113000000001000000001");
+    for key in 0..BILL_LIMIT {
+        let request = format!("ZZC40123456780019{key:04}B2017111320171013000000008520171116");
+        journal.extend(entry(REQUEST, request.as_bytes()));
+    }
+    journal.push(0);
+    let length = table(&replay(&journal[..]).map_err(|error| error.to_string())?).len();
+    if length != LONGEST_TABLE {
+        return Err(format!("the longest table has {length} bytes"));
+    }
+    let told = |told: String| format!("the journal with the longest table: {told}");
+    (1..=8).try_for_each(|seed| try_journal(&journal, &mut Prng::new(seed), tally)).map_err(told)
+}
+
+/// Both functions on a journal, with an output that is enough and now and then with a shorter one before.
+fn try_journal(journal: &[u8], rng: &mut Prng, tally: &mut Tally) -> Result<(), String> {
+    let mut notices = Vec::new();
+    let replayed = replay_notices(journal, &mut notices).map_err(|error| error.to_string())?;
+    let (lines, stopped) = (table(&replayed), replayed.stopped);
     let of_table =
         Wanted { name: "table", function: library::table, journal, bytes: &lines, enough: LONGEST_TABLE, stopped };
     let of_notices = Wanted {
@@ -46,9 +68,9 @@ pub fn drive(seed: u64, tally: &mut Tally) -> Result<(), String> {
         let enough = wanted.enough;
         if rng.chance(40) && enough > 0 {
             let short = *rng.pick(&[0, enough - 1, enough - 1, enough / 2, lines.len().min(enough - 1)]);
-            try_length(&wanted, short, tally).map_err(told)?;
+            try_length(&wanted, short, tally)?;
         }
-        try_length(&wanted, enough + *rng.pick(&[0, 0, 0, 1, 321, 5000]), tally).map_err(told)?;
+        try_length(&wanted, enough + *rng.pick(&[0, 0, 0, 1, 321, 5000]), tally)?;
     }
     tally.label(format!("journals: told {}", if stopped { 13 } else { 0 }));
     Ok(())

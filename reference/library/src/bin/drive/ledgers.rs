@@ -10,11 +10,11 @@ use crate::tally::Tally;
 
 type Place = [u64; FIELDS.len()];
 
-/// Makes the ledger of a seed and some calls on it.
-pub fn drive(seed: u64, tally: &mut Tally) -> Result<(), String> {
-    let mut rng = Prng::new(seed ^ 0x1ed6_e200_0000_0000);
+/// Makes a ledger, one of several of a seed, and some calls on it.
+pub fn drive(seed: u64, which: u64, tally: &mut Tally) -> Result<(), String> {
+    let mut rng = Prng::new((seed << 8 | which) ^ 0x1ed6_e200_0000_0000);
     let mut words = some_ledger(&mut rng);
-    let sound = words::read(&words).ok_or(format!("seed {seed}: the ledger made is not sound"))?;
+    let sound = words::read(&words).ok_or(format!("seed {seed}, ledger {which}: drive itself takes it for unsound"))?;
     if rng.chance(60) {
         (0..rng.range(1, 2)).for_each(|_| change_word(&mut rng, &mut words));
     }
@@ -24,7 +24,8 @@ pub fn drive(seed: u64, tally: &mut Tally) -> Result<(), String> {
         let call = some_call(&mut rng, both.ledger().unwrap_or(&sound));
         let enough = call.output().unwrap_or(0);
         let length = *rng.pick(&[enough, enough, enough, enough + 5, enough.saturating_sub(1), 0]);
-        both.call(tally, &call, length).map_err(|told| format!("seed {seed}, call {at} on its ledger: {told}"))?;
+        let told = |told: String| format!("seed {seed}, ledger {which}, call {at}: {told}");
+        both.call(tally, &call, length).map_err(told)?;
     }
     Ok(())
 }

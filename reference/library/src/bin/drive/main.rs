@@ -53,9 +53,10 @@ fn drive(from: u64, count: u64, tally: &mut Tally) -> Result<(), String> {
     places::drive(tally)?;
     edges::drive(tally)?;
     unsound::drive(tally)?;
+    journals::longest(tally)?;
     for seed in from..from + count {
         lists::drive(seed, tally)?;
-        (0..LEDGERS).try_for_each(|at| ledgers::drive(seed * LEDGERS + at, tally))?;
+        (0..LEDGERS).try_for_each(|which| ledgers::drive(seed, which, tally))?;
         journals::drive(seed, tally)?;
     }
     Ok(())
