@@ -5,7 +5,7 @@ pub enum Cause {
     /// Output under the file's length, or under 642.
     OutputTooShort = 1,
     /// A field too wide or not digits, no date, a bad rate code, a bad product, a next number out of range.
-    /// (The ledger part of 2 cannot occur here: only `fresh` makes a ledger, and its fields are private.)
+    /// (The ledger part of 2 cannot occur here: a ledger comes from `fresh` or, sound, from `words`.)
     BadField = 2,
     /// New identity, 128 bills held.
     LedgerFull = 3,

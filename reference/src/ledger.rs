@@ -8,6 +8,7 @@ use crate::dates::Date;
 use crate::fields::{digits, Ccf, Cents, Identity, Product, RateCode};
 use crate::file::{self, Group, FILE_LIMIT, RECORD_LENGTH};
 use crate::notices::{self, Stamp, NOTICE_LENGTH};
+use crate::sound::is_sound;
 use crate::verdict::{self, Accepted, Code, Notification};
 
 pub const BILL_LIMIT: usize = 128;
@@ -118,6 +119,12 @@ impl Ledger {
         let next_tracking = next_number(tracking).ok_or(Cause::BadField)?;
         let next_confirmation = next_number(confirmation).ok_or(Cause::BadField)?;
         Ok(Ledger { today, next_tracking, next_confirmation, bills: Vec::new() })
+    }
+
+    /// A ledger that came from elsewhere; None if it is not sound.
+    pub(crate) fn holding(today: Date, next_tracking: u32, next_confirmation: u32, bills: Vec<Bill>) -> Option<Ledger> {
+        let ledger = Ledger { today, next_tracking, next_confirmation, bills };
+        is_sound(&ledger).then_some(ledger)
     }
 
     /// Request. Its arguments are read, so cause 2 is behind it.

@@ -21,6 +21,7 @@ pub mod shrink;
 pub mod sound;
 pub mod table;
 pub mod verdict;
+pub mod words;
 pub mod workload;
 
 pub use cause::Cause;

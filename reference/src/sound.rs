@@ -1,4 +1,4 @@
-//! Soundness of a ledger. The calls keep it, so none asks for it; the tests do, after every call.
+//! Soundness of a ledger. The calls keep it, so none asks for it; the tests do, after every call, and `words` does.
 
 use crate::fields::Product;
 use crate::ledger::{Bill, Ledger, Posted, BILL_LIMIT, LAST_SEQUENCE, USED_UP};
@@ -26,6 +26,6 @@ fn bill_is_sound(bill: &Bill) -> bool {
         && bill.sequence <= LAST_SEQUENCE
         && (1..USED_UP).contains(&bill.tracking)
         && bill.consumption.0 < 10_u64.pow(10)
-        && charge.0 < 10_u64.pow(13)
+        && [charge, applied, owed].iter().all(|amount| amount.0 < 10_u64.pow(13))
         && applied.0 + owed.0 == charge.0
 }

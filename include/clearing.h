@@ -1,0 +1,143 @@
+/*
+ * clearing.h: the calls of the clearing ledger for Bill Ready and Prepay charges (document 01), proved and compiled
+ * to libclearing_c.a (`rt staticlib clearing_c`, then target/staticlib/), for C and C++ on x86-64 Linux.
+ *
+ * Every function returns 0 if the call is carried out, else one of the causes below; then all that was lent to it
+ * (ledger, out, change, counts, place, amounts, told) holds what it held before. Output past the bytes written is
+ * untouched. Nothing is kept between calls, and nothing but what was lent is read or written.
+ *
+ * Pointers may not be null, must be aligned for their type and may not overlap one another; a pointer with a length
+ * must have that many elements, and for an empty one (length 0) any pointer that is not null will do.
+ *
+ * Numbers are whole: dates yyyymmdd, cents, Ccf. A number that is too wide for its field is refused (2).
+ */
+#ifndef CLEARING_H
+#define CLEARING_H
+
+#include <stddef.h>
+#include <stdint.h>
+
+#ifdef __cplusplus
+extern "C" {
+#endif
+
+/* Lengths. */
+#define CLEARING_WORDS 2436        /* words of a ledger: 4, then 128 places of 19 */
+#define CLEARING_BILLS 128         /* places for bills */
+#define CLEARING_RECORD_BYTES 321  /* a record of a supplier file or a notice */
+#define CLEARING_NOTICE_BYTES 642  /* what a request or a cancel writes */
+#define CLEARING_FILE_BYTES 64200  /* the longest supplier file */
+#define CLEARING_TABLE_BYTES 10970 /* the longest table */
+
+/* The first words of a ledger; then place i (from 0) begins at word CLEARING_PLACE(i). */
+enum {
+    CLEARING_TODAY = 0,
+    CLEARING_NEXT_TRACKING = 1,     /* 1 to 999,999,999; 1,000,000,000 when used up */
+    CLEARING_NEXT_CONFIRMATION = 2, /* the same */
+    CLEARING_COUNT = 3              /* how many places hold a bill, from place 0 on, in order of first request */
+};
+#define CLEARING_PLACE(i) (4 + 19 * (i))
+
+/*
+ * The words of a place. A ledger is sound if each word is in its range, dates are dates (1900 to 2999), no account
+ * and key stand twice, the kind is 0 or the product's, that of a cancelled bill is 0, and applied plus owed is the
+ * charge (kind 2). A place past the count holds no bill and bears on no answer; its words only keep to the form: code
+ * words under 256, product 66 or 80, cancelled 0 or 1, kind 0 to 2, and 0 for amounts that the kind does not use.
+ * After clearing_fresh every place has product 66 and zeros.
+ */
+enum {
+    CLEARING_ACCOUNT = 0,       /* Customer Account Number, 12 digits */
+    CLEARING_KEY = 1,           /* Bill Key, 4 digits */
+    CLEARING_CODE = 2,          /* rate code, words 2 to 5: first, second, tens, ones as bytes; its C is not held */
+    CLEARING_PRODUCT = 6,       /* 66 (B) Bill Ready, 80 (P) Prepay */
+    CLEARING_SEQUENCE = 7,      /* 1 to 999 */
+    CLEARING_REQUESTS = 8,      /* count of requests, 1 to the sequence */
+    CLEARING_CANCELLED = 9,     /* 1 if cancelled, else 0 */
+    CLEARING_TRACKING = 10,     /* Tracking ID, 1 to 999,999,999; from here to word 14: of the latest request */
+    CLEARING_CONSUMPTION = 11,  /* Ccf, 10 digits */
+    CLEARING_BILLING = 12,      /* Billing Date */
+    CLEARING_FROM = 13,         /* From Date */
+    CLEARING_SCHEDULED = 14,    /* Scheduled Date */
+    CLEARING_KIND = 15,         /* posted amounts: 0 none, 1 Bill Ready, 2 Prepay */
+    CLEARING_CHARGE = 16,       /* cents, 13 digits; 0 for kind 0 */
+    CLEARING_APPLIED = 17,      /* cents; 0 for kinds 0 and 1 */
+    CLEARING_OWED = 18          /* cents; 0 for kinds 0 and 1, although a Bill Ready charge counts as owed */
+};
+
+/* What a call returns. */
+enum {
+    CLEARING_DONE = 0,
+    CLEARING_OUTPUT_TOO_SHORT = 1,
+    CLEARING_BAD_FIELD = 2, /* a bad argument, or words that are no sound ledger (fresh asks for their number only) */
+    CLEARING_LEDGER_FULL = 3,
+    CLEARING_NO_SUCH_BILL = 4,
+    CLEARING_BILL_CANCELLED = 5,
+    CLEARING_NOT_THE_BILLS = 6, /* rate code or product */
+    CLEARING_CONSUMPTION_UNCHANGED = 7,
+    CLEARING_LAST_SEQUENCE = 8, /* sequence 999 at a request */
+    CLEARING_SCHEDULED_BEFORE_TODAY = 9,
+    CLEARING_DATE_NOT_AFTER_TODAY = 10,
+    CLEARING_BAD_FILE = 11,
+    CLEARING_NUMBERS_USED_UP = 12,
+    CLEARING_BAD_ENTRY = 13 /* of a journal; stands in told[1] only */
+};
+
+/*
+ * The calls that change a ledger. What each may be refused for stands in the order in which it is asked. They share:
+ *   ledger, ledger_len  the ledger; any length but CLEARING_WORDS is refused (2)
+ *   account, key        the bill: Customer Account Number (12 digits) and Bill Key (4)
+ *   out, out_len        where notices are written
+ *   change              new posted total minus old, in cents
+ *   counts              bytes written, groups accepted, groups rejected, bills closed; 0 where the call has none
+ */
+
+/* Fresh: whatever the ledger held is gone, any words will do. today: a date; tracking and confirmation: the next
+   numbers, 1 to 999,999,999. Refused: 2. */
+uint64_t clearing_fresh(uint64_t *ledger, size_t ledger_len, uint64_t today, uint64_t tracking, uint64_t confirmation,
+                        int64_t *change, uint64_t counts[4]);
+
+/* Request: writes a BIL (CLEARING_NOTICE_BYTES bytes). code: as in "ZZC40"; product: 'B' or 'P'; billing, from and
+   scheduled: dates; consumption: Ccf, 10 digits. Refused: 2, 1, 9, then 5, 6, 7, 8 (known bill) or 3 (new), 12. */
+uint64_t clearing_request(uint64_t *ledger, size_t ledger_len, const uint8_t code[5], uint64_t account, uint64_t key,
+                          uint8_t product, uint64_t billing, uint64_t from, uint64_t consumption, uint64_t scheduled,
+                          uint8_t *out, size_t out_len, int64_t *change, uint64_t counts[4]);
+
+/* File: decides the groups of a supplier file (its bytes, CLEARING_FILE_BYTES at most) in order and writes an ACF or
+   REJ for each. out_len must be file_len or more, although less may be written. Refused: 2, 11, 1, 12. */
+uint64_t clearing_file(uint64_t *ledger, size_t ledger_len, const uint8_t *file, size_t file_len, uint8_t *out,
+                       size_t out_len, int64_t *change, uint64_t counts[4]);
+
+/* Cancel: marks a bill, its posted amounts become none; writes a CXL (CLEARING_NOTICE_BYTES bytes).
+   Refused: 2, 1, 4, 5, 12. */
+uint64_t clearing_cancel(uint64_t *ledger, size_t ledger_len, uint64_t account, uint64_t key, uint8_t *out,
+                         size_t out_len, int64_t *change, uint64_t counts[4]);
+
+/* Close of day: today, a date, becomes the ledger's; counts[3]: bills that were open before and are not after.
+   Refused: 2, 10. */
+uint64_t clearing_close(uint64_t *ledger, size_t ledger_len, uint64_t today, int64_t *change, uint64_t counts[4]);
+
+/* The lookups read the ledger and leave it alone. */
+
+/* place: that of an open bill of the account, from 0; which one, where there are several, is free. Refused: 2, 4. */
+uint64_t clearing_open_bill(const uint64_t *ledger, size_t ledger_len, uint64_t account, uint64_t *place);
+
+/* amounts: charge, applied and owed of one bill; zeros for none, owed the charge for Bill Ready. Refused: 2, 4. */
+uint64_t clearing_amounts(const uint64_t *ledger, size_t ledger_len, uint64_t account, uint64_t key,
+                          uint64_t amounts[3]);
+
+/*
+ * Whole journals (their bytes). A bad entry stops a journal, and what came before it counts: the call is carried out
+ * (0) all the same. told: bytes written; 13 if a bad entry stopped it, it is empty or its fresh was refused, else 0.
+ */
+
+/* The posted table, which ends in `stopped,13` if told[1] is 13. Refused: 1 for out_len under CLEARING_TABLE_BYTES. */
+uint64_t clearing_table(const uint8_t *journal, size_t journal_len, uint8_t *out, size_t out_len, uint64_t told[2]);
+
+/* The notices of every call carried out, one after another. Refused: 1 for out_len under their length. */
+uint64_t clearing_notices(const uint8_t *journal, size_t journal_len, uint8_t *out, size_t out_len, uint64_t told[2]);
+
+#ifdef __cplusplus
+}
+#endif
+
+#endif

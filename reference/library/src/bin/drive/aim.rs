@@ -1,0 +1,115 @@
+//! Calls aimed at the state of a ledger: ones that it carries out, and ones that it refuses for each cause.
+
+use library::Request;
+use reference::dates::Date;
+use reference::file::{FILE_LIMIT, RECORD_LENGTH};
+use reference::groups::{self, Amounts, Sent};
+use reference::prng::Prng;
+use reference::verdict::Notification;
+use reference::{Bill, Ledger};
+
+use crate::call::Call;
+use crate::spoil::spoil;
+
+pub const DATES: [u64; 9] = [19000101, 19001231, 20000229, 20171112, 20171113, 20171114, 20171116, 24000229, 29991231];
+
+/// A call of any kind, most often one that is carried out.
+pub fn some_call(rng: &mut Prng, ledger: &Ledger) -> Call {
+    let (account, key) = some_identity(rng, ledger);
+    let mut call = match rng.below(40) {
+        0..=11 => Call::Request(some_request(rng, ledger)),
+        12..=21 => Call::File(some_file(rng, ledger)),
+        22..=27 => Call::Cancel { account, key },
+        28..=31 => Call::Close { today: some_day(rng, ledger.today(), 25) },
+        32..=35 => Call::OpenBill { account },
+        36..=38 => Call::Amounts { account, key },
+        _ => Call::Fresh { today: *rng.pick(&DATES), tracking: next_number(rng), confirmation: next_number(rng) },
+    };
+    if rng.chance(12) {
+        spoil(rng, &mut call);
+    }
+    call
+}
+
+/// A bill's identity; rarely one that no bill has.
+pub fn some_identity(rng: &mut Prng, ledger: &Ledger) -> (u64, u64) {
+    let unknown = (rng.draw() % 10_u64.pow(12), rng.below(10_000) as u64);
+    if ledger.bills().is_empty() || rng.chance(6) {
+        return unknown;
+    }
+    let identity = rng.pick(ledger.bills()).identity;
+    match rng.below(12) {
+        0 => (identity.account(), unknown.1),
+        1 => (unknown.0, identity.key()),
+        _ => (identity.account(), identity.key()),
+    }
+}
+
+/// A next number that fresh takes.
+pub fn next_number(rng: &mut Prng) -> u64 {
+    *rng.pick(&[1, 2, 7, 20171116, 123_456_789, 999_999_990, 999_999_998, 999_999_999])
+}
+
+/// Today, or a day after it; in so many of a hundred a day before it, if there is one.
+pub fn some_day(rng: &mut Prng, today: Date, before: usize) -> u64 {
+    let today_number = u64::from(today.number());
+    let earlier: Vec<u64> = DATES.into_iter().filter(|date| *date < today_number).collect();
+    if rng.chance(before) && !earlier.is_empty() {
+        return *rng.pick(&earlier);
+    }
+    let days = *rng.pick(&[0, 1, 1, 1, 2, 30]);
+    let day = (0..days).fold(today, |date, _| date.next().unwrap_or(date));
+    day.number().into()
+}
+
+pub fn some_consumption(rng: &mut Prng) -> u64 {
+    *rng.pick(&[0, 1, 85, 86, 4_294_967_381, 9_999_999_999])
+}
+
+fn some_request(rng: &mut Prng, ledger: &Ledger) -> Request {
+    let (account, key) = some_identity(rng, ledger);
+    let of_identity = |bill: &&Bill| (bill.identity.account(), bill.identity.key()) == (account, key);
+    let bill = ledger.bills().iter().find(of_identity);
+    let code = bill.filter(|_| rng.chance(94)).map_or(*rng.pick(&[b"ZZC40", b"A9C07"]), |bill| bill.rate_code.bytes());
+    let product = bill.filter(|_| rng.chance(94)).map_or(*rng.pick(b"BP"), |bill| bill.product.letter());
+    let same = bill.filter(|_| rng.chance(8)).map(|bill| bill.consumption.0);
+    Request {
+        code: *code,
+        account,
+        key,
+        product,
+        billing: *rng.pick(&DATES),
+        from: *rng.pick(&DATES),
+        consumption: same.unwrap_or(some_consumption(rng)),
+        scheduled: some_day(rng, ledger.today(), 10),
+    }
+}
+
+fn some_file(rng: &mut Prng, ledger: &Ledger) -> Vec<u8> {
+    let count = *rng.pick(&[0, 1, 1, 1, 2, 3, 9, 100]);
+    let mut bills: Vec<&Bill> = ledger.bills().iter().collect();
+    rng.shuffle(&mut bills);
+    bills.truncate(count);
+    let mut sent: Vec<Sent> = bills.into_iter().map(|bill| some_group(rng, bill, ledger)).collect();
+    if rng.chance(5) && !sent.is_empty() {
+        sent.insert(0, sent[0].clone());
+    }
+    let mut file = groups::file(&sent);
+    file.truncate(FILE_LIMIT);
+    if rng.chance(25) && !file.is_empty() {
+        // Any printable byte in the text of a record.
+        let at = rng.below(file.len() / RECORD_LENGTH) * RECORD_LENGTH + rng.below(RECORD_LENGTH - 1);
+        file[at] = rng.range(32, 126) as u8;
+    }
+    file
+}
+
+/// RSP for an open bill and SUP for another, rarely the other way round.
+fn some_group(rng: &mut Prng, bill: &Bill, ledger: &Ledger) -> Sent {
+    let rsp = ledger.is_open(bill) != rng.chance(8);
+    let charge = *rng.pick(&[0, 1, 4000, 4250, 9_999_999_999_999, 4_294_971_546]);
+    let applied = *rng.pick(&[0, charge, charge / 3]);
+    let amounts = Amounts { charge, applied, owed: charge - applied, balance: 17 };
+    let notification = if rsp { Notification::Rsp } else { Notification::Sup };
+    groups::group(bill, notification, amounts, ledger.today())
+}

@@ -1,0 +1,46 @@
+//! Each of 128 places: a bill is found, renewed, answered and cancelled wherever it stands.
+
+use library::Request;
+use reference::groups::{self, Amounts};
+use reference::verdict::Notification;
+use reference::{words, Bill, Ledger};
+
+use crate::base::full;
+use crate::both::Both;
+use crate::call::Call;
+use crate::tally::Tally;
+
+pub fn drive(tally: &mut Tally) -> Result<(), String> {
+    let words = full();
+    let ledger = words::read(&words).ok_or("128 bills: drive itself takes them for unsound")?;
+    for (place, bill) in ledger.bills().iter().enumerate() {
+        for call in calls(&ledger, bill) {
+            let told = |told: String| format!("place {place} of 128 bills: {told}");
+            Both::of(&words).plain(tally, &call).map_err(told)?;
+        }
+    }
+    Ok(())
+}
+
+fn calls(ledger: &Ledger, bill: &Bill) -> [Call; 5] {
+    let (account, key) = (bill.identity.account(), bill.identity.key());
+    let amounts = Amounts { charge: 4000, applied: 1, owed: 3999, balance: 0 };
+    let kind = if ledger.is_open(bill) { Notification::Rsp } else { Notification::Sup };
+    let request = Request {
+        code: *bill.rate_code.bytes(),
+        account,
+        key,
+        product: bill.product.letter(),
+        billing: 20171110,
+        from: 20171010,
+        consumption: 91,
+        scheduled: 20171115,
+    };
+    [
+        Call::OpenBill { account },
+        Call::Amounts { account, key },
+        Call::Request(request),
+        Call::File(groups::file(&[groups::group(bill, kind, amounts, ledger.today())])),
+        Call::Cancel { account, key },
+    ]
+}

@@ -1,0 +1,125 @@
+//! What was called, what came of it, and what must have occurred.
+
+use std::collections::BTreeMap;
+
+use crate::call::Call;
+
+/// Every function, and the numbers that document 01 allows for it.
+const ALLOWED: [(&str, &[u64]); 9] = [
+    ("fresh", &[0, 2]),
+    ("request", &[0, 1, 2, 3, 5, 6, 7, 8, 9, 12]),
+    ("file", &[0, 1, 2, 11, 12]),
+    ("cancel", &[0, 1, 2, 4, 5, 12]),
+    ("close", &[0, 2, 10]),
+    ("open_bill", &[0, 2, 4]),
+    ("amounts", &[0, 2, 4]),
+    ("table", &[0, 1]),
+    ("notices", &[0, 1]),
+];
+
+/// Each argument that alone must have been the cause of a 2.
+const ARGUMENTS: [(&str, &[&str]); 6] = [
+    ("fresh", &["today", "next Tracking ID", "next Confirmation Number"]),
+    (
+        "request",
+        &["rate code", "account", "key", "product", "Billing Date", "From Date", "consumption", "Scheduled Date"],
+    ),
+    ("cancel", &["account", "key"]),
+    ("close", &["today"]),
+    ("open_bill", &["account"]),
+    ("amounts", &["account", "key"]),
+];
+
+#[derive(Default)]
+pub struct Tally {
+    numbers: BTreeMap<(&'static str, u64), u64>,
+    labels: BTreeMap<String, u64>,
+}
+
+impl Tally {
+    /// Counts a call on a ledger; `sized`: its words have the right number, `sound`: they are a sound ledger.
+    pub fn call(&mut self, call: &Call, length: usize, number: u64, sized: bool, sound: bool) {
+        let name = call.name();
+        self.number(name, number);
+        if let Some(enough) = call.output() {
+            self.output(name, enough, length, number);
+        }
+        if number == 2 {
+            match call.bad_arguments()[..] {
+                _ if !sized => self.label(format!("{name} 2: length of the ledger")),
+                _ if !sound && name != "fresh" => self.label(format!("{name} 2: ledger not sound")),
+                [argument] => self.label(format!("{name} 2: {argument}")),
+                _ => {}
+            }
+        }
+    }
+
+    pub fn number(&mut self, name: &'static str, number: u64) {
+        *self.numbers.entry((name, number)).or_default() += 1;
+    }
+
+    /// Counts an output by its length, where the length decided or was enough.
+    pub fn output(&mut self, name: &str, enough: usize, length: usize, number: u64) {
+        let kind = match length {
+            _ if length > enough => "long",
+            _ if length == enough => "exact",
+            0 => "0",
+            _ if length + 1 == enough => "short by one",
+            _ => "short",
+        };
+        if number == u64::from(length < enough) {
+            self.label(format!("{name}, output {kind}: {number}"));
+        }
+    }
+
+    pub fn label(&mut self, label: String) {
+        *self.labels.entry(label).or_default() += 1;
+    }
+
+    /// How many calls were made.
+    pub fn calls(&self) -> u64 {
+        self.numbers.values().sum()
+    }
+
+    /// What should have occurred and did not.
+    pub fn missing(&self) -> Vec<String> {
+        let of_numbers = ALLOWED.iter().flat_map(|(name, numbers)| numbers.iter().map(move |number| (*name, *number)));
+        let mut missing: Vec<String> = of_numbers
+            .filter(|pair| !self.numbers.contains_key(pair))
+            .map(|(name, number)| format!("{name} {number}"))
+            .collect();
+        missing.extend(required().into_iter().filter(|label| !self.labels.contains_key(label)));
+        missing
+    }
+
+    /// A line for each function with how often it gave each number, then the labels.
+    pub fn report(&self) -> String {
+        let mut report = String::new();
+        for (name, _) in ALLOWED {
+            let of_name = self.numbers.iter().filter(|((called, _), _)| *called == name);
+            let counts: Vec<String> = of_name.map(|((_, number), count)| format!("{number}: {count}")).collect();
+            report += &format!("{name:<10} {}\n", counts.join("  "));
+        }
+        self.labels.iter().for_each(|(label, count)| report += &format!("{count:>9}  {label}\n"));
+        report
+    }
+}
+
+fn required() -> Vec<String> {
+    let mut labels = Vec::new();
+    for (name, arguments) in ARGUMENTS {
+        labels.extend(arguments.iter().map(|argument| format!("{name} 2: {argument}")));
+    }
+    for (name, _) in &ALLOWED[..7] {
+        labels.push(format!("{name} 2: length of the ledger"));
+        if *name != "fresh" {
+            labels.push(format!("{name} 2: ledger not sound"));
+        }
+    }
+    for name in ["request", "file", "cancel", "table", "notices"] {
+        for kind in ["0: 1", "short by one: 1", "exact: 0", "long: 0"] {
+            labels.push(format!("{name}, output {kind}"));
+        }
+    }
+    labels
+}

@@ -1,0 +1,132 @@
+//! The calls as they should be, by the second implementation.
+
+use reference::fields::{Product, RateCode};
+use reference::journal::{replay_notices, Replayed};
+use reference::words::{self, consumption, date, identity, text, WORDS};
+use reference::{table, Cause, Ledger, Request};
+
+/// The longest table.
+const TABLE: usize = 10_970;
+
+/// A changing call: the rate code or the file, and the numbers in the header's order (product among them).
+pub struct Call<'a> {
+    pub name: &'static str,
+    pub bytes: &'a [u8],
+    pub numbers: Vec<u64>,
+}
+
+/// What it is lent.
+pub struct Lent<'a> {
+    pub words: &'a mut [u64],
+    pub out: &'a mut [u8],
+    pub change: &'a mut i64,
+    pub counts: &'a mut [u64; 4],
+}
+
+/// Carries a changing call out; a refused one leaves all as it was.
+pub fn change(call: &Call, lent: &mut Lent) -> u64 {
+    let result = match call.name {
+        _ if lent.words.len() != WORDS => Err(Cause::BadField),
+        "fresh" => fresh(call),
+        _ => words::read(lent.words).ok_or(Cause::BadField).and_then(|ledger| carry_out(call, ledger, lent.out)),
+    };
+    match result {
+        Ok((ledger, change, counts)) => {
+            if call.name == "fresh" {
+                lent.words.copy_from_slice(&words::of(&ledger));
+            }
+            words::put(&ledger, lent.words);
+            (*lent.change, *lent.counts) = (change, counts.map(|count| count as u64));
+            0
+        }
+        Err(cause) => cause.number().into(),
+    }
+}
+
+/// The ledger after the call, the change and the counts.
+type Done = Result<(Ledger, i64, [usize; 4]), Cause>;
+
+fn fresh(call: &Call) -> Done {
+    let [today, tracking, confirmation] = call.numbers[..] else { return Err(Cause::BadField) };
+    Ok((Ledger::fresh(&text(today, 8), &text(tracking, 9), &text(confirmation, 9))?, 0, [0; 4]))
+}
+
+fn carry_out(call: &Call, mut ledger: Ledger, out: &mut [u8]) -> Done {
+    let (change, counts) = match (call.name, &call.numbers[..]) {
+        ("request", _) => {
+            let done = ledger.request(&request(call).ok_or(Cause::BadField)?, Some(out))?;
+            (done.change, [done.written, 0, 0, 0])
+        }
+        ("file", _) => {
+            let done = ledger.file(call.bytes, Some(out))?;
+            (done.change, [done.written, done.accepted, done.rejected, 0])
+        }
+        ("cancel", &[account, key]) => {
+            let done = ledger.cancel(&text(account, 12), &text(key, 4), Some(out))?;
+            (done.change, [done.written, 0, 0, 0])
+        }
+        (_, today) => (0, [0, 0, 0, ledger.close(&text(today[0], 8))?]),
+    };
+    Ok((ledger, change, counts))
+}
+
+fn request(call: &Call) -> Option<Request> {
+    let [account, key, product, billing, from, ccf, scheduled] = call.numbers[..] else { return None };
+    Some(Request {
+        rate_code: RateCode::read(call.bytes)?,
+        identity: identity(account, key)?,
+        product: Product::read(product as u8)?,
+        billing_date: date(billing)?,
+        from_date: date(from)?,
+        consumption: consumption(ccf)?,
+        scheduled_date: date(scheduled)?,
+    })
+}
+
+pub fn open_bill(words: &[u64], account: u64, place: &mut u64) -> u64 {
+    let result = words::read(words).ok_or(Cause::BadField).and_then(|ledger| ledger.open_bill(&text(account, 12)));
+    result.map_or_else(
+        |cause| cause.number().into(),
+        |found| {
+            *place = found as u64;
+            0
+        },
+    )
+}
+
+pub fn amounts(words: &[u64], account: u64, key: u64, amounts: &mut [u64; 3]) -> u64 {
+    let ledger = words::read(words).ok_or(Cause::BadField);
+    match ledger.and_then(|ledger| ledger.amounts(&text(account, 12), &text(key, 4))) {
+        Ok((charge, applied, owed)) => {
+            *amounts = [charge.0, applied.0, owed.0];
+            0
+        }
+        Err(cause) => cause.number().into(),
+    }
+}
+
+/// A journal's notices, and where it ended.
+fn replay(journal: &[u8]) -> (Vec<u8>, Replayed) {
+    let mut notices = Vec::new();
+    let replayed = replay_notices(journal, &mut notices).expect("a slice is read without an error");
+    (notices, replayed)
+}
+
+pub fn table(journal: &[u8], out: &mut [u8], told: &mut [u64; 2]) -> u64 {
+    let replayed = replay(journal).1;
+    write(&table::table(&replayed), TABLE, replayed.stopped, out, told)
+}
+
+pub fn notices(journal: &[u8], out: &mut [u8], told: &mut [u64; 2]) -> u64 {
+    let (notices, replayed) = replay(journal);
+    write(&notices, notices.len(), replayed.stopped, out, told)
+}
+
+fn write(bytes: &[u8], enough: usize, stopped: bool, out: &mut [u8], told: &mut [u64; 2]) -> u64 {
+    if out.len() < enough {
+        return 1;
+    }
+    out[..bytes.len()].copy_from_slice(bytes);
+    *told = [bytes.len() as u64, if stopped { 13 } else { 0 }];
+    0
+}

@@ -1,0 +1,98 @@
+/* Document 01's example through the calls and lookups, and through the table; prints the table. Any other answer than
+   expected ends it with status 1. */
+#include "clearing.h"
+
+#include <stdio.h>
+#include <string.h>
+
+static uint64_t ledger[CLEARING_WORDS];
+static uint8_t out[CLEARING_TABLE_BYTES];
+static int64_t change;
+static uint64_t counts[4];
+
+static int expect(const char *what, uint64_t got, uint64_t wanted) {
+    if (got != wanted) {
+        fprintf(stderr, "%s: got %llu, expected %llu\n", what, (unsigned long long)got, (unsigned long long)wanted);
+    }
+    return got == wanted;
+}
+
+/* Puts text at a position counted from 1. */
+static void put(uint8_t *record, int position, const char *text) {
+    memcpy(record + position - 1, text, strlen(text));
+}
+
+/* An RSP for the example's bill: 85 Ccf, 4250 cents, all of it in tier 1. */
+static void make_file(uint8_t file[CLEARING_NOTICE_BYTES]) {
+    uint8_t *header = file, *detail = file + CLEARING_RECORD_BYTES;
+    memset(file, ' ', CLEARING_NOTICE_BYTES);
+    header[CLEARING_RECORD_BYTES - 1] = detail[CLEARING_RECORD_BYTES - 1] = 13;
+    put(header, 1, "34ZZC4012345678001900000000101RSP20171113");
+    put(header, 42, "0000000002017111601");
+    put(detail, 1, "34ZZC4012345678001900000000102RSP20171113");
+    put(detail, 42, "00072017111300100000000850000000004250");
+    memset(detail + 79, '0', 233 - 79);
+    put(detail, 80, "20171013");
+    put(detail, 95, "00000000850000000004250");
+}
+
+/* The journal of the same calls; returns its length. */
+static size_t make_journal(uint8_t *journal, const uint8_t *file) {
+    static const char fresh[] = "20171113000000001000000001";
+    static const char request[] = "ZZC401234567800190007B2017111320171013000000008520171116";
+    size_t length = 0;
+    const struct { const void *body; size_t length; } entries[3] = {
+        {fresh, sizeof fresh - 1}, {request, sizeof request - 1}, {file, CLEARING_NOTICE_BYTES}};
+    for (uint8_t tag = 0; tag < 3; tag++) {
+        journal[length] = tag;
+        journal[length + 1] = (uint8_t)(entries[tag].length / 256);
+        journal[length + 2] = (uint8_t)(entries[tag].length % 256);
+        memcpy(journal + length + 3, entries[tag].body, entries[tag].length);
+        length += 3 + entries[tag].length;
+    }
+    return length;
+}
+
+static int try_calls(const uint8_t *file) {
+    const uint8_t code[5] = {'Z', 'Z', 'C', '4', '0'};
+    const uint64_t account = 123456780019;
+    uint64_t place = 99, amounts[3] = {9, 9, 9};
+    return expect("fresh", clearing_fresh(ledger, CLEARING_WORDS, 20171113, 1, 1, &change, counts), CLEARING_DONE)
+        && expect("request",
+                  clearing_request(ledger, CLEARING_WORDS, code, account, 7, 'B', 20171113, 20171013, 85, 20171116, out,
+                                   CLEARING_NOTICE_BYTES, &change, counts),
+                  CLEARING_DONE)
+        && expect("bytes of the BIL", counts[0], CLEARING_NOTICE_BYTES)
+        && expect("file",
+                  clearing_file(ledger, CLEARING_WORDS, file, CLEARING_NOTICE_BYTES, out, CLEARING_NOTICE_BYTES,
+                                &change, counts),
+                  CLEARING_DONE)
+        && expect("accepted", counts[1], 1) && expect("change", (uint64_t)change, 4250)
+        && expect("open bill", clearing_open_bill(ledger, CLEARING_WORDS, account, &place), CLEARING_DONE)
+        && expect("place", place, 0)
+        && expect("amounts", clearing_amounts(ledger, CLEARING_WORDS, account, 7, amounts), CLEARING_DONE)
+        && expect("charge", amounts[0], 4250) && expect("applied", amounts[1], 0) && expect("owed", amounts[2], 4250)
+        && expect("word of the charge", ledger[CLEARING_PLACE(0) + CLEARING_CHARGE], 4250)
+        && expect("close", clearing_close(ledger, CLEARING_WORDS, 20171117, &change, counts), CLEARING_DONE)
+        && expect("closed", counts[3], 1)
+        && expect("cancel",
+                  clearing_cancel(ledger, CLEARING_WORDS, account, 7, out, CLEARING_NOTICE_BYTES, &change, counts),
+                  CLEARING_DONE)
+        && expect("change", (uint64_t)-change, 4250);
+}
+
+int main(void) {
+    uint8_t file[CLEARING_NOTICE_BYTES], journal[1000];
+    uint64_t told[2] = {9, 9};
+    make_file(file);
+    size_t length = make_journal(journal, file);
+    if (!try_calls(file)
+        || !expect("notices", clearing_notices(journal, length, out, sizeof out, told), CLEARING_DONE)
+        || !expect("bytes of the notices", told[0], 3 * CLEARING_RECORD_BYTES)
+        || !expect("table", clearing_table(journal, length, out, sizeof out, told), CLEARING_DONE)
+        || !expect("told", told[1], 0)) {
+        return 1;
+    }
+    fwrite(out, 1, told[0], stdout);
+    return 0;
+}
