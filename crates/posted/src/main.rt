@@ -1,7 +1,7 @@
 // Reads a journal on standard input and writes its posted table.
 ghost use mathlib.Core.Path.{_≡_};
 ghost use lib.ListN.{length};
-ghost use Rattle.replay.specs.Reader.{Good};
+ghost use Rattle.posted.specs.Reading.{Reads, Prints};
 use input::Filled;
 use libc::STDOUT_FILENO;
 use replay::Reader;
@@ -17,7 +17,7 @@ struct End {
 // Reads standard input in pieces and makes its entries.
 fn read_all(buf: &mut [u8]) -> End
     requires { ⌜ length (now buf) ≡ 262144 ⌝ }
-    ensures { λ e. ⌜ Good (e .reader) ⌝ }
+    ensures { λ e. ⌜ Reads (now (buf .exit)) (e .reader) (e .stopped) (e .left) ⌝ }
 {
     let mut r = replay::start();
     let mut have = 0;
@@ -43,12 +43,11 @@ fn read_all(buf: &mut [u8]) -> End
                 };
             }
             Filled::Bytes(n) => {
-                let w = replay::walk(&buf[..n], r);
-                let next = w.reader;
+                let fed = replay::feed(buf, r, n);
+                let next = fed.reader;
                 r = next;
-                let used = w.used;
-                let stopped = w.stopped;
-                have = journal::keep(buf, used, n);
+                have = fed.have;
+                let stopped = fed.stopped;
                 if stopped {
                     return End {
                         reader: r,
@@ -62,22 +61,41 @@ fn read_all(buf: &mut [u8]) -> End
     }
     End {
         reader: r,
-        stopped: true,
+        stopped: false,
         left: have,
         failed: true,
     }
 }
 
+// What came of standard input: its table, so many bytes long, or a read failed.
+enum Printed {
+    Table(usize),
+    Failed,
+}
+
+// Writes the posted table of the journal on standard input to out.
+fn post_input(buf: &mut [u8], out: &mut [u8]) -> Printed
+    requires { ⌜ length (now buf) ≡ 262144 ⌝ }
+    requires { ⌜ length (now out) ≡ 10970 ⌝ }
+    ensures { λ p. ⌜ Prints (now (out .entry)) (now (out .exit)) p ⌝ }
+{
+    let e = read_all(buf);
+    if e.failed {
+        return Printed::Failed;
+    }
+    let r = e.reader;
+    let n = report::finish(out, r, e.stopped, e.left);
+    Printed::Table(n)
+}
+
 fn main() {
     let mut buf = [0u8; 262144];
-    let e = read_all(&mut buf);
-    if e.failed {
+    let mut out = [0u8; 10970];
+    let p = post_input(&mut buf, &mut out);
+    let Printed::Table(n) = p else {
         os::fail(b"read");
         return;
-    }
-    let mut out = [0u8; 10970];
-    let r = e.reader;
-    let n = report::finish(&mut out, r, e.stopped, e.left);
+    };
     if !io::write_all(STDOUT_FILENO, &out[..n]) {
         os::fail(b"write");
     }

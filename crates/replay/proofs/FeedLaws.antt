@@ -1,4 +1,4 @@
--- Walks over the pieces of a journal, one after another, read the whole. Assumes nothing.
+-- The pieces of a journal, read one after another, are the whole. Assumes nothing.
 use Prim.Native.Nat.{ℕ, _+_, _-_, _≤_}
 use mathlib.Core.Path.{_≡_, refl, sym, ap, ap₂, _∙_}
 use mathlib.Core.Bool.{Bool, false}
@@ -16,6 +16,7 @@ use Rattle.journal.proofs.JournalLaws.{parse-append}
 use Rattle.journal.proofs.BeginLaws.{makes-append}
 use Rattle.replay.specs.declared.Reader.{Reader}
 use Rattle.replay.specs.declared.Walked.{Walked}
+use Rattle.replay.specs.declared.Fed.{Fed}
 use Rattle.replay.specs.Reader.{Good, leaves, Walks, Read, Feeds}
 use Rattle.replay.proofs.ReaderLaws.{leaves-append}
 
@@ -37,18 +38,18 @@ module _ (r : Reader) (s : List ℕ) (k : Reader) (rest : List ℕ) (q : Read r 
       ∙ ap (λ (p : Parsed). record { entries = first .entries ++ p .entries; stopped = p .stopped; rest = p .rest })
       (ap₂ (λ (n : ℕ) (xs : List ℕ). parse n (xs ++ ys)) (sym (q .seen)) (sym (q .left)))
 
-  pub read-more : (w : Walked) → Walks k (rest ++ ys) w → Read r (s ++ ys) (w .reader) (w .stopped) (drop (w .used) (rest ++ ys))
-  read-more w x =
+  pub read-more : (m : Reader) (stopped : Bool) (zs : List ℕ) → Read k (rest ++ ys) m stopped zs → Read r (s ++ ys) m stopped zs
+  read-more m stopped zs x =
       record {
         good = x .good;
         ledger =
             x .ledger
-            ∙ ap (λ (m : Book). makes m (second .entries)) (q .ledger)
+            ∙ ap (λ (l : Book). makes l (second .entries)) (q .ledger)
             ∙ sym (makes-append (book (r .ledger)) (first .entries) (second .entries))
             ∙ ap (λ (p : Parsed). makes (book (r .ledger)) (p .entries)) (sym both);
         whole =
             x .whole
-            ∙ ap (λ (m : Ledger). leaves m (second .entries)) (q .whole)
+            ∙ ap (λ (l : Ledger). leaves l (second .entries)) (q .whole)
             ∙ sym (leaves-append (r .ledger) (first .entries) (second .entries))
             ∙ ap (λ (p : Parsed). leaves (r .ledger) (p .entries)) (sym both);
         seen =
@@ -59,8 +60,8 @@ module _ (r : Reader) (s : List ℕ) (k : Reader) (rest : List ℕ) (q : Read r 
               ap (λ (p : Parsed). length (p .entries)) both,
               length-append (first .entries) (second .entries),
             );
-        ends = x .stopped ∙ ap (λ (p : Parsed). p .stopped) (sym both);
-        left = x .rest ∙ ap (λ (p : Parsed). p .rest) (sym both);
+        ends = x .ends ∙ ap (λ (p : Parsed). p .stopped) (sym both);
+        left = x .left ∙ ap (λ (p : Parsed). p .rest) (sym both);
       }
 
 -- what a walk over the first bytes of a buffer left is kept at its start
@@ -108,3 +109,13 @@ module _ (r : Reader) (n : ℕ) (before after : List ℕ) (w : Walked) (have : �
         have = size;
         bytes = bytes;
       }
+
+-- so much more of a buffer was fed, behind what was held of the bytes s
+pub fed-more : (r : Reader) (s : List ℕ) (k : Reader) (have n : ℕ) (before after : List ℕ) (f : Fed) → Read r s k false (take have before) → have ≤ n
+    → Feeds k n before after f → Read r (s ++ part before have (n - have)) (f .reader) (f .stopped) (take (f .have) after)
+unfolding part
+fed-more r s k have n before after f q h x =
+    let e : n ≡ have + (n - have) = omega arith in
+    let split : take n before ≡ take have before ++ take (n - have) (drop have before) =
+    ap (λ (i : ℕ). take i before) e ∙ take-add have (n - have) before in
+    read-more r s k (take have before) q (take (n - have) (drop have before)) (f .reader) (f .stopped) (take (f .have) after) (rw split at (x .read))

@@ -1,16 +1,24 @@
 -- `posted::main` ends and is safe: the table fits its output.
 use borrow.Author.Needs.{needs}
-use native.Mathlib.Omega.{arith}
 use mathlib.Core.Path.{sym}
 use lib.Seq.{length-take-le}
 use Rattle.posted.proofs.main.Statement.{statement}
 use Rattle.posted.proofs.main.Tie as tie
 
-slice-aggregate-read-all : tie.Need-slice-aggregate-read-all
-slice-aggregate-read-all c = search needs
+slice-aggregate-post-input : tie.Need-slice-aggregate-post-input
+slice-aggregate-post-input c = search needs
 
-read-all-requires : tie.Need-read-all-requires
-read-all-requires c κs = search needs
+slice-aggregate-post-input-2 : tie.Need-slice-aggregate-post-input-2
+slice-aggregate-post-input-2 c = search needs
+
+post-input-requires : tie.Need-post-input-requires
+post-input-requires c κs = search needs
+
+enum-known-p : tie.Need-enum-known-p
+enum-known-p c = search needs
+
+enum-told : tie.Need-enum-told
+enum-told c = search needs
 
 slice-aggregate-fail : tie.Need-slice-aggregate-fail
 slice-aggregate-fail c = search needs
@@ -21,17 +29,11 @@ fail-requires c κs = search needs
 returns : tie.Need-returns
 returns c = search needs
 
-slice-aggregate-finish : tie.Need-slice-aggregate-finish
-slice-aggregate-finish c = search needs
-
-finish-requires : tie.Need-finish-requires
-finish-requires c κs = search needs
-
 array-share-prefix-out : tie.Need-array-share-prefix-out
-array-share-prefix-out c = omega (arith, c .before .finish .ensures .1 .1, c .before .finish .kept .0)
+array-share-prefix-out c = let t = rw (c .before .p .given .1) at (c .before .before .before .before .before .post-input .ensures) in t .within
 
 slice-aggregate-write-all : tie.Need-slice-aggregate-write-all
-slice-aggregate-write-all c = sym (length-take-le _ _ (omega (arith, c .before .before .finish .ensures .1 .1, c .before .before .finish .kept .0)))
+slice-aggregate-write-all c = let t = rw (c .before .before .p .given .1) at (c .before .before .before .before .before .before .post-input .ensures) in sym (length-take-le _ _ (t .within))
 
 write-all-requires : tie.Need-write-all-requires
 write-all-requires c κs = search needs
@@ -52,13 +54,14 @@ pub main-spec : {M : Type 1} → statement M
 main-spec =
     tie.close
     (tie.spec
-    slice-aggregate-read-all
-    read-all-requires
+    slice-aggregate-post-input
+    slice-aggregate-post-input-2
+    post-input-requires
+    enum-known-p
+    enum-told
     slice-aggregate-fail
     fail-requires
     returns
-    slice-aggregate-finish
-    finish-requires
     array-share-prefix-out
     slice-aggregate-write-all
     write-all-requires
