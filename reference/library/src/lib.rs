@@ -1,8 +1,8 @@
 //! The functions of libclearing_c.a (`include/clearing.h`) for Rust: argument for argument, without unsafe.
 //!
 //! Each returns 0 if the call is carried out, else document 01's number; then all that was lent to it holds what it
-//! held before. A slice is never null, and two that are lent for writing never overlap: what C must promise, Rust sees to.
-//! `change`: new posted total minus old, in cents; `counts`: bytes written, groups accepted, groups rejected, bills closed.
+//! held before. A slice is never null, and two lent for writing never overlap: what C must promise, Rust sees to.
+//! `change`: new posted total minus old, in cents; `counts`: bytes written, groups accepted and rejected, bills closed.
 
 mod raw;
 

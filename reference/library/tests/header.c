@@ -2,8 +2,14 @@
    expected ends it with status 1. */
 #include "clearing.h"
 
+#include <assert.h>
 #include <stdio.h>
 #include <string.h>
+
+static_assert(CLEARING_PLACE(CLEARING_BILLS) == CLEARING_WORDS, "the places fill the ledger");
+static_assert(CLEARING_NOTICE_BYTES == 2 * CLEARING_RECORD_BYTES, "a header and a detail");
+static_assert(CLEARING_FILE_BYTES == 200 * CLEARING_RECORD_BYTES, "200 records");
+static_assert(CLEARING_TABLE_BYTES == 56 + 128 * 85 + 23 + 11, "heading, lines, total, stopped");
 
 static uint64_t ledger[CLEARING_WORDS];
 static uint8_t out[CLEARING_TABLE_BYTES];
@@ -53,6 +59,26 @@ static size_t make_journal(uint8_t *journal, const uint8_t *file) {
     return length;
 }
 
+/* The words by their names, once the file is taken. */
+static int try_words(void) {
+    static const struct { const char *name; int word; uint64_t value; } words[] = {
+        {"account", CLEARING_ACCOUNT, 123456780019}, {"key", CLEARING_KEY, 7}, {"first", CLEARING_CODE, 'Z'},
+        {"tens", CLEARING_CODE + 2, '4'}, {"ones", CLEARING_CODE + 3, '0'}, {"product", CLEARING_PRODUCT, 'B'},
+        {"sequence", CLEARING_SEQUENCE, 1}, {"requests", CLEARING_REQUESTS, 1}, {"cancelled", CLEARING_CANCELLED, 0},
+        {"Tracking ID", CLEARING_TRACKING, 1}, {"consumption", CLEARING_CONSUMPTION, 85},
+        {"Billing Date", CLEARING_BILLING, 20171113}, {"From Date", CLEARING_FROM, 20171013},
+        {"Scheduled Date", CLEARING_SCHEDULED, 20171116}, {"kind", CLEARING_KIND, 1},
+        {"charge", CLEARING_CHARGE, 4250}, {"applied", CLEARING_APPLIED, 0}, {"owed", CLEARING_OWED, 0}};
+    int good = expect("today", ledger[CLEARING_TODAY], 20171113)
+        && expect("next Tracking ID", ledger[CLEARING_NEXT_TRACKING], 2)
+        && expect("next Confirmation Number", ledger[CLEARING_NEXT_CONFIRMATION], 3)
+        && expect("count", ledger[CLEARING_COUNT], 1);
+    for (size_t i = 0; i < sizeof words / sizeof words[0]; i++) {
+        good = good && expect(words[i].name, ledger[CLEARING_PLACE(0) + words[i].word], words[i].value);
+    }
+    return good;
+}
+
 static int try_calls(const uint8_t *file) {
     const uint8_t code[5] = {'Z', 'Z', 'C', '4', '0'};
     const uint64_t account = 123456780019;
@@ -72,7 +98,7 @@ static int try_calls(const uint8_t *file) {
         && expect("place", place, 0)
         && expect("amounts", clearing_amounts(ledger, CLEARING_WORDS, account, 7, amounts), CLEARING_DONE)
         && expect("charge", amounts[0], 4250) && expect("applied", amounts[1], 0) && expect("owed", amounts[2], 4250)
-        && expect("word of the charge", ledger[CLEARING_PLACE(0) + CLEARING_CHARGE], 4250)
+        && try_words()
         && expect("close", clearing_close(ledger, CLEARING_WORDS, 20171117, &change, counts), CLEARING_DONE)
         && expect("closed", counts[3], 1)
         && expect("cancel",

@@ -1,5 +1,5 @@
 //! The library's functions over the second implementation: what `drive` is tried on, as it stands and with faults put
-//! into it (`faults.txt`, by `src/bin/faults.rs`). It can never show a fault of the library; it shows that drive does.
+//! into it (`faults/`, by `src/bin/faults.rs`). It can never show a fault of the library; it shows that drive does.
 #![allow(clippy::missing_safety_doc, clippy::too_many_arguments)] // include/clearing.h says what callers owe
 
 mod calls;

@@ -6,53 +6,51 @@ use reference::groups::{self, Amounts};
 use reference::verdict::Notification;
 use reference::words;
 
+use crate::call::Call;
 use crate::lent::Lent;
+use crate::run::{run, Figures};
 use crate::tally::Tally;
 
-/// What is lent to every call: a ledger, an output, change and counts.
-struct Held {
+/// What is lent to every call.
+struct Held<'a> {
     words: Lent<u64>,
     out: Lent<u8>,
-    change: Lent<i64>,
-    counts: Lent<u64>,
+    figures: Figures,
+    tally: &'a mut Tally,
 }
 
 pub fn drive(tally: &mut Tally) -> Result<(), String> {
-    let mut held = Held {
-        words: Lent::new(&[u64::MAX; 2436], 1, 0),
-        out: Lent::new(&[b'#'; 2000], 2, 1),
-        change: Lent::new(&[-1], 3, 0),
-        counts: Lent::new(&[9; 4], 4, 0),
-    };
+    let (words, out) = (Lent::new(&[u64::MAX; 2436], 1, 0), Lent::new(&[b'#'; 2000], 2, 1));
+    let mut held = Held { words, out, figures: Figures::new(7), tally };
     fresh(&mut held)?;
     request(&mut held)?;
     file(&mut held)?;
     crossed(&mut held)?;
     cancel_and_close(&mut held)?;
-    empty(&mut held)?;
-    for (name, times) in [("fresh", 1), ("request", 3), ("file", 2), ("cancel", 1), ("close", 1), ("amounts", 2)] {
-        (0..times).for_each(|_| tally.number(name, 0));
-    }
-    ["open_bill", "open_bill", "notices"].iter().for_each(|name| tally.number(name, 0));
-    Ok(())
+    empty(&mut held)
 }
 
-impl Held {
-    /// Makes a call; it must be carried out and return these figures.
-    fn call(
-        &mut self,
-        what: &str,
-        call: impl FnOnce(&mut [u64], &mut [u8], &mut i64, &mut [u64; 4]) -> u64,
-        change: i64,
-        counts: [u64; 4],
-    ) -> Result<(), String> {
-        let lent_counts = self.counts.lend().first_chunk_mut().expect("four counts");
-        let number = call(self.words.lend(), self.out.lend(), &mut self.change.lend()[0], lent_counts);
-        expect(what, &number, &0)?;
-        expect("change", self.change.inside(), &[change])?;
-        expect("counts", self.counts.inside(), &counts)?;
-        let whole = self.words.is_whole() && self.out.is_whole() && self.change.is_whole() && self.counts.is_whole();
-        expect("margins", &whole, &true)
+impl Held<'_> {
+    /// Makes a call, which must be carried out and write nothing beside what is lent.
+    fn call(&mut self, call: &Call) -> Result<(), String> {
+        let number = run(call, self.words.lend(), self.out.lend(), &mut self.figures)?;
+        expect(call.name(), &number, &0)?;
+        let whole = self.words.is_whole() && self.out.is_whole() && self.figures.are_whole();
+        expect("margins", &whole, &true)?;
+        self.tally.call(call, self.out.inside().len(), number, true, true);
+        Ok(())
+    }
+
+    /// A call that changes the ledger, with the change and the counts that it must return.
+    fn change(&mut self, call: &Call, change: i64, counts: [u64; 4]) -> Result<(), String> {
+        self.call(call)?;
+        expect("change", self.figures.change.inside(), &[change])?;
+        expect("counts", self.figures.counts.inside(), &counts)
+    }
+
+    fn amounts(&mut self, account: u64, key: u64, wanted: [u64; 3]) -> Result<(), String> {
+        self.call(&Call::Amounts { account, key })?;
+        expect("amounts", self.figures.amounts.inside(), &wanted)
     }
 
     fn words(&self, from: usize, to: usize, wanted: &[u64]) -> Result<(), String> {
@@ -62,10 +60,7 @@ impl Held {
 
 /// Each argument is a date and a next number.
 fn fresh(held: &mut Held) -> Result<(), String> {
-    let call = |words: &mut [u64], _: &mut [u8], change: &mut i64, counts: &mut [u64; 4]| {
-        library::fresh(words, 20171113, 20171114, 20171115, change, counts)
-    };
-    held.call("fresh", call, 0, [0; 4])?;
+    held.change(&Call::Fresh { today: 20171113, tracking: 20171114, confirmation: 20171115 }, 0, [0; 4])?;
     held.words(0, 3, &[20171113, 20171114, 20171115, 0])?;
     let blank = [0, 0, 0, 0, 0, 0, 66, 0, 0, 0, 0, 0, 0, 0, 0, 0, 0, 0, 0];
     held.words.inside()[4..].chunks(19).try_for_each(|place| expect("a blank place", place, &blank))
@@ -76,12 +71,7 @@ fn request(held: &mut Held) -> Result<(), String> {
     let (code, account, key, product) = (*b"A7C39", 20171121, 22, b'P');
     let (billing, from, consumption, scheduled) = (20171123, 20171124, 20171125, 20171126);
     let request = Request { code, account, key, product, billing, from, consumption, scheduled };
-    held.call(
-        "request",
-        |w, out, change, counts| library::request(w, &request, out, change, counts),
-        0,
-        [642, 0, 0, 0],
-    )?;
+    held.change(&Call::Request(request), 0, [642, 0, 0, 0])?;
     held.words(0, 3, &[20171113, 20171115, 20171116, 1])?;
     #[rustfmt::skip]
     let place = [
@@ -105,69 +95,47 @@ fn file(held: &mut Held) -> Result<(), String> {
     stranger.details[0][41..45].copy_from_slice(b"0023");
     let mut other = stranger.clone();
     other.details[0][41..45].copy_from_slice(b"0024");
-    let bytes = groups::file(&[stranger, sent, other]);
-    let counts = [5 * 321, 1, 2, 0];
-    held.call("file", |words, out, change, counts| library::file(words, &bytes, out, change, counts), 4250, counts)?;
+    held.change(&Call::File(groups::file(&[stranger, sent, other])), 4250, [5 * 321, 1, 2, 0])?;
     held.words(19, 22, &[2, 4250, 4000, 250])?;
     held.words(0, 3, &[20171113, 20171115, 20171119, 1])?;
-    let mut amounts = [9; 3];
-    let number = library::amounts(held.words.inside(), 20171121, 22, &mut amounts);
-    expect("amounts", &(number, amounts), &(0, [4250, 4000, 250]))
+    held.amounts(20171121, 22, [4250, 4000, 250])
 }
 
 /// Two bills whose account and key are each other's: 7 and 12, 12 and 7.
 fn crossed(held: &mut Held) -> Result<(), String> {
-    let ask = |account, key| Request {
-        code: *b"ZZC40",
-        account,
-        key,
-        product: b'B',
-        billing: 20171101,
-        from: 20171001,
-        consumption: 85,
-        scheduled: 20171113,
-    };
-    for (place, request) in [(1, ask(7, 12)), (2, ask(12, 7))] {
-        let call = |words: &mut [u64], out: &mut [u8], change: &mut i64, counts: &mut [u64; 4]| {
-            library::request(words, &request, out, change, counts)
-        };
-        held.call("request", call, 0, [642, 0, 0, 0])?;
-        let mut open = 99;
-        let number = library::open_bill(held.words.inside(), request.account, &mut open);
-        expect("open bill", &(number, open), &(0, place))?;
+    for (place, account, key) in [(1, 7, 12), (2, 12, 7)] {
+        let (code, product, consumption) = (*b"ZZC40", b'B', 85);
+        let (billing, from, scheduled) = (20171101, 20171001, 20171113);
+        let request = Request { code, account, key, product, billing, from, consumption, scheduled };
+        held.change(&Call::Request(request), 0, [642, 0, 0, 0])?;
+        held.call(&Call::OpenBill { account })?;
+        expect("place", held.figures.place.inside(), &[place])?;
     }
     // Posted by hand: 31 on the first, 32 on the second.
     held.words.lend()[4 + 19 + 15..4 + 19 + 17].copy_from_slice(&[1, 31]);
     held.words.lend()[4 + 38 + 15..4 + 38 + 17].copy_from_slice(&[1, 32]);
-    let mut amounts = [9; 3];
-    let number = library::amounts(held.words.inside(), 12, 7, &mut amounts);
-    expect("amounts", &(number, amounts), &(0, [32, 0, 32]))
+    held.amounts(12, 7, [32, 0, 32])
 }
 
 fn cancel_and_close(held: &mut Held) -> Result<(), String> {
-    let cancel = |words: &mut [u64], out: &mut [u8], change: &mut i64, counts: &mut [u64; 4]| {
-        library::cancel(words, 12, 7, out, change, counts)
-    };
-    held.call("cancel", cancel, -32, [642, 0, 0, 0])?;
+    held.change(&Call::Cancel { account: 12, key: 7 }, -32, [642, 0, 0, 0])?;
     let marks: Vec<u64> = (0..3).map(|place| held.words.inside()[4 + 19 * place + 9]).collect();
     expect("cancelled", &marks[..], &[0, 0, 1])?;
     expect("CXL", &held.out.inside()[..28], b"34ZZC40000000000012020171117")?;
-    let close = |words: &mut [u64], _: &mut [u8], change: &mut i64, counts: &mut [u64; 4]| {
-        library::close(words, 20171114, change, counts)
-    };
-    held.call("close", close, 0, [0, 0, 0, 1])?;
+    held.change(&Call::Close { today: 20171114 }, 0, [0, 0, 0, 1])?;
     held.words(0, 3, &[20171114, 20171118, 20171122, 3])
 }
 
-/// Nothing lent: pointers that are not null and point nowhere.
+/// Empty slices: pointers that are not null and point nowhere.
 fn empty(held: &mut Held) -> Result<(), String> {
-    let file = |words: &mut [u64], _: &mut [u8], change: &mut i64, counts: &mut [u64; 4]| {
-        library::file(words, &[], &mut [], change, counts)
-    };
-    held.call("empty file", file, 0, [0; 4])?;
-    let mut told = [9; 2];
+    let (mut change, mut counts, mut told) = (9, [9; 4], [9; 2]);
+    let number = library::file(held.words.lend(), &[], &mut [], &mut change, &mut counts);
+    expect("empty file", &(number, change, counts), &(0, 0, [0; 4]))?;
+    held.tally.number("file", number);
     let number = library::notices(&[], &mut [], &mut told);
-    expect("notices of an empty journal", &(number, told), &(0, [0, 13]))
+    expect("notices of an empty journal", &(number, told), &(0, [0, 13]))?;
+    held.tally.number("notices", number);
+    Ok(())
 }
 
 fn expect<T: PartialEq + std::fmt::Debug + ?Sized>(what: &str, got: &T, wanted: &T) -> Result<(), String> {

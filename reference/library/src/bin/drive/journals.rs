@@ -7,8 +7,7 @@ use reference::ledger::BILL_LIMIT;
 use reference::prng::Prng;
 use reference::table::table;
 
-use crate::both::{pattern, same};
-use crate::lent::Lent;
+use crate::lent::{pattern, same, Lent};
 use crate::tally::Tally;
 
 /// The longest table: heading, 128 lines, total and `stopped,13`.

@@ -33,3 +33,24 @@ impl<T: Copy + PartialEq> Lent<T> {
         [before, after].concat().iter().all(|cell| *cell == self.edge)
     }
 }
+
+/// Bytes that differ from call to call.
+pub fn pattern(turn: u64, length: usize) -> Vec<u8> {
+    (0..length).map(|at| (at as u8).wrapping_mul(7).wrapping_add((turn as u8).wrapping_mul(13))).collect()
+}
+
+/// Compares what was lent with what it should hold, and the margins around it.
+pub fn same<T>(lent: &Lent<T>, wanted: &[T], what: &str, name: &dyn Fn(usize) -> String) -> Result<(), String>
+where
+    T: Copy + PartialEq + std::fmt::Debug,
+{
+    // What was lent for reading may have been changed all the same: it is read again.
+    let lent = std::hint::black_box(lent);
+    if let Some(at) = lent.inside().iter().zip(wanted).position(|(got, wanted)| got != wanted) {
+        return Err(format!("{what}: {} holds {:?}, expected {:?}", name(at), lent.inside()[at], wanted[at]));
+    }
+    if !lent.is_whole() {
+        return Err(format!("{what}: written beside what was lent"));
+    }
+    Ok(())
+}

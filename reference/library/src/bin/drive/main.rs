@@ -11,6 +11,7 @@ mod ledgers;
 mod lent;
 mod lists;
 mod places;
+mod run;
 mod spoil;
 mod tally;
 mod unsound;

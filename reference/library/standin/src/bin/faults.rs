@@ -1,11 +1,16 @@
-//! faults [WORD]: puts each fault of `faults.txt` (or those whose line has the word) into a copy of the reference and
+//! faults [WORD]: puts each fault of `faults/` (or those whose name has the word) into a copy of the reference and
 //! the stand-in, links drive to it and runs it. Drive must find every one, and nothing in the copy as it stands.
 
 use std::path::{Path, PathBuf};
 use std::process::{exit, Command, Output};
 use std::{env, fs, io};
 
-const FAULTS: &str = include_str!("../../faults.txt");
+const FAULTS: [&str; 4] = [
+    include_str!("../../faults/arguments.txt"),
+    include_str!("../../faults/causes.txt"),
+    include_str!("../../faults/soundness.txt"),
+    include_str!("../../faults/writing.txt"),
+];
 /// As many as the gate's first; every fault is found by then.
 const SEEDS: [&str; 3] = ["--seeds", "1", "200"];
 
@@ -85,16 +90,16 @@ fn build(package: &Path, what: &[&str], target: &Path, library: &Path) -> io::Re
     }
 }
 
-/// Blocks of a name, a file, lines of old text (-) and of new text (+), with an empty line between.
+/// A fault is a name, a file below reference/, the text taken out (-) and the text put in (+), then an empty line.
 fn faults() -> Vec<Fault> {
     let block = |block: &'static str| {
-        let mut lines = block.lines().filter(|line| !line.starts_with('#'));
+        let mut lines = block.trim().lines().filter(|line| !line.starts_with('#'));
         let (name, file) = (lines.next()?, lines.next()?);
         let lines: Vec<&str> = lines.collect();
         let text = |mark: &str| lines.iter().filter_map(|line| line.strip_prefix(mark)).collect::<Vec<_>>().join("\n");
         Some(Fault { name, file, old: text("-"), new: text("+") })
     };
-    FAULTS.split("\n\n").filter_map(block).collect()
+    FAULTS.iter().flat_map(|file| file.split("\n\n")).filter_map(block).collect()
 }
 
 /// Copies the sources, without what cargo built.

@@ -1,0 +1,104 @@
+//! Gives a call to the library, with what it may write lent between margins.
+
+use reference::{Cause, Ledger};
+
+use crate::call::{Answer, Call};
+use crate::lent::{same, Lent};
+
+/// What a call may write beside ledger and output.
+pub struct Figures {
+    pub change: Lent<i64>,
+    pub counts: Lent<u64>,
+    pub place: Lent<u64>,
+    pub amounts: Lent<u64>,
+}
+
+impl Figures {
+    /// Values that no call returns.
+    pub fn new(turn: u64) -> Figures {
+        let odd = 0xdead_beef_0000_0000 + turn;
+        Figures {
+            change: Lent::new(&[odd as i64], !odd as i64, 0),
+            counts: Lent::new(&[odd, odd + 1, odd + 2, odd + 3], !odd, 0),
+            place: Lent::new(&[odd], !odd, 0),
+            amounts: Lent::new(&[odd, odd + 1, odd + 2], !odd, 0),
+        }
+    }
+
+    pub fn are_whole(&self) -> bool {
+        self.change.is_whole() && self.counts.is_whole() && self.place.is_whole() && self.amounts.is_whole()
+    }
+
+    /// Holds what the call left against its answer; what it does not answer stays as it was.
+    pub fn compare(
+        &self,
+        turn: u64,
+        call: &Call,
+        answer: Result<Answer, Cause>,
+        ledger: Option<&Ledger>,
+    ) -> Result<(), String> {
+        let mut wanted = Figures::new(turn);
+        match answer {
+            Ok(Answer::Done(change, counts)) => {
+                wanted.change.lend()[0] = change;
+                wanted.counts.lend().copy_from_slice(&counts);
+            }
+            Ok(Answer::Amounts(amounts)) => wanted.amounts.lend().copy_from_slice(&amounts),
+            Ok(Answer::Open) => {
+                let place = self.place.inside()[0];
+                if !ledger.is_some_and(|ledger| is_open_bill(ledger, call, place)) {
+                    return Err(format!("place {place} is no open bill of the account"));
+                }
+                wanted.place.lend()[0] = place;
+            }
+            Err(_) => {}
+        }
+        same(&self.change, wanted.change.inside(), "change", &|_| "it".into())?;
+        same(&self.counts, wanted.counts.inside(), "counts", &|at| format!("number {at}"))?;
+        same(&self.place, wanted.place.inside(), "place", &|_| "it".into())?;
+        same(&self.amounts, wanted.amounts.inside(), "amounts", &|at| format!("number {at}"))
+    }
+}
+
+fn is_open_bill(ledger: &Ledger, call: &Call, place: u64) -> bool {
+    let bill = usize::try_from(place).ok().and_then(|place| ledger.bills().get(place));
+    let Call::OpenBill { account } = call else { return false };
+    bill.is_some_and(|bill| bill.identity.account() == *account && ledger.is_open(bill))
+}
+
+/// Gives a call to the library; what is lent for reading only must stay as it is.
+pub fn run(call: &Call, words: &mut [u64], out: &mut [u8], figures: &mut Figures) -> Result<u64, String> {
+    let given = call.clone();
+    let change = &mut figures.change.lend()[0];
+    let counts = figures.counts.lend().first_chunk_mut().expect("four counts");
+    let number = match &given {
+        Call::Fresh { today, tracking, confirmation } => {
+            library::fresh(words, *today, *tracking, *confirmation, change, counts)
+        }
+        Call::Request(request) => library::request(words, request, out, change, counts),
+        Call::File(file) => {
+            let file = Lent::new(file, b'#', out.len() % 8);
+            let number = library::file(words, file.inside(), out, change, counts);
+            same(&file, given_file(call), "file", &|at| format!("byte {at}"))?;
+            number
+        }
+        Call::Cancel { account, key } => library::cancel(words, *account, *key, out, change, counts),
+        Call::Close { today } => library::close(words, *today, change, counts),
+        Call::OpenBill { account } => library::open_bill(words, *account, &mut figures.place.lend()[0]),
+        Call::Amounts { account, key } => {
+            let amounts = figures.amounts.lend().first_chunk_mut().expect("three amounts");
+            library::amounts(words, *account, *key, amounts)
+        }
+    };
+    if *std::hint::black_box(&given) != *call {
+        return Err("an argument lent for reading was changed".into());
+    }
+    Ok(number)
+}
+
+fn given_file(call: &Call) -> &[u8] {
+    match call {
+        Call::File(file) => file,
+        _ => &[],
+    }
+}
