@@ -13,7 +13,7 @@ use Rattle.ledger.specs.declared.Ledger.{Ledger}
 use Rattle.ledger.specs.Books.{book}
 use Rattle.journal.specs.Journal.{parse}
 use Rattle.journal.proofs.TurnLaws.{noticesIn, Stands, Holds}
-use Rattle.brn.specs.Pieces.{Runs}
+use Rattle.brn.specs.Pieces.{PieceMade}
 
 -- ---- the 64,200 bytes from n on are lent
 module _ (out : List ℕ) (n : ℕ) (room : n ≤ length out) (taken : 64200 ≤ length out - n) where
@@ -39,7 +39,7 @@ module _ (out : List ℕ) (n : ℕ) (room : n ≤ length out) (taken : 64200 ≤
 module _ (first : Ledger) (before : ℕ) (s out₀ out : List ℕ) (l : Ledger) (seen at n : ℕ) (x : Stands (book first) before s l seen at n)
     (h : Holds (noticesIn (book first) before s) out₀ out n) (room : n ≤ length out) where
   pub ran-all : (bad : Bool) → parse seen (drop at s) ≡ record { entries = []; stopped = bad; rest = drop at s }
-      → Runs first before s out₀ out (record { ledger = l; seen = seen; used = at; written = n; full = false; stopped = bad })
+      → PieceMade first before s out₀ out (record { ledger = l; seen = seen; used = at; written = n; full = false; stopped = bad })
   ran-all bad e =
       record {
         bytes = h .bytes;
@@ -58,7 +58,7 @@ module _ (first : Ledger) (before : ℕ) (s out₀ out : List ℕ) (l : Ledger) 
       }
 
   pub ran-full : 64200 ≤ length out → length out - n < 64200
-      → Runs first before s out₀ out (record { ledger = l; seen = seen; used = at; written = n; full = true; stopped = false })
+      → PieceMade first before s out₀ out (record { ledger = l; seen = seen; used = at; written = n; full = true; stopped = false })
   ran-full p q =
       record {
         bytes = h .bytes;

@@ -20,7 +20,7 @@ left s r = parse (r .seen) (drop (r .used) s)
 
 -- the entries of the piece s, after `before` entries and on the ledger first, were made up to some entry: what they wrote stands at the start of
 -- the output, and the entries that are left make the rest of the notices and of the ledger. None is left unless the output is full.
-pub record Runs (first : Ledger) (before : ℕ) (s out₀ out : List ℕ) (r : Read) : Type 0 where
+pub record PieceMade (first : Ledger) (before : ℕ) (s out₀ out : List ℕ) (r : Read) : Type 0 where
   pub bytes : out ≡ put out₀ 0 (take (r .written) (noticesOf (book first) (parse before s .entries)))
   pub others : noticesOf (book (r .ledger)) (left s r .entries) ≡ drop (r .written) (noticesOf (book first) (parse before s .entries))
   pub written : r .written ≤ length (noticesOf (book first) (parse before s .entries))
@@ -43,6 +43,6 @@ HoldsOn have room filled-as.Ended = Unit {0}
 HoldsOn have room filled-as.Failed = Unit {0}
 
 -- the bytes held before stay
-pub record Reads (have : ℕ) (before after : List ℕ) (r : filled.Filled) : Type 0 where
+pub record ReadsOn (have : ℕ) (before after : List ℕ) (r : filled.Filled) : Type 0 where
   pub stay : take have after ≡ take have before
   pub holds : HoldsOn have (length after) r

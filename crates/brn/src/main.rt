@@ -1,10 +1,10 @@
-// Reads a journal on standard input and writes the notices of every call carried out, in order: the bytes of a BRN file.
+// ReadsOn a journal on standard input and writes the notices of every call carried out, in order: the bytes of a BRN file.
 ghost use mathlib.Core.Path.{_≡_};
 ghost use Prim.Native.Nat.{_≤_};
 ghost use mathlib.Core.Bool.{true};
 ghost use lib.ListN.{length};
 ghost use Rattle.ledger.specs.Sound.{soundLedger};
-ghost use Rattle.brn.specs.Pieces.{Runs, Reads};
+ghost use Rattle.brn.specs.Pieces.{PieceMade, ReadsOn};
 use input::Filled;
 use ledger::Ledger;
 use libc::STDERR_FILENO;
@@ -41,7 +41,7 @@ fn warn(stopped: bool) {
 // Makes the calls of the whole entries of a piece, as long as the output has room for another call's notices.
 fn run(first: Ledger, before: u64, s: &[u8], out: &mut [u8]) -> Read
     requires { ⌜ (64200 ≤ length (now out)) × (before ≤ 1000000000) × (soundLedger first ≡ true) ⌝ }
-    ensures { λ r. ⌜ Runs first before (now (s .entry)) (now (out .entry)) (now (out .exit)) r ⌝ }
+    ensures { λ r. ⌜ PieceMade first before (now (s .entry)) (now (out .entry)) (now (out .exit)) r ⌝ }
 {
     let mut l = first;
     let mut seen = before;
@@ -77,10 +77,10 @@ fn run(first: Ledger, before: u64, s: &[u8], out: &mut [u8]) -> Read
     }
 }
 
-// Reads on where all entries that were read are made.
+// ReadsOn on where all entries that were read are made.
 fn more(buf: &mut [u8], have: usize, full: bool) -> Filled
     requires { ⌜ have ≤ length (now buf) ⌝ }
-    ensures { λ r. ⌜ Reads have (now (buf .entry)) (now (buf .exit)) r ⌝ }
+    ensures { λ r. ⌜ ReadsOn have (now (buf .entry)) (now (buf .exit)) r ⌝ }
 {
     if full {
         return Filled::Bytes(have);

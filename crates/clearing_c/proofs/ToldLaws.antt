@@ -4,7 +4,7 @@ use mathlib.Core.Path.{_≡_, ap, ap₂, _∙_}
 use mathlib.Core.List.{List}
 use Rattle.report.specs.declared.Reported.{Reported}
 use Rattle.report.specs.Report.{Reports}
-use Rattle.report.specs.NoticesOf.{Gives}
+use Rattle.report.specs.NoticesOf.{ReportsNotices}
 use Rattle.clearing_c.specs.Boundary.{reportNumber, toldLeft, Tables, Notices}
 
 module _ (s out₀ ts out ts₁ : List ℕ) (n : ℕ) (r : Reported) (e : n ≡ reportNumber (r .report)) (t : ts₁ ≡ toldLeft ts (r .stopped) (r .report)) where
@@ -17,7 +17,7 @@ module _ (s out₀ ts out ts₁ : List ℕ) (n : ℕ) (r : Reported) (e : n ≡ 
         claimed = h .claimed;
       }
 
-  pub notices : Gives s out₀ out r → Notices s out₀ ts out ts₁ n
+  pub notices : ReportsNotices s out₀ out r → Notices s out₀ ts out ts₁ n
   notices h =
       record {
         number = e ∙ ap reportNumber (h .answer);

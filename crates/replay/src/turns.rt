@@ -23,7 +23,7 @@ pub struct Settled {
 // The headers of groups that get BR14. (An entry that is no file has no records, and most are none: they are not searched.)
 pub fn marks(s: &[u8], n: usize) -> [bool; 200]
     requires { ⌜ (n ≤ 200) × (n * 321 ≤ length (now s)) ⌝ }
-    ensures { λ r. ⌜ ((k : ℕ) → k < n → getD r k false ≡ markAt (now (s .entry)) n k) ⌝ }
+    ensures { λ r. ⌜ ((k : ℕ) → k < n → getD r k false ≡ markAt (now (s .entry)) n k) × ((k : ℕ) → n ≤ k → getD r k false ≡ false) ⌝ }
 {
     if n == 0 {
         return [false; 200];

@@ -15,7 +15,7 @@ use Rattle.journal.specs.Journal.{parse, noBook, endsBad, isBad}
 use Rattle.journal.specs.Made.{brnOf}
 use Rattle.journal.proofs.TurnLaws.{Ends, Holds}
 use Rattle.report.specs.declared.Report.the-variants.{Written, TooSmall}
-use Rattle.report.specs.NoticesOf.{noticesReport, noticed, Gives}
+use Rattle.report.specs.NoticesOf.{noticesReport, noticed, ReportsNotices}
 
 -- the end of the walk is the end of the journal
 pub ends-bad : (s : List ℕ) (l : Ledger) (seen at n : ℕ) (b : Bool) → Ends noBook 0 s l seen at n b
@@ -36,13 +36,13 @@ holds-all s out₀ out n e h = h .bytes ∙ ap (put out₀ 0) (take-all n (brnOf
 
 -- ---- the answer
 module _ (s out₀ : List ℕ) (n : ℕ) (bad : Bool) (all : n ≡ length (brnOf s)) (ends : bad ≡ isBad s) where
-  pub too-small : length out₀ < n → Gives s out₀ out₀ (record { report = TooSmall; stopped = bad })
+  pub too-small : length out₀ < n → ReportsNotices s out₀ out₀ (record { report = TooSmall; stopped = bad })
   unfolding noticesReport noticed
   too-small h =
       let e : ltb (length out₀) (length (brnOf s)) ≡ true = lt-ltb (length out₀) (length (brnOf s)) (omega arith) in
       record { answer = rw e; stopped = ends; bytes = rw e (put-nil out₀ 0) }
 
-  pub given : (out : List ℕ) → n ≤ length out₀ → out ≡ put out₀ 0 (brnOf s) → Gives s out₀ out (record { report = Written n; stopped = bad })
+  pub given : (out : List ℕ) → n ≤ length out₀ → out ≡ put out₀ 0 (brnOf s) → ReportsNotices s out₀ out (record { report = Written n; stopped = bad })
   unfolding noticesReport noticed
   given out h p =
       let e : ltb (length out₀) (length (brnOf s)) ≡ false = le-ltb (length out₀) (length (brnOf s)) (omega arith) in

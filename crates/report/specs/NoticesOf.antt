@@ -20,7 +20,7 @@ unfoldable pub noticed : ℕ → List ℕ → List ℕ
 noticed room s = cond (ltb room (length (brnOf s))) [] (brnOf s)
 
 -- what is answered and left of an output out₀; `stopped` says what `stopped,13` says in the table
-pub record Gives (s out₀ out : List ℕ) (r : Reported) : Type 0 where
+pub record ReportsNotices (s out₀ out : List ℕ) (r : Reported) : Type 0 where
   pub answer : r .report ≡ noticesReport (length out₀) s
   pub stopped : r .stopped ≡ isBad s
   pub bytes : out ≡ put out₀ 0 (noticed (length out₀) s)

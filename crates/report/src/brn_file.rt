@@ -5,7 +5,7 @@ ghost use lib.ListN.{length};
 ghost use Rattle.fields.specs.Put.{put};
 ghost use Rattle.journal.specs.Journal.{isBad};
 ghost use Rattle.journal.specs.Made.{brnOf};
-ghost use Rattle.report.specs.NoticesOf.{Gives};
+ghost use Rattle.report.specs.NoticesOf.{ReportsNotices};
 use crate::Report;
 use crate::Reported;
 
@@ -69,7 +69,7 @@ fn fill(src: &[u8], out: &mut [u8])
 
 // Writes the notices of a whole journal, or nothing if the output lent is too small for them.
 pub fn post_notices(src: &[u8], out: &mut [u8]) -> Reported
-    ensures { λ r. ⌜ Gives (now (src .entry)) (now (out .entry)) (now (out .exit)) r ⌝ }
+    ensures { λ r. ⌜ ReportsNotices (now (src .entry)) (now (out .entry)) (now (out .exit)) r ⌝ }
 {
     let m = measure(src);
     let n = m.length;

@@ -202,7 +202,7 @@ records-again c = let v = c .before .before .before .before .records .inv in
     (λ w.
     rw (w .13)
     (inner-group _ _ _ _ _ _ _ _ _ v h (w .5 .result) (w .6 .result) (w .2 .result) (w .2 .ensures) (w .5 .ensures) (w .6 .ensures .0) _ (w .10 .result) (w .10 .ensures)
-    (sym (c .before .header-at .ensures) ∙ w .0 .taken) (c .before .before .before .before .before .marks .ensures _ h)))
+    (sym (c .before .header-at .ensures) ∙ w .0 .taken) (c .before .before .before .before .before .marks .ensures .0 _ h)))
     (λ w. rw (w .1) (inner-detail _ _ _ _ _ _ _ _ _ v h (sym (c .before .header-at .ensures) ∙ w .0 .left)))
     (c .if1 .came)
 

@@ -1,11 +1,14 @@
 -- `replay::turns::marks` meets its contract.
 use native.Mathlib.Omega.{arith}
+use Prim.Native.Nat.{ℕ}
+use mathlib.Core.Bool.{false}
+use Rattle.pairs.proofs.MarkLaws.{unmarked}
 use borrow.Author.Needs.{needs}
 use Rattle.replay.proofs.turns.marks.Statement.{statement}
 use Rattle.replay.proofs.turns.marks.Tie as tie
 
 returns : tie.Need-returns
-returns c = λ k h. absurd (omega (arith, h, c .if1 .taken))
+returns c = ((λ k h. absurd (omega (arith, h, c .if1 .taken))), (λ k h. unmarked 200 (λ (j : ℕ). false) .1 k (omega arith)))
 
 duplicates-requires : tie.Need-duplicates-requires
 duplicates-requires c κs = search needs
