@@ -4,7 +4,8 @@
  *
  * Every function returns 0 if the call is carried out, else one of the causes below; then all that was lent to it
  * (ledger, out, change, counts, place, amounts, told) holds what it held before. Output past the bytes written is
- * untouched. Nothing is kept between calls, and nothing but what was lent is read or written.
+ * untouched. Nothing is kept between calls, and nothing but what was lent is read or written. A call needs no heap and
+ * less than 512 KB of stack (tested).
  *
  * Pointers may not be null, must be aligned for their type and may not overlap one another; a pointer with a length
  * must have that many elements, and for an empty one (length 0) any pointer that is not null will do.
