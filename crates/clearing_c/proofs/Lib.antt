@@ -1,4 +1,5 @@
 -- Laws that belong to no one function.
 pub mod GiveLaws
-pub mod ToldLaws
+pub mod WholeJournalLaws
 pub mod InWordsProof
+pub mod NumberLaws

@@ -1,4 +1,4 @@
-use Rattle.clearing_c.proofs.ToldLaws.{notices}
+use Rattle.clearing_c.proofs.WholeJournalLaws.{notices}
 use borrow.Author.Needs.{needs}
 use Rattle.clearing_c.proofs.clearing_notices.Statement.{statement}
 use Rattle.clearing_c.proofs.clearing_notices.Tie as tie

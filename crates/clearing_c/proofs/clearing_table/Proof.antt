@@ -1,4 +1,4 @@
-use Rattle.clearing_c.proofs.ToldLaws.{tables}
+use Rattle.clearing_c.proofs.WholeJournalLaws.{tables}
 use borrow.Author.Needs.{needs}
 use Rattle.clearing_c.proofs.clearing_table.Statement.{statement}
 use Rattle.clearing_c.proofs.clearing_table.Tie as tie
