@@ -36,13 +36,13 @@ use Rattle.verdict.specs.declared.Verdict.the-variants.{Accepted, Rejected}
 use Rattle.verdict.specs.Rules.{Rule, rule, first}
 use Rattle.verdict.specs.Lines.{termsOf, line4, line5, line6, line7, lines8to10, sentConsumption, sentCharge, amountsOf, settle}
 use Rattle.groups.specs.declared.Decision.the-variants.{Post, Reject}
-use Rattle.groups.specs.Groups.{identityOf, sought, kindOf, linesBy, verdictBy, settled, answer}
+use Rattle.groups.specs.Groups.{identityOf, sought, kindOf, linesBy, verdictOn, verdictBy, settled, answer}
 use Rattle.groups.specs.Steps.{billAt, decisionBy, applied, answerTo, answerBy, InReach, calm}
 use Rattle.groups.proofs.PlaceLaws.{Held, nowhere, somewhere, held}
 
 -- ---- no verdict accepts where there is no bill
 nothing-rejects : (t : Bool) (l : Ledger) (g : Group) → sought (view (book l)) g ≡ sought.Nothing → (n : ℕ) × (verdictBy t (view (book l)) g ≡ Rejected n)
-unfolding verdictBy linesBy line4
+unfolding verdictBy verdictOn line4
 nothing-rejects t l g e = cases (line1 g) (λ a. (17, rw a)) (λ a. cases (line2 g) (λ b. (19, rw (a, b))) (λ b. cases t (λ d. (14, rw (a, b, d))) (λ d. (16, rw (a, b, d, e)))))
 
 -- what comes of a group on a ledger
@@ -172,7 +172,7 @@ sup-room l1 l2 t today h d b prepay e =
 -- no line holds of an accepted group, and its amounts are the detail's
 pub accepted-clear : (t : Bool) (v : View) (g : Group) (amounts : Posted) → verdictBy t v g ≡ Accepted amounts
     → (first (linesBy t v g) ≡ Clear) × (amountsOf (isPrepay (termsOf (sought v g) .product)) (detailOf g) ≡ amounts)
-unfolding verdictBy
+unfolding verdictBy verdictOn linesBy
 accepted-clear t v g amounts e = settle-clear (first (linesBy t v g)) _ amounts e
 
 module _ (t : Bool) (k : Book) (g : Group) (b : Bill) (amounts : Posted) (v : verdictBy t (view k) g ≡ Accepted amounts)

@@ -3,6 +3,7 @@ use Prim.Native.Nat.{ℕ, _+_}
 use mathlib.Core.Bool.{Bool, true, false, cond, not}
 use mathlib.Core.List.{List, [], _∷_, _++_}
 use Rattle.fields.specs.Field.{fieldOf, value}
+use Rattle.units.specs.declared.Date.{Date}
 use Rattle.ledger.specs.declared.Identity.{Identity}
 use Rattle.ledger.specs.declared.Terms.{Terms}
 use Rattle.ledger.specs.Lists.{update}
@@ -37,21 +38,27 @@ sought v g = soughtIn (identityOf g) (v .bills)
 abbrev pub kindOf : Group → Kind
 kindOf g = cond (isRsp (g .header)) Response Supplement
 
--- lines 1 to 10 in their order; duplicate says what line 3 asks
-unfoldable pub linesBy : Bool → View → Group → List Rule
-linesBy duplicate v g =
+-- lines 1 to 10 in their order: duplicate says what line 3 asks, and b is the bill that the group names
+abbrev pub linesOn : Bool → Date → Sought → Group → List Rule
+linesOn duplicate today b g =
     rule (line1 g) 17
     ∷ rule (line2 g) 19
     ∷ rule duplicate 14
-    ∷ lines4to10 (kindOf g) (v .today) (g .header) (detailOf g) (sought v g)
+    ∷ lines4to10 (kindOf g) today (g .header) (detailOf g) b
+
+unfoldable pub linesBy : Bool → View → Group → List Rule
+linesBy duplicate v g = linesOn duplicate (v .today) (sought v g) g
 
 -- the lines of a group, where others are the other groups of its file
 abbrev pub lines : View → List Group → Group → List Rule
 lines v others g = linesBy (line3 others g) v g
 
 -- "No line true: accepted."
+unfoldable pub verdictOn : Bool → Date → Sought → Group → Verdict
+verdictOn duplicate today b g = settle (first (linesOn duplicate today b g)) (amountsOf (isPrepay (termsOf b .product)) (detailOf g))
+
 unfoldable pub verdictBy : Bool → View → Group → Verdict
-verdictBy duplicate v g = settle (first (linesBy duplicate v g)) (amountsOf (isPrepay (termsOf (sought v g) .product)) (detailOf g))
+verdictBy duplicate v g = verdictOn duplicate (v .today) (sought v g) g
 
 abbrev pub verdict : View → List Group → Group → Verdict
 verdict v others g = verdictBy (line3 others g) v g

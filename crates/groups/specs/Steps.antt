@@ -16,12 +16,10 @@ use Rattle.ledger.specs.declared.Bill as bill
 use Rattle.ledger.specs.Lists.{every, count}
 use Rattle.ledger.specs.Bills.{blankBill, posting}
 use Rattle.ledger.specs.Books.{live, book, view, placeOf, smallCharge, totalOf, stored}
-use Rattle.notices.specs.Layout.{accountIn, keyIn}
+use Rattle.notices.specs.Layout.{accountIn, keyIn, recordAt}
 use Rattle.file.specs.File.{Group, asksId}
 use Rattle.verdict.specs.declared.Sought.{Sought}
 use Rattle.verdict.specs.declared.Sought.the-variants as sought
-use Rattle.verdict.specs.declared.Kind.{Kind}
-use Rattle.verdict.specs.Lines.{verdictOf}
 use Rattle.answers.specs.Answers.{acf, rej}
 use Rattle.verdict.specs.declared.Verdict.{Verdict}
 use Rattle.verdict.specs.declared.Verdict.the-variants.{Accepted, Rejected}
@@ -38,6 +36,10 @@ billAt l p = getD (l .bills) p blankBill
 abbrev pub identityIn : List ℕ → List ℕ → Identity
 identityIn h d = record { account = value (fieldOf (accountIn h)); key = value (fieldOf (keyIn d)) }
 
+-- the identity that the group of record i names, if it has one detail
+unfoldable pub identityAt : List ℕ → ℕ → ℕ → Identity
+identityAt s i n = cond (leb n (i + 1)) (record { account = 0; key = 0 }) (identityIn (recordAt s i) (recordAt s (i + 1)))
+
 -- the bill at the place that a search found
 abbrev pub soughtAt : Ledger → Found → Sought
 soughtAt l found.Nothing = sought.Nothing
@@ -51,11 +53,6 @@ decided (found.At p) (Accepted amounts) = Post p amounts
 
 abbrev pub decisionBy : Bool → Ledger → Group → Decision
 decisionBy duplicate l g = decided (placeOf (identityOf g) (live l)) (verdictBy duplicate (view (book l)) g)
-
--- lines 4 to 10 for a header and its detail
-unfoldable pub decideNamed : List ℕ → List ℕ → Kind → Ledger → Decision
-decideNamed h d k l =
-    decided (placeOf (identityIn h d) (live l)) (verdictOf k (l .today) h d (soughtAt l (placeOf (identityIn h d) (live l))))
 
 -- the answer to a decision
 unfoldable pub answerTo : Ledger → Group → Decision → List ℕ

@@ -11,8 +11,8 @@ ghost use Rattle.notices.specs.Layout.{recordAt, recordsFrom};
 ghost use Rattle.file.specs.File.{groups};
 ghost use Rattle.file.specs.Walk.{groupAt};
 ghost use Rattle.answers.specs.Answers.{acf};
-ghost use Rattle.groups.specs.Groups.{answers};
-ghost use Rattle.groups.specs.Steps.{identityIn, soughtAt, decided, decisionBy, decideNamed, takesId, applied, answerTo, InPlace, InReach, Ready, acceptedBy, rejectedBy, Fine, turned, answerBy, calm, Took, Cleared};
+ghost use Rattle.groups.specs.Groups.{verdictOn, answers};
+ghost use Rattle.groups.specs.Steps.{identityIn, identityAt, soughtAt, decided, decisionBy, takesId, applied, answerTo, InPlace, InReach, Ready, acceptedBy, rejectedBy, Fine, turned, answerBy, calm, Took, Cleared};
 use answers::acf::Acf;
 use answers::rej::Rej;
 use file::Form;
@@ -21,6 +21,7 @@ use ledger::Found;
 use ledger::Identity;
 use ledger::Ledger;
 use ledger::Posted;
+use units::Date;
 use verdict::Kind;
 use verdict::Sought;
 use verdict::Verdict;
@@ -32,7 +33,7 @@ pub enum Decision {
 }
 
 // The identity that a header and a detail name.
-pub fn identity_of(h: &[u8], d: &[u8]) -> Identity
+fn identity_of(h: &[u8], d: &[u8]) -> Identity
     requires { ⌜ (321 ≤ length (now h)) × (321 ≤ length (now d)) ⌝ }
     ensures { λ r. ⌜ r ≡ identityIn (now (h .entry)) (now (d .entry)) ⌝ }
 {
@@ -40,6 +41,21 @@ pub fn identity_of(h: &[u8], d: &[u8]) -> Identity
         account: pairs::number_at(h, 7, 12),
         key: pairs::number_at(d, 41, 4),
     }
+}
+
+// The identity that the group of record i names, where a record follows.
+pub fn identity_at(s: &[u8], i: usize, n: usize) -> Identity
+    requires { ⌜ (i < n) × (n * 321 ≤ length (now s)) ⌝ }
+    ensures { λ r. ⌜ r ≡ identityAt (now (s .entry)) i n ⌝ }
+{
+    let j = i + 1;
+    if n <= j {
+        return Identity { account: 0, key: 0 };
+    }
+    let a = i * 321;
+    let b = j * 321;
+    let e = b + 321;
+    identity_of(&s[a..b], &s[b..e])
 }
 
 // The bill at the place that a search found.
@@ -68,42 +84,42 @@ fn decided_at(f: Found, v: Verdict) -> Decision
     }
 }
 
-// Lines 4 to 10 for a header and its detail.
-fn decide_named(h: &[u8], d: &[u8], kind: Kind, l: Ledger) -> Decision
-    requires { ⌜ (321 ≤ length (now h)) × (321 ≤ length (now d)) × (l .count ≤ 128) ⌝ }
-    ensures { λ r. ⌜ r ≡ decideNamed (now (h .entry)) (now (d .entry)) kind l ⌝ }
-{
-    let id = identity_of(h, d);
-    let f = l.find(id);
-    let b = sought_at(l, f);
-    let today = l.today;
-    let v = verdict::verdict_of(h, d, kind, b, today);
-    decided_at(f, v)
-}
-
-// Lines 1 to 10 for the group whose header is record i; duplicate says what line 3 asks.
-fn decide(s: &[u8], i: usize, n: usize, duplicate: bool, l: Ledger) -> Decision
-    requires { ⌜ (i < n) × (n * 321 ≤ length (now s)) × (l .count ≤ 128) ⌝ }
-    ensures { λ r. ⌜ r ≡ decisionBy duplicate l (groupAt (now (s .entry)) i n) ⌝ }
+// Lines 1 to 10 for the group whose header is record i; duplicate says what line 3 asks, b is the bill it names.
+pub fn verdict_at(s: &[u8], i: usize, n: usize, duplicate: bool, b: Sought, today: Date) -> Verdict
+    requires { ⌜ (i < n) × (n * 321 ≤ length (now s)) ⌝ }
+    ensures { λ r. ⌜ r ≡ verdictOn duplicate today b (groupAt (now (s .entry)) i n) ⌝ }
 {
     let form = file::form_at(s, i, n);
     let kind = match form {
         Form::Broken => {
-            return Decision::Reject(17);
+            return Verdict::Rejected(17);
         }
         Form::Unknown => {
-            return Decision::Reject(19);
+            return Verdict::Rejected(19);
         }
         Form::Response => Kind::Response,
         Form::Supplement => Kind::Supplement,
     };
     if duplicate {
-        return Decision::Reject(14);
+        return Verdict::Rejected(14);
     }
     let a = i * 321;
-    let b = (i + 1) * 321;
-    let e = b + 321;
-    decide_named(&s[a..b], &s[b..e], kind, l)
+    let m = (i + 1) * 321;
+    let e = m + 321;
+    verdict::verdict_of(&s[a..m], &s[m..e], kind, b, today)
+}
+
+// The same with the bill found in a ledger. (A group that fails line 1 is rejected whatever bill was found.)
+fn decide(s: &[u8], i: usize, n: usize, duplicate: bool, l: Ledger) -> Decision
+    requires { ⌜ (i < n) × (n * 321 ≤ length (now s)) × (l .count ≤ 128) ⌝ }
+    ensures { λ r. ⌜ r ≡ decisionBy duplicate l (groupAt (now (s .entry)) i n) ⌝ }
+{
+    let id = identity_at(s, i, n);
+    let f = l.find(id);
+    let b = sought_at(l, f);
+    let today = l.today;
+    let v = verdict_at(s, i, n, duplicate, b, today);
+    decided_at(f, v)
 }
 
 // Does a decided group take a Tracking ID? An accepted SUP does.

@@ -11,7 +11,7 @@ use Rattle.notices.specs.Notices.{lead, ending, header, keyed, asked, former, b
 use Rattle.answers.specs.Answers.{acfLead, acf, rejLead, rejHeader, isBlank, fromBack, rejDetail, rejDetails, rej}
 use Rattle.file.specs.File.{records, printable, isHeader, isDetail, goodRecord, headed, goodFile, leading, groups, fileGroups, unfit, line1, line2, passes, alike, line3}
 use Rattle.verdict.specs.Lines.{line4, line5, line6, line7, line8, tierConsumptions, tierCharges, line9, line10, amountsOf}
-use Rattle.groups.specs.Groups.{linesBy, verdictBy, settled, answer, taken, answers, verdicts}
+use Rattle.groups.specs.Groups.{linesBy, verdictOn, verdictBy, settled, answer, taken, answers, verdicts}
 use Rattle.calls.specs.Causes.{requestTests, billCauses, requestCauses, fileCauses, cancelCauses, closeCauses, causes}
 use Rattle.calls.specs.Machine.{cause, next, nextWritten, nextVerdicts, outcome, step, after, outcomes}
 use Rattle.history.specs.Written.{assigns, assignedIn}
@@ -19,5 +19,5 @@ use Rattle.history.specs.Claim.{All, assigned}
 use Rattle.history.specs.Cases.{sentHeader, sentDetail, sent, resultOf, table, Holds}
 
 pub cases-hold : All Holds table
-unfolding digits number isDigit numeric part filled sameList fieldOf isLeap monthDays isDate isRateCode termsTests balanced soundAmounts soundBill distinct bookTests recordsFrom lead ending header keyed asked former bilHeader bilDetail bil cxlHeader cxlDetail cxl acfLead acf rejLead rejHeader isBlank fromBack rejDetail rejDetails rej records printable isHeader isDetail goodRecord headed goodFile leading groups fileGroups unfit line1 line2 passes alike line3 line4 line5 line6 line7 line8 tierConsumptions tierCharges line9 line10 amountsOf linesBy verdictBy settled answer taken answers verdicts requestTests billCauses requestCauses fileCauses cancelCauses closeCauses causes cause next nextWritten nextVerdicts outcome step after outcomes assigns assignedIn assigned sentHeader sentDetail sent resultOf table
+unfolding digits number isDigit numeric part filled sameList fieldOf isLeap monthDays isDate isRateCode termsTests balanced soundAmounts soundBill distinct bookTests recordsFrom lead ending header keyed asked former bilHeader bilDetail bil cxlHeader cxlDetail cxl acfLead acf rejLead rejHeader isBlank fromBack rejDetail rejDetails rej records printable isHeader isDetail goodRecord headed goodFile leading groups fileGroups unfit line1 line2 passes alike line3 line4 line5 line6 line7 line8 tierConsumptions tierCharges line9 line10 amountsOf linesBy verdictOn verdictBy settled answer taken answers verdicts requestTests billCauses requestCauses fileCauses cancelCauses closeCauses causes cause next nextWritten nextVerdicts outcome step after outcomes assigns assignedIn assigned sentHeader sentDetail sent resultOf table
 cases-hold = (refl, (refl, (refl, (refl, (refl, (refl, (refl, (refl, (refl, (refl, (refl, tt)))))))))))

@@ -1,7 +1,10 @@
-// One bill: what its amounts count for, its state, and how a request, a posting and a cancel change it.
+// One bill: its rate code written, what its amounts count for, its state, and how a request, a posting and a cancel
+// change it.
 ghost use mathlib.Core.Path.{_≡_};
-ghost use Prim.Native.Nat.{_<_, _≤_};
-ghost use Rattle.ledger.specs.Bills.{isPrepay, productByte, chargeOf, appliedOf, owedOf, isOf, isOpen, stateOf, blankBill, firstBill, renewed, posting, cancelledBill};
+ghost use Prim.Native.Nat.{_+_, _<_, _≤_};
+ghost use lib.ListN.{length};
+ghost use Rattle.fields.specs.Put.{put};
+ghost use Rattle.ledger.specs.Bills.{codeBytes, isPrepay, productByte, chargeOf, appliedOf, owedOf, isOf, isOpen, stateOf, blankBill, firstBill, renewed, posting, cancelledBill};
 use crate::Bill;
 use crate::Identity;
 use crate::Latest;
@@ -13,6 +16,15 @@ use crate::Terms;
 use units::Ccf;
 use units::Cents;
 use units::Date;
+
+// Writes a rate code.
+pub fn put_code(out: &mut [u8], at: usize, c: RateCode)
+    requires { ⌜ at + 5 ≤ length (now out) ⌝ }
+    ensures { λ _. ⌜ now (out .exit) ≡ put (now (out .entry)) at (codeBytes c) ⌝ }
+{
+    let code = [c.first, c.second, 67, c.tens, c.ones];
+    fields::put_bytes(out, at, &code);
+}
 
 impl Product {
     pub fn is_prepay(self) -> bool

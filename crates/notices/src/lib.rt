@@ -8,7 +8,6 @@ ghost use mathlib.Core.Path.{_≡_};
 ghost use Prim.Native.Nat.{_+_, _≤_};
 ghost use lib.ListN.{length};
 ghost use Rattle.fields.specs.Put.{put};
-ghost use Rattle.ledger.specs.Bills.{codeBytes};
 ghost use Rattle.notices.specs.Notices.{ending, lead, header, keyed};
 use ledger::RateCode;
 use units::Date;
@@ -19,15 +18,6 @@ pub struct Lead {
     pub account: u64,
     pub tracking: u64,
     pub today: Date,
-}
-
-// Writes a rate code.
-fn put_code(out: &mut [u8], at: usize, c: RateCode)
-    requires { ⌜ at + 5 ≤ length (now out) ⌝ }
-    ensures { λ _. ⌜ now (out .exit) ≡ put (now (out .entry)) at (codeBytes c) ⌝ }
-{
-    let code = [c.first, c.second, 67, c.tens, c.ones];
-    fields::put_bytes(out, at, &code);
 }
 
 // Writes n spaces and byte 13.
@@ -46,7 +36,7 @@ pub fn put_lead(out: &mut [u8], at: usize, l: Lead, kind: &[u8], notice: &[u8])
     ensures { λ _. ⌜ now (out .exit) ≡ put (now (out .entry)) at (lead l (now (kind .entry)) (now (notice .entry))) ⌝ }
 {
     fields::put_bytes(out, at, b"34");
-    put_code(out, at + 2, l.code);
+    ledger::bills::put_code(out, at + 2, l.code);
     fields::put_digits(out, at + 7, 12, l.account);
     fields::put_digits(out, at + 19, 9, l.tracking);
     fields::put_bytes(out, at + 28, kind);

@@ -1,12 +1,12 @@
 -- A group's turn on small values. Assumes nothing.
-use Prim.Native.Nat.{ℕ, _+_, _≤_}
+use Prim.Native.Nat.{ℕ, _≤_}
 use mathlib.Core.Path.{_≡_, refl, sym, ap, _∙_}
 use mathlib.Core.Bool.{Bool, true, false}
-use mathlib.Core.List.{List, []}
+use mathlib.Core.List.{List}
 use native.Mathlib.Omega.{arith}
 use native.Mathlib.Nat.{add-zero}
 use lib.Seq.{set-getD}
-use borrow.Author.Tests.{lt-leb, lt-ltb}
+use borrow.Author.Tests.{lt-ltb}
 use Rattle.fields.proofs.BoolLaws.{cases}
 use Rattle.units.specs.declared.Date.{Date}
 use Rattle.ledger.specs.declared.Bill.{Bill}
@@ -16,48 +16,26 @@ use Rattle.ledger.specs.declared.Identity.{Identity}
 use Rattle.ledger.specs.declared.Ledger.{Ledger}
 use Rattle.ledger.specs.declared.Posted.{Posted}
 use Rattle.ledger.specs.Bills.{blankBill}
-use Rattle.ledger.specs.Books.{View, book, live, view, placeOf}
-use Rattle.file.specs.File.{Group, asksId, detailOf, line1, line2}
-use Rattle.verdict.specs.declared.Sought.{Sought}
+use Rattle.ledger.specs.Books.{book, live, view, placeOf}
+use Rattle.file.specs.File.{Group, asksId, line1, line2}
+use Rattle.verdict.specs.declared.Sought.the-variants as sought
 use Rattle.verdict.specs.declared.Verdict.{Verdict}
 use Rattle.verdict.specs.declared.Verdict.the-variants.{Accepted, Rejected}
-use Rattle.verdict.specs.Lines.{line4, verdictOf}
+use Rattle.verdict.specs.Lines.{line4}
 use Rattle.file.specs.Walk.{groupAt}
-use Rattle.file.proofs.FileLaws.{header-is, only-detail}
-use Rattle.file.proofs.FormLaws.{one-detail, one-within}
 use Rattle.groups.specs.declared.Decision.the-variants.{Post}
-use Rattle.groups.specs.Groups.{identityOf, sought, kindOf, linesBy, verdictBy}
-use Rattle.groups.specs.Steps.{billAt, soughtAt, decided, decisionBy, applied}
+use Rattle.groups.specs.Groups.{identityOf, sought, linesBy, verdictOn, verdictBy}
+use Rattle.groups.specs.Steps.{identityAt, billAt, soughtAt, decided, decisionBy, applied}
 use Rattle.groups.proofs.PlaceLaws.{sought-is}
+use Rattle.groups.proofs.DecideLaws.{by-bill, same-name}
 use Rattle.groups.proofs.TurnLaws.{Comes, rejects, posts, comes, clear-off, accepted-clear}
-use Rattle.replay.specs.Steps.{identityAt, slotOf, soughtBy, turnedAt, Decides, turnBy, Turns, CanPost, CalmAt}
+use Rattle.replay.specs.Steps.{slotOf, soughtBy, turnedAt, turnBy, Turns, CanPost, CalmAt}
 use Rattle.replay.specs.declared.turns.Settled.{Settled}
 use Rattle.replay.proofs.SpotLaws.{spots, spot-sought}
 
--- ---- each return of the code is a line of the list
-module _ (duplicate : Bool) (today : Date) (b : Sought) (g : Group) where
-  pub by-line1 : line1 g ≡ true → Decides duplicate today b g (Rejected 17)
-  unfolding verdictBy linesBy
-  by-line1 e v d s = rw e
-
-  pub by-line2 : line1 g ≡ false → line2 g ≡ true → Decides duplicate today b g (Rejected 19)
-  unfolding verdictBy linesBy
-  by-line2 e f v d s = rw (e, f)
-
-  pub by-line3 : line1 g ≡ false → line2 g ≡ false → duplicate ≡ true → Decides duplicate today b g (Rejected 14)
-  unfolding verdictBy linesBy
-  by-line3 e f t v d s = rw (e, f, t)
-
-  pub by-rest : line1 g ≡ false → line2 g ≡ false → duplicate ≡ false → Decides duplicate today b g (verdictOf (kindOf g) today (g .header) (detailOf g) b)
-  unfolding verdictBy linesBy verdictOf
-  by-rest e f t v d s = rw (e, f, t, d, s e)
-
 -- ---- what is accepted can be posted: no verdict accepts where there is no bill
-abbrev noView : Date → View
-noView today = record { today = today; tracking = 0; confirmation = 0; bills = [] }
-
-none-posts : (duplicate : Bool) (today : Date) (g : Group) (b : Bill) → CanPost (verdictBy duplicate (noView today) g) b
-unfolding verdictBy linesBy line4
+none-posts : (duplicate : Bool) (today : Date) (g : Group) (b : Bill) → CanPost (verdictOn duplicate today sought.Nothing g) b
+unfolding verdictOn line4
 none-posts duplicate today g b =
     cases (line1 g) (λ e. rw e tt)
     (λ e. cases (line2 g) (λ f. rw (e, f) tt) (λ f. cases duplicate (λ t. rw (e, f, t) tt) (λ t. rw (e, f, t) tt)))
@@ -66,17 +44,10 @@ calm-posts : (v : Verdict) (p : ℕ) (b : Bill) → CalmAt (At p) b → CanPost 
 calm-posts (Accepted amounts) p b h = h
 calm-posts (Rejected n) p b h = tt
 
-pub can-post : (duplicate : Bool) (today : Date) (f : Found) (b : Bill) (g : Group) (v : Verdict) → CalmAt f b → Decides duplicate today (soughtBy f b) g v
-    → CanPost v b
-can-post duplicate today (At p) b g v h d = calm-posts v p b h
-can-post duplicate today Nothing b g v h d =
-    let e : v ≡ verdictBy duplicate (noView today) g = d (noView today) refl (λ x. refl) in
-    rw e (none-posts duplicate today g b)
-
--- ---- the parts of a turn, joined
-pub turns-by : (duplicate : Bool) (today : Date) (f : Found) (b : Bill) (g : Group) (v : Verdict) (sup : Bool) (r : Settled) → sup ≡ asksId g
-    → Decides duplicate today (soughtBy f b) g v → r ≡ turnBy v sup b → Turns duplicate today f b g r
-turns-by duplicate today f b g v sup r e d q w x y = q ∙ rw (d w x y, e)
+pub can-post : (duplicate : Bool) (today : Date) (f : Found) (b : Bill) (g : Group) (v : Verdict) → CalmAt f b
+    → v ≡ verdictOn duplicate today (soughtBy f b) g → CanPost v b
+can-post duplicate today (At p) b g v h e = calm-posts v p b h
+can-post duplicate today Nothing b g v h e = rw e (none-posts duplicate today g b)
 
 pub ids-few : (v : Verdict) (sup : Bool) (b : Bill) → turnBy v sup b .ids ≤ 1
 unfolding turnBy
@@ -95,20 +66,18 @@ module _ (l : Ledger) (s : List ℕ) (i n : ℕ) (t : Bool) (f : Found) (p : ℕ
   abbrev g : Group
   g = groupAt s i n
 
-  -- a group that passes line 1 has one detail, and names the bill that was sought
-  same-name : line1 g ≡ false → identityAt s i n ≡ identityOf g
-  unfolding identityAt
-  same-name h = rw (lt-leb n (i + 1) (one-within s i n h), header-is s i n, only-detail s i n (one-detail s i n h))
-
   same-sought : line1 g ≡ false → sought (view (book l)) g ≡ soughtBy f (billAt l p)
   same-sought h =
       sym (sought-is l (identityOf g))
-      ∙ ap (λ (id : Identity). soughtAt l (placeOf id (live l))) (sym (same-name h))
+      ∙ ap (λ (id : Identity). soughtAt l (placeOf id (live l))) (sym (same-name s i n h))
       ∙ ap (soughtAt l) (sym e)
       ∙ sym (spot-sought l f p (spots l few (identityAt s i n) f p e q))
 
   turn-is : x ≡ turnBy (verdictBy t (view (book l)) g) (asksId g) (billAt l p)
-  turn-is = w (view (book l)) refl same-sought
+  unfolding verdictBy
+  turn-is =
+      w ∙ ap (λ (v : Verdict). turnBy v (asksId g) (billAt l p))
+      (by-bill t (l .today) (soughtBy f (billAt l p)) g (sought (view (book l)) g) (λ h. sym (same-sought h)))
 
   pub turn-ids : x .ids ≤ 1
   turn-ids = rw turn-is (ids-few (verdictBy t (view (book l)) g) (asksId g) (billAt l p))
@@ -117,7 +86,7 @@ module _ (l : Ledger) (s : List ℕ) (i n : ℕ) (t : Bool) (f : Found) (p : ℕ
   unfolding linesBy
   found-at j amounts v d =
       let o = clear-off (linesBy t (view (book l)) g) (accepted-clear t (view (book l)) g amounts v .0) in
-      e ∙ ap (λ (id : Identity). placeOf id (live l)) (same-name (o .0))
+      e ∙ ap (λ (id : Identity). placeOf id (live l)) (same-name s i n (o .0))
       ∙ decided-post (placeOf (identityOf g) (live l)) j amounts amounts (rw v at d)
 
   pub turn-applied : turnedAt l p x ≡ applied l (asksId g) (decisionBy t l g)

@@ -19,11 +19,11 @@ use Rattle.file.specs.Walk.{groupAt, markAt}
 use Rattle.file.proofs.FileLaws.{leading-header, leading-within}
 use Rattle.groups.specs.declared.Taken.{Taken}
 use Rattle.groups.specs.Groups.{taken}
-use Rattle.groups.specs.Steps.{billAt, decisionBy, applied, answerBy, Ready, turned}
+use Rattle.groups.specs.Steps.{identityAt, billAt, decisionBy, applied, answerBy, Ready, turned}
 use Rattle.groups.proofs.GroupWalk.{Walk, walk-start, walk-detail, walk-header, walk-end, answer-long}
 use Rattle.replay.specs.declared.turns.Settled.{Settled}
 use Rattle.replay.specs.Reader.{accountOf, keyOf}
-use Rattle.replay.specs.Steps.{findIn, slotOf, identityAt, CalmAt, Turns, turnedAt}
+use Rattle.replay.specs.Steps.{findIn, slotOf, CalmAt, Turns, turnedAt}
 use Rattle.replay.proofs.SearchLaws.{map-kept}
 use Rattle.replay.proofs.SpotLaws.{Lists, lists-long, lists-find, spots, spot-calm}
 use Rattle.replay.proofs.GroupTurns.{turn-ids, turn-applied, turn-identity}

@@ -3,7 +3,7 @@ use Prim.Native.Nat.{ℕ, suc, _+_, _/_, _≤_}
 use mathlib.Core.Path.{_≡_}
 use mathlib.Core.Bool.{Bool, true, false, cond, _&&_}
 use mathlib.Core.List.{List, [], _∷_}
-use lib.Dec.{eqb, leb, ltb}
+use lib.Dec.{eqb, ltb}
 use lib.ListN.{length, set}
 use Rattle.units.specs.declared.Date.{Date}
 use Rattle.ledger.specs.declared.Identity.{Identity}
@@ -12,9 +12,7 @@ use Rattle.ledger.specs.declared.Ledger.{Ledger}
 use Rattle.ledger.specs.declared.Found.{Found}
 use Rattle.ledger.specs.declared.Found.the-variants.{At, Nothing}
 use Rattle.ledger.specs.Bills.{renewed, posting, cancelledBill}
-use Rattle.ledger.specs.Books.{View}
-use Rattle.notices.specs.Layout.{recordAt}
-use Rattle.file.specs.File.{Group, asksId, line1}
+use Rattle.file.specs.File.{Group, asksId}
 use Rattle.verdict.specs.declared.Check.{Check}
 use Rattle.verdict.specs.declared.Check.the-variants.{Clear, Stop}
 use Rattle.verdict.specs.declared.Sought.{Sought}
@@ -22,8 +20,7 @@ use Rattle.verdict.specs.declared.Sought.the-variants as sought
 use Rattle.verdict.specs.declared.Verdict.{Verdict}
 use Rattle.verdict.specs.declared.Verdict.the-variants.{Accepted, Rejected}
 use Rattle.verdict.specs.Rules.{first}
-use Rattle.groups.specs.Groups.{sought, verdictBy}
-use Rattle.groups.specs.Steps.{identityIn}
+use Rattle.groups.specs.Groups.{verdictOn}
 use Rattle.calls.specs.declared.Start.{Start}
 use Rattle.calls.specs.declared.Request.{Request}
 use Rattle.calls.specs.Causes.{requestCauses, fileCauses, cancelCauses, closeCauses}
@@ -66,22 +63,14 @@ soughtBy Nothing b = sought.Nothing
 soughtBy (At p) b = sought.Bill (b .terms)
 
 -- ---- a group
--- the identity that the group of record i names, if it has one detail
-unfoldable pub identityAt : List ℕ → ℕ → ℕ → Identity
-identityAt s i n = cond (leb n (i + 1)) (record { account = 0; key = 0 }) (identityIn (recordAt s i) (recordAt s (i + 1)))
-
--- v is the verdict on g: on every ledger of this day on which the bill that g names is b, if g passes line 1
-abbrev pub Decides : Bool → Date → Sought → Group → Verdict → Type 0
-Decides duplicate today b g r = (v : View) → v .today ≡ today → (line1 g ≡ false → sought v g ≡ b) → r ≡ verdictBy duplicate v g
-
 -- what a verdict leaves at the bill's place, and how many Tracking IDs it takes: a rejection leaves the same bill
 unfoldable pub turnBy : Verdict → Bool → Bill → Settled
 turnBy (Accepted amounts) sup b = record { bill = posting amounts sup b; ids = cond sup 1 0 }
 turnBy (Rejected n) sup b = record { bill = b; ids = 0 }
 
+-- one group's turn, where b stands at the place that was found
 abbrev pub Turns : Bool → Date → Found → Bill → Group → Settled → Type 0
-Turns duplicate today f b g r =
-    (v : View) → v .today ≡ today → (line1 g ≡ false → sought v g ≡ soughtBy f b) → r ≡ turnBy (verdictBy duplicate v g) (asksId g) b
+Turns duplicate today f b g r = r ≡ turnBy (verdictOn duplicate today (soughtBy f b) g) (asksId g) b
 
 -- a bill that is posted to has a sequence that can rise
 abbrev pub CanPost : Verdict → Bill → Type 0

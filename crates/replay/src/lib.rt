@@ -85,7 +85,7 @@ pub fn walk(src: &[u8], r: Reader) -> Walked
         let marks = turns::marks(&src[from..end], m);
         'records: for i in 0..m {
             if file::header_at(&src[from..end], i) {
-                let id = turns::identity_at(&src[from..end], i, m);
+                let id = groups::identity_at(&src[from..end], i, m);
                 let held = l.count;
                 let g = search::place(&accounts, &keys, held, id);
                 let q = search::slot(g, held);

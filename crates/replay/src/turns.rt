@@ -4,13 +4,10 @@ ghost use mathlib.Core.Bool.{false};
 ghost use Prim.Native.Nat.{ℕ, _+_, _*_, _≤_, _<_};
 ghost use lib.ListN.{length, getD};
 ghost use Rattle.file.specs.Walk.{groupAt, markAt};
-ghost use Rattle.replay.specs.Steps.{soughtBy, identityAt, Decides, turnBy, Turns, CanPost, CalmAt};
-use file::Form;
+ghost use Rattle.replay.specs.Steps.{soughtBy, turnBy, Turns, CanPost, CalmAt};
 use ledger::Bill;
 use ledger::Found;
-use ledger::Identity;
 use units::Date;
-use verdict::Kind;
 use verdict::Sought;
 use verdict::Verdict;
 
@@ -31,21 +28,6 @@ pub fn marks(s: &[u8], n: usize) -> [bool; 200]
     pairs::duplicates(s, n)
 }
 
-// The identity that the group of record i names, where a record follows.
-pub fn identity_at(s: &[u8], i: usize, n: usize) -> Identity
-    requires { ⌜ (i < n) × (n * 321 ≤ length (now s)) ⌝ }
-    ensures { λ r. ⌜ r ≡ identityAt (now (s .entry)) i n ⌝ }
-{
-    let j = i + 1;
-    if n <= j {
-        return Identity { account: 0, key: 0 };
-    }
-    let a = i * 321;
-    let b = j * 321;
-    let e = b + 321;
-    groups::identity_of(&s[a..b], &s[b..e])
-}
-
 // The bill that was found, where b stands at its place.
 pub fn sought_by(f: Found, b: Bill) -> Sought
     ensures { λ r. ⌜ r ≡ soughtBy f b ⌝ }
@@ -55,31 +37,6 @@ pub fn sought_by(f: Found, b: Bill) -> Sought
         Found::At(_) => Sought::Bill(t),
         Found::Nothing => Sought::Nothing,
     }
-}
-
-// Lines 1 to 10 for the group whose header is record i; duplicate says what line 3 asks.
-fn decide(s: &[u8], i: usize, n: usize, duplicate: bool, b: Sought, today: Date) -> Verdict
-    requires { ⌜ (i < n) × (n * 321 ≤ length (now s)) ⌝ }
-    ensures { λ r. ⌜ Decides duplicate today b (groupAt (now (s .entry)) i n) r ⌝ }
-{
-    let form = file::form_at(s, i, n);
-    let kind = match form {
-        Form::Broken => {
-            return Verdict::Rejected(17);
-        }
-        Form::Unknown => {
-            return Verdict::Rejected(19);
-        }
-        Form::Response => Kind::Response,
-        Form::Supplement => Kind::Supplement,
-    };
-    if duplicate {
-        return Verdict::Rejected(14);
-    }
-    let a = i * 321;
-    let m = (i + 1) * 321;
-    let e = m + 321;
-    verdict::verdict_of(&s[a..m], &s[m..e], kind, b, today)
 }
 
 // What a verdict leaves.
@@ -112,6 +69,6 @@ pub fn turn(
     ensures { λ r. ⌜ Turns duplicate today f b (groupAt (now (s .entry)) i n) r ⌝ }
 {
     let sup = file::sup_at(s, i);
-    let v = decide(s, i, n, duplicate, sought_by(f, b), today);
+    let v = groups::verdict_at(s, i, n, duplicate, sought_by(f, b), today);
     post(v, sup, b)
 }

@@ -17,6 +17,7 @@ use ledger::Product;
 use ledger::RateCode;
 use ledger::State;
 use ledger::Terms;
+use ledger::bills;
 use ledger::books;
 use units::Cents;
 use units::Date;
@@ -42,12 +43,12 @@ fn put_cell(out: &mut [u8], at: usize, width: usize, n: u64)
 }
 
 // Writes a rate code and a comma, 6 bytes.
-fn put_code(out: &mut [u8], at: usize, c: RateCode)
+fn put_code_cell(out: &mut [u8], at: usize, c: RateCode)
     requires { ⌜ at + 6 ≤ length (now out) ⌝ }
     ensures { λ _. ⌜ now (out .exit) ≡ put (now (out .entry)) at (cell (codeBytes c)) ⌝ }
 {
-    let code = [c.first, c.second, 67, c.tens, c.ones, 44];
-    fields::put_bytes(out, at, &code);
+    bills::put_code(out, at, c);
+    fields::put_bytes(out, at + 5, b",");
 }
 
 // Writes a product and a comma, 2 bytes.
@@ -69,7 +70,7 @@ fn put_terms(out: &mut [u8], at: usize, t: Terms)
     let product = t.product;
     put_cell(out, at, 12, id.account);
     put_cell(out, at + 13, 4, id.key);
-    put_code(out, at + 18, code);
+    put_code_cell(out, at + 18, code);
     put_kind(out, at + 24, product);
     put_cell(out, at + 26, 3, t.sequence);
 }

@@ -16,11 +16,11 @@ add-put-cell c = search needs
 put-cell-requires-2 : tie.Need-put-cell-requires-2
 put-cell-requires-2 c κs = search needs
 
-add-put-code : tie.Need-add-put-code
-add-put-code c = search needs
+add-put-code-cell : tie.Need-add-put-code-cell
+add-put-code-cell c = search needs
 
-put-code-requires : tie.Need-put-code-requires
-put-code-requires c κs = search needs
+put-code-cell-requires : tie.Need-put-code-cell-requires
+put-code-cell-requires c κs = search needs
 
 add-put-kind : tie.Need-add-put-kind
 add-put-kind c = search needs
@@ -43,7 +43,7 @@ returns c =
     let a = c .before .before .before .before .before .before .before .before .before .before .before .before .before .before .before .before .before .before .before .before .before .before .before .args in
     let w1 = first (a .out .now) (a .at) _ (omega (arith, c .before .before .before .before .before .before .before .before .before .before .before .before .before .before .before .before .before .before .before .before .before .before .before .pre)) (c .before .before .before .before .before .before .before .before .before .before .before .before .before .before .before .before .before .before .put-cell .ensures) (length-number 12 _) in
     let w2 = next w1 _ (c .before .before .before .before .before .before .before .before .before .before .before .before .before .before .put-cell2 .ensures) (length-number 4 _) in
-    let w3 = next w2 _ (c .before .before .before .before .before .before .before .before .before .before .put-code .ensures) (length-cell _) in
+    let w3 = next w2 _ (c .before .before .before .before .before .before .before .before .before .before .put-code-cell .ensures) (length-cell _) in
     let w4 = next w3 _ (c .before .before .before .before .before .before .put-kind .ensures) (length-cell _) in
     next w4 _ (c .before .before .put-cell3 .ensures) (length-number 3 _) .same
 
@@ -54,8 +54,8 @@ put-terms-spec =
     put-cell-requires
     add-put-cell
     put-cell-requires-2
-    add-put-code
-    put-code-requires
+    add-put-code-cell
+    put-code-cell-requires
     add-put-kind
     put-kind-requires
     add-put-cell-2

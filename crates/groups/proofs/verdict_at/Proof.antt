@@ -1,4 +1,4 @@
--- `replay::turns::decide` meets its contract: each return is a line of the list.
+-- `groups::verdict_at` meets its contract: each return is a line of the list.
 use Prim.Native.Nat.{_+_, _-_, _*_}
 use mathlib.Core.Path.{_≡_, sym, _∙_}
 use mathlib.Core.Bool.{false}
@@ -11,11 +11,11 @@ use Rattle.file.proofs.FileLaws.{header-is, only-detail}
 use Rattle.file.proofs.WalkLaws.{lent-head, lent-next}
 use Rattle.file.proofs.FormLaws.{says, one-detail, one-within}
 use Rattle.verdict.specs.Lines.{verdictOf}
 use Rattle.groups.specs.Groups.{kindOf}
-use Rattle.replay.proofs.GroupTurns.{by-line1, by-line2, by-line3, by-rest}
+use Rattle.groups.proofs.DecideLaws.{verdict-line1, verdict-line2, verdict-line3, verdict-rest}
 use borrow.Author.Needs.{needs}
-use Rattle.replay.proofs.turns.decide.Statement.{statement}
-use Rattle.replay.proofs.turns.decide.Tie as tie
+use Rattle.groups.proofs.verdict_at.Statement.{statement}
+use Rattle.groups.proofs.verdict_at.Tie as tie
 
 -- past the match: the group passes lines 1 and 2, and the kind is its
 joined : (c : tie.At-match-came) →
@@ -41,13 +41,13 @@ enum-told : tie.Need-enum-told
 enum-told c = search needs
 
 returns : tie.Need-returns
-returns c = by-line1 _ _ _ _ (says _ .broken (sym (c .before .before .form-at .ensures) ∙ c .enum-told .given .1))
+returns c = verdict-line1 _ _ _ _ (says _ .broken (sym (c .before .before .form-at .ensures) ∙ c .enum-told .given .1))
 
 enum-told-2 : tie.Need-enum-told-2
 enum-told-2 c = search needs
 
 returns-2 : tie.Need-returns-2
-returns-2 c = let q = says _ .unknown (sym (c .before .before .form-at .ensures) ∙ c .enum-told2 .given .1) in by-line2 _ _ _ _ (q .0) (q .1)
+returns-2 c = let q = says _ .unknown (sym (c .before .before .form-at .ensures) ∙ c .enum-told2 .given .1) in verdict-line2 _ _ _ _ (q .0) (q .1)
 
 enum-told-3 : tie.Need-enum-told-3
 enum-told-3 c = search needs
@@ -56,7 +56,7 @@ enum-told-4 : tie.Need-enum-told-4
 enum-told-4 c = search needs
 
 returns-3 : tie.Need-returns-3
-returns-3 c = let q = joined (c .before) in by-line3 _ _ _ _ (q .0) (q .1) (c .if1 .taken)
+returns-3 c = let q = joined (c .before) in verdict-line3 _ _ _ _ (q .0) (q .1) (c .if1 .taken)
 
 mul-a : tie.Need-mul-a
 mul-a c = search needs
@@ -100,10 +100,10 @@ returns-4 c = let s = c .before .before .before .before .before .before .before 
     let e : verdictOf (c .before .before .before .before .match .kind) (c .before .before .before .before .before .before .before .args .today) (take ((i + 1) * 321 - i * 321) (drop (i * 321) s)) (take ((i + 1) * 321 + 321 - (i + 1) * 321) (drop ((i + 1) * 321) s)) (c .before .before .before .before .before .before .before .args .b)
     ≡ verdictOf (kindOf g) (c .before .before .before .before .before .before .before .args .today) (g .header) (detailOf g) (c .before .before .before .before .before .before .before .args .b) =
     rw (lent-head s i, lent-next s i, q .2, header-is s i n, only-detail s i n (one-detail s i n (q .0))) in
-    rw (c .verdict-of .ensures ∙ e) (by-rest (c .before .before .before .before .before .before .before .args .duplicate) (c .before .before .before .before .before .before .before .args .today) (c .before .before .before .before .before .before .before .args .b) g (q .0) (q .1) (c .before .before .before .if1 .left))
+    c .verdict-of .ensures ∙ e ∙ verdict-rest (c .before .before .before .before .before .before .before .args .duplicate) (c .before .before .before .before .before .before .before .args .today) (c .before .before .before .before .before .before .before .args .b) g (q .0) (q .1) (c .before .before .before .if1 .left)
 
-pub decide-spec : {M : Type 1} → statement M
-decide-spec =
+pub verdict-at-spec : {M : Type 1} → statement M
+verdict-at-spec =
     tie.close
     (tie.spec
     form-at-requires

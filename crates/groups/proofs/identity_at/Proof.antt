@@ -1,10 +1,10 @@
--- `replay::turns::identity_at` meets its contract.
+-- `groups::identity_at` meets its contract.
 use borrow.Author.Tests.{le-leb, lt-leb}
 use Rattle.file.proofs.WalkLaws.{lent-head, lent-next}
-use Rattle.replay.specs.Steps.{identityAt}
+use Rattle.groups.specs.Steps.{identityAt}
 use borrow.Author.Needs.{needs}
-use Rattle.replay.proofs.turns.identity_at.Statement.{statement}
-use Rattle.replay.proofs.turns.identity_at.Tie as tie
+use Rattle.groups.proofs.identity_at.Statement.{statement}
+use Rattle.groups.proofs.identity_at.Tie as tie
 
 add-j : tie.Need-add-j
 add-j c = search needs
