@@ -16,7 +16,7 @@ use Rattle.ledger.specs.Sound.{soundLedger}
 use Rattle.calls.specs.Causes.{startTests, freshCauses}
 use Rattle.calls.specs.Machine.{outcomes}
 use Rattle.calls.proofs.DayLaws.{fresh-sound}
-use Rattle.journal.specs.Journal.{Entry, Parsed, parse, parseUpTo, callOf, made, makes, noBook, ledgerOf}
+use Rattle.journal.specs.Journal.{Entry, Parsed, parse, parseUpTo, callOf, made, makes, noBook, ledgerOf, isBad}
 use Rattle.journal.specs.Made.{writtenBy, noticesOf, brnOf}
 use Rattle.journal.proofs.JournalLaws.{fed, parse-fed}
 use Rattle.journal.proofs.BeginLaws.{makes-append}
@@ -160,16 +160,21 @@ reads-kept buf after l seen have total x e n =
 pub reads-ended : (buf : List ℕ) (l : Ledger) (seen have total : ℕ) (stopped failed : Bool) → Reads buf l seen have total
     → Waits seen (take have buf) stopped
     → Ends buf (record { ledger = l; seen = seen; stopped = stopped; left = have; total = total; failed = failed })
-unfolding readOn makes noticesOf ledgerOf brnOf
+unfolding readOn makes noticesOf ledgerOf isBad brnOf
 reads-ended buf l seen have total stopped failed x w =
     let e = x .reading ∙ ap (λ (p : Parsed). behind (x .written) (by (book l) seen p)) w in
+    let bad = sym (ap (λ (y : Reading). y .stopped) e) in
+    let rest = sym (ap (λ (y : Reading). y .rest) e) in
+    let count : seen ≡ length (parse 0 (x .bytes) .entries) = omega (arith, ap (λ (y : Reading). y .seen) e) in
+    let left : have ≡ length (parse 0 (x .bytes) .rest) = sym (length-take-le have buf (x .within)) ∙ ap length rest in
     record {
       bytes = x .bytes;
       ledger = sym (ap (λ (y : Reading). y .ledger) e);
-      seen = omega (arith, ap (λ (y : Reading). y .seen) e);
-      stopped = sym (ap (λ (y : Reading). y .stopped) e);
-      rest = sym (ap (λ (y : Reading). y .rest) e);
+      seen = count;
+      stopped = bad;
+      rest = rest;
       within = x .within;
+      bad = rw (bad, left, count);
       total = x .size ∙ sym (ap (λ (y : Reading). length (y .notices)) e ∙ ap length (append-nil (x .written)));
     }
 

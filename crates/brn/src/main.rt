@@ -4,6 +4,8 @@ ghost use Prim.Native.Nat.{_≤_};
 ghost use mathlib.Core.Bool.{true, false};
 ghost use lib.ListN.{length};
 ghost use Rattle.ledger.specs.Sound.{soundLedger};
+ghost use Rattle.input.specs.declared.Filled.the-variants.{Ended};
+ghost use Rattle.journal.specs.Journal.{endsBad};
 ghost use Rattle.brn.specs.Pieces.{PieceMade, ReadsOn};
 ghost use Rattle.brn.specs.Reading.{Ends};
 use input::Filled;
@@ -89,6 +91,17 @@ fn more(buf: &mut [u8], have: usize, full: bool) -> Filled
     input::fill(buf, have)
 }
 
+// Says that a read failed, unless the input has ended.
+fn unread(f: Filled) -> bool
+    ensures { λ r. ⌜ (r ≡ false → f ≡ Ended) ⌝ }
+{
+    if let Filled::Ended = f {
+        return false;
+    }
+    os::fail(b"read");
+    true
+}
+
 // Where the reading ended: the ledger, how many entries came, whether a bad one stopped it, how many bytes are left at the start of the buffer,
 // how many bytes of notices were written, and whether a read or a write failed.
 struct End {
@@ -116,24 +129,14 @@ fn read_all(buf: &mut [u8], out: &mut [u8]) -> End
         turns -= 1;
         let f = more(buf, have, full);
         let Filled::Bytes(n) = f else {
-            if let Filled::Ended = f {
-                return End {
-                    ledger: l,
-                    seen,
-                    stopped: false,
-                    left: have,
-                    total,
-                    failed: false,
-                };
-            }
-            os::fail(b"read");
+            let failed = unread(f);
             return End {
                 ledger: l,
                 seen,
                 stopped: false,
                 left: have,
                 total,
-                failed: true,
+                failed,
             };
         };
         let r = run(l, seen, &buf[..n], out);
@@ -168,9 +171,17 @@ fn read_all(buf: &mut [u8], out: &mut [u8]) -> End
     }
 }
 
+// Whether a journal ended bad: a bad entry stopped it, an entry is cut short, or there is none.
+fn is_bad(stopped: bool, left: usize, seen: u64) -> bool
+    ensures { λ r. ⌜ r ≡ endsBad stopped left seen ⌝ }
+{
+    stopped | (0 < left) | (seen == 0)
+}
+
 fn main() {
     let mut buf = [0u8; 262144];
     let mut out = [0u8; 262144];
     let e = read_all(&mut buf, &mut out);
-    warn(!e.failed & (e.stopped | (0 < e.left) | (e.seen == 0)));
+    let bad = is_bad(e.stopped, e.left, e.seen);
+    warn(!e.failed & bad);
 }

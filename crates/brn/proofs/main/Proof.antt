@@ -13,6 +13,9 @@ slice-aggregate-read-all-2 c = search needs
 read-all-requires : tie.Need-read-all-requires
 read-all-requires c κs = (refl, refl)
 
+is-bad-requires : tie.Need-is-bad-requires
+is-bad-requires c κs = search needs
+
 warn-requires : tie.Need-warn-requires
 warn-requires c κs = search needs
 
@@ -20,4 +23,4 @@ returns : tie.Need-returns
 returns c = search needs
 
 pub main-spec : {M : Type 1} → statement M
-main-spec = tie.close (tie.spec slice-aggregate-read-all slice-aggregate-read-all-2 read-all-requires warn-requires returns)
+main-spec = tie.close (tie.spec slice-aggregate-read-all slice-aggregate-read-all-2 read-all-requires is-bad-requires warn-requires returns)

@@ -1,9 +1,9 @@
 -- `brn::read_all` meets its contract. The loop's invariant: the pieces that came are read as one.
 use borrow.Author.Needs.{needs}
 use native.Mathlib.Omega.{arith}
-use Prim.Native.Nat.{ℕ, _+_, _-_, _*_, _≤_}
-use mathlib.Core.Path.{_≡_, sym, ap, _∙_}
-use mathlib.Core.Bool.{Bool, true, false, not, _||_, true≢false, false≢true}
+use Prim.Native.Nat.{ℕ, _+_, _*_, _≤_}
+use mathlib.Core.Path.{_≡_, sym, _∙_}
+use mathlib.Core.Bool.{Bool, true, false, not, _||_, true≢false}
 use mathlib.Core.List.{List}
 use lib.ListN.{length, take}
 use lib.Seq.{length-take-le}
@@ -21,10 +21,10 @@ record Inv (buf out : List ℕ) (l : Ledger) (seen have total : ℕ) (full : Boo
   small : total + 262144 * turns ≤ 18350080000000000000
 
 abbrev Inv-loop : tie.InvT-loop
-Inv-loop buf₀ out₀ l₀ seen₀ have₀ total₀ full₀ turns₀ t17 buf out l seen have total full turns = Inv buf out l seen have total full turns
+Inv-loop buf₀ out₀ l₀ seen₀ have₀ total₀ full₀ turns₀ buf out l seen have total full turns = Inv buf out l seen have total full turns
 
 abbrev μ-loop : tie.MeasureT-loop
-μ-loop buf₀ out₀ l₀ seen₀ have₀ total₀ full₀ turns₀ t17 buf out l seen have total full turns = turns
+μ-loop buf₀ out₀ l₀ seen₀ have₀ total₀ full₀ turns₀ buf out l seen have total full turns = turns
 
 written-or : (a b : Bool) → (not a || b) ≡ true → not a ≡ false → b ≡ true
 written-or true b h z = h
@@ -60,8 +60,8 @@ module _ (c : tie.After-more Inv-loop μ-loop) where
   room : length (c .more .last .0) ≡ 262144
   room = c .more .kept .0 ∙ c .before .before .before .loop .inv .room
 
-enum-told : tie.Need-enum-told Inv-loop μ-loop
-enum-told c = search needs
+unread-requires : tie.Need-unread-requires Inv-loop μ-loop
+unread-requires c κs = search needs
 
 same-length : tie.Need-same-length Inv-loop μ-loop
 same-length c = search needs
@@ -72,23 +72,8 @@ same-length-2 c = search needs
 returns : tie.Need-returns Inv-loop μ-loop
 returns c =
     λ z.
-    let e : c .before .before .before .before .before .before .before .before .loop .full ≡ false = rw (c .enum-told .given .1) at (c .before .before .before .before .before .more .ensures .holds) in
-    reads-ended _ _ _ _ _ false false (held (c .before .before .before .before .before)) (rw (c .before .before .before .before .before .more .ensures .stay) (c .before .before .before .before .before .before .before .before .loop .inv .waits e))
-
-slice-aggregate-fail : tie.Need-slice-aggregate-fail Inv-loop μ-loop
-slice-aggregate-fail c = search needs
-
-fail-requires : tie.Need-fail-requires Inv-loop μ-loop
-fail-requires c κs = search needs
-
-same-length-3 : tie.Need-same-length-3 Inv-loop μ-loop
-same-length-3 c = search needs
-
-same-length-4 : tie.Need-same-length-4 Inv-loop μ-loop
-same-length-4 c = search needs
-
-returns-2 : tie.Need-returns-2 Inv-loop μ-loop
-returns-2 c = λ z. absurd (true≢false z)
+    let e : c .before .before .before .before .before .before .before .loop .full ≡ false = rw (c .unread .ensures z) at (c .before .before .before .before .more .ensures .holds) in
+    reads-ended _ _ _ _ _ false _ (held (c .before .before .before .before)) (rw (c .before .before .before .before .more .ensures .stay) (c .before .before .before .before .before .before .before .loop .inv .waits e))
 
 slice-reshare-prefix-run : tie.Need-slice-reshare-prefix-run Inv-loop μ-loop
 slice-reshare-prefix-run c = let b = rw (c .before .f .given .1) at (c .before .before .before .before .before .more .ensures .holds) in b .1
@@ -132,14 +117,14 @@ module _ (c : tie.After-keep Inv-loop μ-loop) where
   lent-kept : length (c .before .before .before .before .before .before .before .run .last .1 .1 .1 .0) ≡ 262144
   lent-kept = c .before .before .before .before .before .before .before .run .kept .1 .1 .1 .0 ∙ c .before .before .before .before .before .before .before .before .before .before .before .before .before .before .before .before .before .before .loop .inv .lent
 
-same-length-5 : tie.Need-same-length-5 Inv-loop μ-loop
-same-length-5 c = room-kept (c .before .before .before) ∙ sym (c .before .before .before .before .before .before .before .before .before .before .before .before .before .before .before .before .before .before .before .before .before .before .before .before .before .pre .0)
+same-length-3 : tie.Need-same-length-3 Inv-loop μ-loop
+same-length-3 c = room-kept (c .before .before .before) ∙ sym (c .before .before .before .before .before .before .before .before .before .before .before .before .before .before .before .before .before .before .before .before .before .before .before .before .before .pre .0)
 
-same-length-6 : tie.Need-same-length-6 Inv-loop μ-loop
-same-length-6 c = lent-kept (c .before .before .before) ∙ sym (c .before .before .before .before .before .before .before .before .before .before .before .before .before .before .before .before .before .before .before .before .before .before .before .before .before .pre .1)
+same-length-4 : tie.Need-same-length-4 Inv-loop μ-loop
+same-length-4 c = lent-kept (c .before .before .before) ∙ sym (c .before .before .before .before .before .before .before .before .before .before .before .before .before .before .before .before .before .before .before .before .before .before .before .before .before .pre .1)
 
-returns-3 : tie.Need-returns-3 Inv-loop μ-loop
-returns-3 c =
+returns-2 : tie.Need-returns-2 Inv-loop μ-loop
+returns-2 c =
     λ z.
     let s = written-or (c .before .before .before .before .before .write-notices .result) (c .before .before .before .before .before .before .before .before .before .before .run .result .stopped) (c .if1 .taken) z in
     let o : c .before .before .before .before .before .before .before .before .before .before .run .result .full ≡ false = cases (c .before .before .before .before .before .before .before .before .before .before .run .result .full) (λ y. absurd (true≢false (sym s ∙ c .before .before .before .before .before .before .before .before .before .before .run .ensures .goes y .1))) (λ y. y) in
@@ -159,14 +144,14 @@ loop-again c =
       small = omega (arith, c .before .before .before .before .before .before .before .before .before .before .before .before .before .before .before .before .before .before .before .before .before .loop .inv .small, c .before .before .before .before .before .before .before .before .before .before .before .before .before .before .before .before .before .before .before .before .before .loop .inv .lent, c .before .before .before .before .before .before .before .before .before .before .run .ensures .room, c .before .before .before .before .before .before .before .before .before .before .run .kept .1 .1 .1 .0, c .before .before .before .before .before .before .before .before .before .before .before .before .before .before .before .before .before .before .before .before .loop-test .taken);
     }
 
-same-length-7 : tie.Need-same-length-7 Inv-loop μ-loop
-same-length-7 c = search needs
+same-length-5 : tie.Need-same-length-5 Inv-loop μ-loop
+same-length-5 c = search needs
 
-same-length-8 : tie.Need-same-length-8 Inv-loop μ-loop
-same-length-8 c = search needs
+same-length-6 : tie.Need-same-length-6 Inv-loop μ-loop
+same-length-6 c = search needs
 
-returns-4 : tie.Need-returns-4 Inv-loop μ-loop
-returns-4 c = λ z. absurd (true≢false z)
+returns-3 : tie.Need-returns-3 Inv-loop μ-loop
+returns-3 c = λ z. absurd (true≢false z)
 
 pub read-all-spec : {M : Type 1} → statement M
 read-all-spec =
@@ -179,15 +164,10 @@ read-all-spec =
     sub-turns
     more-requires
     enum-known-f
-    enum-told
+    unread-requires
     same-length
     same-length-2
     returns
-    slice-aggregate-fail
-    fail-requires
-    same-length-3
-    same-length-4
-    returns-2
     slice-reshare-prefix-run
     slice-aggregate-run
     run-requires
@@ -196,11 +176,11 @@ read-all-spec =
     write-notices-requires
     add-total
     keep-requires
-    same-length-5
-    same-length-6
-    returns-3
+    same-length-3
+    same-length-4
+    returns-2
     loop-less
     loop-again
-    same-length-7
-    same-length-8
-    returns-4)
+    same-length-5
+    same-length-6
+    returns-3)
