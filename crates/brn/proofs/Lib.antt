@@ -1,3 +1,4 @@
 -- Laws that belong to no one function.
 pub mod PieceLaws
 pub mod ReadLaws
+pub mod ReadingLaws

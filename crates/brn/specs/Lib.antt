@@ -1,2 +1,3 @@
--- What the contract of `run` cites.
+-- What the contracts of program `brn` cite.
 pub mod Pieces
+pub mod Reading

@@ -1,7 +1,7 @@
 -- What is made of a piece of a journal. Assumes nothing.
 use Prim.Native.Nat.{ℕ, _+_, _≤_, _<_}
 use mathlib.Core.Path.{_≡_}
-use mathlib.Core.Bool.{true, false}
+use mathlib.Core.Bool.{Bool, true, false}
 use mathlib.Core.List.{List, []}
 use lib.ListN.{length, take, drop}
 use Rattle.fields.specs.Put.{put}
@@ -36,13 +36,14 @@ pub record PieceMade (first : Ledger) (before : ℕ) (s out₀ out : List ℕ) (
   pub within : r .used ≤ length s
   pub room : r .written ≤ length out
 
--- a buffer of so many bytes, of which some were held before, holds no fewer than before, and no more than it has
-abbrev pub HoldsOn : ℕ → ℕ → filled.Filled → Type 0
-HoldsOn have room (filled-as.Bytes n) = (have ≤ n) × (n ≤ room)
-HoldsOn have room filled-as.Ended = Unit {0}
-HoldsOn have room filled-as.Failed = Unit {0}
+-- a buffer of so many bytes, of which some were held before, holds no fewer than before, and no more than it has; where entries are left to be
+-- made the input does not end
+abbrev pub HoldsOn : ℕ → Bool → ℕ → filled.Filled → Type 0
+HoldsOn have full room (filled-as.Bytes n) = (have ≤ n) × (n ≤ room)
+HoldsOn have full room filled-as.Ended = full ≡ false
+HoldsOn have full room filled-as.Failed = Unit {0}
 
 -- the bytes held before stay
-pub record ReadsOn (have : ℕ) (before after : List ℕ) (r : filled.Filled) : Type 0 where
+pub record ReadsOn (have : ℕ) (full : Bool) (before after : List ℕ) (r : filled.Filled) : Type 0 where
   pub stay : take have after ≡ take have before
-  pub holds : HoldsOn have (length after) r
+  pub holds : HoldsOn have full (length after) r

@@ -1,10 +1,13 @@
-// ReadsOn a journal on standard input and writes the notices of every call carried out, in order: the bytes of a BRN file.
+// Reads a journal on standard input and writes the notices of every call carried out, in order: the bytes of a BRN file.
 ghost use mathlib.Core.Path.{_≡_};
 ghost use Prim.Native.Nat.{_≤_};
-ghost use mathlib.Core.Bool.{true};
+ghost use mathlib.Core.Bool.{true, false};
 ghost use lib.ListN.{length};
 ghost use Rattle.ledger.specs.Sound.{soundLedger};
+ghost use Rattle.input.specs.declared.Filled.the-variants.{Ended};
+ghost use Rattle.journal.specs.Journal.{endsBad};
 ghost use Rattle.brn.specs.Pieces.{PieceMade, ReadsOn};
+ghost use Rattle.brn.specs.Reading.{Ends};
 use input::Filled;
 use ledger::Ledger;
 use libc::STDERR_FILENO;
@@ -77,10 +80,10 @@ fn run(first: Ledger, before: u64, s: &[u8], out: &mut [u8]) -> Read
     }
 }
 
-// ReadsOn on where all entries that were read are made.
+// Reads on where all entries that were read are made.
 fn more(buf: &mut [u8], have: usize, full: bool) -> Filled
     requires { ⌜ have ≤ length (now buf) ⌝ }
-    ensures { λ r. ⌜ ReadsOn have (now (buf .entry)) (now (buf .exit)) r ⌝ }
+    ensures { λ r. ⌜ ReadsOn have full (now (buf .entry)) (now (buf .exit)) r ⌝ }
 {
     if full {
         return Filled::Bytes(have);
@@ -88,38 +91,97 @@ fn more(buf: &mut [u8], have: usize, full: bool) -> Filled
     input::fill(buf, have)
 }
 
-fn main() {
-    let mut buf = [0u8; 262144];
-    let mut out = [0u8; 262144];
+// Says that a read failed, unless the input has ended.
+fn unread(f: Filled) -> bool
+    ensures { λ r. ⌜ (r ≡ false → f ≡ Ended) ⌝ }
+{
+    if let Filled::Ended = f {
+        return false;
+    }
+    os::fail(b"read");
+    true
+}
+
+// Where the reading ended: the ledger, how many entries came, whether a bad one stopped it, how many bytes are left at the start of the buffer,
+// how many bytes of notices were written, and whether a read or a write failed.
+struct End {
+    ledger: Ledger,
+    seen: u64,
+    stopped: bool,
+    left: usize,
+    total: usize,
+    failed: bool,
+}
+
+// Reads standard input in pieces, makes its calls and writes their notices. A billion entries have fewer bytes than there are turns.
+fn read_all(buf: &mut [u8], out: &mut [u8]) -> End
+    requires { ⌜ length (now buf) ≡ 262144 ⌝ }
+    requires { ⌜ length (now out) ≡ 262144 ⌝ }
+    ensures { λ e. ⌜ (e .failed ≡ false → Ends (now (buf .exit)) e) ⌝ }
+{
     let mut l = Ledger::empty(Date(19000101), 1, 1);
     let mut seen = 0;
     let mut have = 0;
+    let mut total = 0;
     let mut full = false;
-    let mut turns = u64::MAX;
+    let mut turns = 70000000000000u64;
     while 0 < turns {
         turns -= 1;
-        let f = more(&mut buf, have, full);
+        let f = more(buf, have, full);
         let Filled::Bytes(n) = f else {
-            if let Filled::Failed = f {
-                os::fail(b"read");
-                return;
-            }
-            warn((0 < have) | (seen == 0));
-            return;
+            let failed = unread(f);
+            return End {
+                ledger: l,
+                seen,
+                stopped: false,
+                left: have,
+                total,
+                failed,
+            };
         };
-        let r = run(l, seen, &buf[..n], &mut out);
-        let written = r.written;
-        let is_written = write_notices(&out[..written]);
-        let stopped = r.stopped;
-        warn(is_written & stopped);
-        if !is_written | stopped {
-            return;
-        }
+        let r = run(l, seen, &buf[..n], out);
         let next = r.ledger;
         l = next;
         seen = r.seen;
         full = r.full;
+        let stopped = r.stopped;
+        let written = r.written;
+        let is_written = write_notices(&out[..written]);
+        total += written;
         let used = r.used;
-        have = journal::keep(&mut buf, used, n);
+        have = journal::keep(buf, used, n);
+        if !is_written | stopped {
+            return End {
+                ledger: l,
+                seen,
+                stopped,
+                left: have,
+                total,
+                failed: !is_written,
+            };
+        }
     }
+    End {
+        ledger: l,
+        seen,
+        stopped: false,
+        left: have,
+        total,
+        failed: true,
+    }
+}
+
+// Whether a journal ended bad: a bad entry stopped it, an entry is cut short, or there is none.
+fn is_bad(stopped: bool, left: usize, seen: u64) -> bool
+    ensures { λ r. ⌜ r ≡ endsBad stopped left seen ⌝ }
+{
+    stopped | (0 < left) | (seen == 0)
+}
+
+fn main() {
+    let mut buf = [0u8; 262144];
+    let mut out = [0u8; 262144];
+    let e = read_all(&mut buf, &mut out);
+    let bad = is_bad(e.stopped, e.left, e.seen);
+    warn(!e.failed & bad);
 }

@@ -18,7 +18,7 @@ same-length c = search needs
 
 -- src/main.rt:81:1
 returns-2 : tie.Need-returns-2
-returns-2 c = reads-more _ _ _ _ (c .before .before .fill .ensures)
+returns-2 c = reads-more _ _ _ _ _ (c .before .before .before .before .if1 .left) (c .before .before .fill .ensures)
 
 pub more-spec : {M : Type 1} → statement M
 more-spec = tie.close (tie.spec returns fill-requires same-length returns-2)

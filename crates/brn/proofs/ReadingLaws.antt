@@ -1,0 +1,240 @@
+-- Standard input read piece by piece is read whole. Assumes nothing.
+use Prim.Native.Nat.{ℕ, _+_, _-_, _≤_}
+use mathlib.Core.Path.{_≡_, refl, sym, ap, ap₂, _∙_}
+use mathlib.Core.Bool.{Bool, true, false, cond}
+use mathlib.Core.List.{List, [], _∷_, _++_, append-assoc, append-nil}
+use native.Mathlib.Omega.{arith}
+use native.Mathlib.Nat.{add-zero}
+use lib.ListN.{length, take, drop, length-append, take-append-drop}
+use lib.Seq.{length-take-le, take-add, drop-at}
+use Rattle.fields.specs.Put.{part, put}
+use Rattle.fields.proofs.PutLaws.{length-part, part-put}
+use Rattle.units.specs.Calendar.{isDate, monthDays}
+use Rattle.ledger.specs.declared.Ledger.{Ledger}
+use Rattle.ledger.specs.Books.{Book, book, emptyLedger}
+use Rattle.ledger.specs.Sound.{soundLedger}
+use Rattle.calls.specs.Causes.{startTests, freshCauses}
+use Rattle.calls.specs.Machine.{outcomes}
+use Rattle.calls.proofs.DayLaws.{fresh-sound}
+use Rattle.journal.specs.Journal.{Entry, Parsed, parse, parseUpTo, callOf, made, makes, noBook, ledgerOf, isBad}
+use Rattle.journal.specs.Made.{writtenBy, noticesOf, brnOf}
+use Rattle.journal.proofs.JournalLaws.{fed, parse-fed}
+use Rattle.journal.proofs.BeginLaws.{makes-append}
+use Rattle.brn.specs.declared.Read.{Read}
+use Rattle.brn.specs.Pieces.{PieceMade}
+use Rattle.brn.specs.Reading.{Ends}
+
+-- ---- what comes of reading some bytes
+pub record Reading : Type 0 where
+  pub ledger : Book
+  pub seen : ℕ
+  pub stopped : Bool
+  pub rest : List ℕ
+  pub notices : List ℕ
+
+-- on the ledger k, where seen entries came before, by how the bytes are parsed
+abbrev pub by : Book → ℕ → Parsed → Reading
+by k seen p =
+    record {
+      ledger = makes k (p .entries);
+      seen = seen + length (p .entries);
+      stopped = p .stopped;
+      rest = p .rest;
+      notices = noticesOf k (p .entries);
+    }
+
+unfoldable pub readOn : Book → ℕ → List ℕ → Reading
+readOn k seen s = by k seen (parse seen s)
+
+-- behind notices that were written before
+abbrev pub behind : List ℕ → Reading → Reading
+behind w x = record { ledger = x .ledger; seen = x .seen; stopped = x .stopped; rest = x .rest; notices = w ++ x .notices }
+
+-- and then more bytes come
+abbrev goOn : Reading → List ℕ → Reading
+goOn x ys =
+    cond (x .stopped)
+    (record { ledger = x .ledger; seen = x .seen; stopped = true; rest = x .rest ++ ys; notices = x .notices })
+    (behind (x .notices) (readOn (x .ledger) (x .seen) (x .rest ++ ys)))
+
+notices-append : (k : Book) (es fs : List Entry) → noticesOf k (es ++ fs) ≡ noticesOf k es ++ noticesOf (makes k es) fs
+unfolding noticesOf makes
+notices-append k [] fs = refl
+notices-append k (e ∷ es) fs =
+    let w = writtenBy (outcomes k (callOf (e .body) (e .bytes))) in
+    let j = made (e .body) (e .bytes) k in
+    ap (λ (xs : List ℕ). w ++ xs) (notices-append j es fs) ∙ sym (append-assoc w (noticesOf j es) (noticesOf (makes j es) fs))
+
+by-fed : (k : Book) (seen : ℕ) (es : List Entry) (stopped : Bool) (rest ys : List ℕ)
+    → by k seen (fed seen (record { entries = es; stopped = stopped; rest = rest }) ys)
+    ≡ goOn (by k seen (record { entries = es; stopped = stopped; rest = rest })) ys
+unfolding readOn
+by-fed k seen es true rest ys = refl
+by-fed k seen es false rest ys =
+    let p = parse (seen + length es) (rest ++ ys) in
+    let n : seen + length (es ++ p .entries) ≡ seen + length es + length (p .entries) = omega (arith, length-append es (p .entries)) in
+    rw (makes-append k es (p .entries), notices-append k es (p .entries), n)
+
+read-fed : (k : Book) (seen : ℕ) (xs ys : List ℕ) → readOn k seen (xs ++ ys) ≡ goOn (readOn k seen xs) ys
+unfolding readOn
+read-fed k seen xs ys =
+    let p = parse seen xs in
+    ap (by k seen) (parse-fed seen xs ys) ∙ by-fed k seen (p .entries) (p .stopped) (p .rest) ys
+
+goes-behind : (w : List ℕ) (k : Book) (seen : ℕ) (stopped : Bool) (rest notices ys : List ℕ)
+    → goOn (behind w (record { ledger = k; seen = seen; stopped = stopped; rest = rest; notices = notices })) ys
+    ≡ behind w (goOn (record { ledger = k; seen = seen; stopped = stopped; rest = rest; notices = notices }) ys)
+goes-behind w k seen true rest notices ys = refl
+goes-behind w k seen false rest notices ys = rw (append-assoc w notices (readOn k seen (rest ++ ys) .notices))
+
+-- what reads as something behind notices still does when more bytes come
+reads-on : (k : Book) (n : ℕ) (s : List ℕ) (w : List ℕ) (j : Book) (m : ℕ) (t : List ℕ) → readOn k n s ≡ behind w (readOn j m t) → (ys : List ℕ)
+    → readOn k n (s ++ ys) ≡ behind w (readOn j m (t ++ ys))
+reads-on k n s w j m t e ys =
+    let x = readOn j m t in
+    read-fed k n s ys
+    ∙ ap (λ (y : Reading). goOn y ys) e
+    ∙ goes-behind w (x .ledger) (x .seen) (x .stopped) (x .rest) (x .notices) ys
+    ∙ ap (behind w) (sym (read-fed j m t ys))
+
+same : (x y : Reading) → x .ledger ≡ y .ledger → x .seen ≡ y .seen → x .stopped ≡ y .stopped → x .rest ≡ y .rest → x .notices ≡ y .notices → x ≡ y
+same x y a b c d e = rw (a, b, c, d, e)
+
+-- a piece reads as what is left of it, behind the notices that it wrote
+piece-reads : (first : Ledger) (before : ℕ) (s out₀ out : List ℕ) (r : Read) → PieceMade first before s out₀ out r
+    → readOn (book first) before s
+    ≡ behind (take (r .written) (noticesOf (book first) (parse before s .entries))) (readOn (book (r .ledger)) (r .seen) (drop (r .used) s))
+unfolding readOn
+piece-reads first before s out₀ out r p =
+    let all = noticesOf (book first) (parse before s .entries) in
+    same _ _ (sym (p .books)) (sym (p .count)) (sym (p .stopped)) (sym (p .rest))
+    (sym (ap (λ (xs : List ℕ). take (r .written) all ++ xs) (p .others) ∙ take-append-drop (r .written) all))
+
+-- ---- the reading of standard input
+-- some bytes came in pieces: read whole they come to what the bytes held come to on the ledger l, behind the notices written
+pub record Reads (buf : List ℕ) (l : Ledger) (seen have total : ℕ) : Type 0 where
+  pub bytes : List ℕ
+  pub written : List ℕ
+  pub sure : soundLedger l ≡ true
+  pub few : seen ≤ 1000000000
+  pub within : have ≤ length buf
+  pub reading : readOn noBook 0 bytes ≡ behind written (readOn (book l) seen (take have buf))
+  pub size : total ≡ length written
+
+-- no entry stands whole at the start of some bytes
+abbrev pub Waits : ℕ → List ℕ → Bool → Type 0
+Waits seen s stopped = parse seen s ≡ record { entries = []; stopped = stopped; rest = s }
+
+pub reads-start : (buf : List ℕ) (l : Ledger) → l ≡ emptyLedger (record { 0 = 19000101 }) 1 1 → Reads buf l 0 0 0
+unfolding freshCauses startTests isDate monthDays
+reads-start buf l e =
+    record {
+      bytes = [];
+      written = [];
+      sure = rw e (fresh-sound (record { today = record { 0 = 19000101 }; tracking = 1; confirmation = 1 }) refl);
+      few = omega arith;
+      within = omega arith;
+      reading = rw e;
+      size = refl;
+    }
+
+pub waits-start : (buf : List ℕ) → Waits 0 (take 0 buf) false
+unfolding parse parseUpTo
+waits-start buf = refl
+
+-- the bytes held stay in the buffer
+pub reads-kept : (buf after : List ℕ) (l : Ledger) (seen have total : ℕ) → Reads buf l seen have total → take have after ≡ take have buf
+    → length after ≡ length buf → Reads after l seen have total
+reads-kept buf after l seen have total x e n =
+    record {
+      bytes = x .bytes;
+      written = x .written;
+      sure = x .sure;
+      few = x .few;
+      within = omega (arith, x .within);
+      reading = rw e (x .reading);
+      size = x .size;
+    }
+
+-- where no entry stands whole in the bytes held the reading has come to its end
+pub reads-ended : (buf : List ℕ) (l : Ledger) (seen have total : ℕ) (stopped failed : Bool) → Reads buf l seen have total
+    → Waits seen (take have buf) stopped
+    → Ends buf (record { ledger = l; seen = seen; stopped = stopped; left = have; total = total; failed = failed })
+unfolding readOn makes noticesOf ledgerOf isBad brnOf
+reads-ended buf l seen have total stopped failed x w =
+    let e = x .reading ∙ ap (λ (p : Parsed). behind (x .written) (by (book l) seen p)) w in
+    let bad = sym (ap (λ (y : Reading). y .stopped) e) in
+    let rest = sym (ap (λ (y : Reading). y .rest) e) in
+    let count : seen ≡ length (parse 0 (x .bytes) .entries) = omega (arith, ap (λ (y : Reading). y .seen) e) in
+    let left : have ≡ length (parse 0 (x .bytes) .rest) = sym (length-take-le have buf (x .within)) ∙ ap length rest in
+    record {
+      bytes = x .bytes;
+      ledger = sym (ap (λ (y : Reading). y .ledger) e);
+      seen = count;
+      stopped = bad;
+      rest = rest;
+      within = x .within;
+      bad = rw (bad, left, count);
+      total = x .size ∙ sym (ap (λ (y : Reading). length (y .notices)) e ∙ ap length (append-nil (x .written)));
+    }
+
+-- ---- the bytes of the first n from m on, kept at the start
+module _ (xs : List ℕ) (m n : ℕ) (h : m ≤ n) (fits : n ≤ length xs) where
+  drop-take : drop m (take n xs) ≡ part xs m (n - m)
+  unfolding part
+  drop-take =
+      let e : n ≡ m + (n - m) = omega arith in
+      ap (λ (i : ℕ). drop m (take i xs)) e
+      ∙ ap (drop m) (take-add m (n - m) xs)
+      ∙ drop-at (take m xs) (take (n - m) (drop m xs)) m (length-take-le m xs (omega arith))
+
+  front : (ys : List ℕ) (k : ℕ) → length ys ≡ k → take k (put xs 0 ys) ≡ ys
+  unfolding part
+  front ys k e = part-put xs 0 ys k (omega arith) e
+
+  kept-front : (buf : List ℕ) (k : ℕ) → k ≡ n - m → buf ≡ put xs 0 (part xs m (n - m)) → take k buf ≡ drop m (take n xs)
+  kept-front buf k e q =
+      ap₂ (λ (i : ℕ) (l : List ℕ). take i l) e q ∙ front (part xs m (n - m)) (n - m) (length-part xs m (n - m) (omega arith)) ∙ sym drop-take
+
+-- ---- one piece more
+module _ (buf : List ℕ) (l : Ledger) (seen have total n : ℕ) (x : Reads buf l seen have total) (h : have ≤ n) (fits : n ≤ length buf)
+    (out₀ out : List ℕ) (r : Read) (p : PieceMade l seen (take n buf) out₀ out r) (after : List ℕ) (k : ℕ) (e : k ≡ n - r .used)
+    (q : after ≡ put buf 0 (part buf (r .used) (n - r .used))) (m : length after ≡ length buf) where
+  pub used : r .used ≤ n
+  used = omega (arith, p .within, length-take-le n buf fits)
+
+  left-is : take k after ≡ drop (r .used) (take n buf)
+  left-is = kept-front buf (r .used) n used fits after k e q
+
+  abbrev more : List ℕ
+  more = take (n - have) (drop have buf)
+
+  abbrev notices : List ℕ
+  notices = noticesOf (book l) (parse seen (take n buf) .entries)
+
+  whole : readOn noBook 0 (x .bytes ++ more) ≡ behind (x .written ++ take (r .written) notices) (readOn (book (r .ledger)) (r .seen) (take k after))
+  whole =
+      let i : n ≡ have + (n - have) = omega arith in
+      let y = readOn (book (r .ledger)) (r .seen) (drop (r .used) (take n buf)) in
+      reads-on noBook 0 (x .bytes) (x .written) (book l) seen (take have buf) (x .reading) more
+      ∙ ap (λ (s : List ℕ). behind (x .written) (readOn (book l) seen s)) (sym (ap (λ (j : ℕ). take j buf) i ∙ take-add have (n - have) buf))
+      ∙ ap (behind (x .written)) (piece-reads l seen (take n buf) out₀ out r p)
+      ∙ ap (λ (w : List ℕ). record { ledger = y .ledger; seen = y .seen; stopped = y .stopped; rest = y .rest; notices = w })
+      (sym (append-assoc (x .written) (take (r .written) notices) (y .notices)))
+      ∙ ap (λ (s : List ℕ). behind (x .written ++ take (r .written) notices) (readOn (book (r .ledger)) (r .seen) s)) (sym left-is)
+
+  pub reads-more : Reads after (r .ledger) (r .seen) k (total + r .written)
+  reads-more =
+      record {
+        bytes = x .bytes ++ more;
+        written = x .written ++ take (r .written) notices;
+        sure = p .sure;
+        few = p .few;
+        within = omega arith;
+        reading = whole;
+        size = omega (arith, x .size, length-append (x .written) (take (r .written) notices), length-take-le (r .written) notices (p .written));
+      }
+
+  -- all entries of the piece were made
+  pub waits-more : r .full ≡ false → Waits (r .seen) (take k after) (r .stopped)
+  waits-more z = rw left-is (p .done z)
