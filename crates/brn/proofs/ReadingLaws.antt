@@ -20,8 +20,8 @@ use Rattle.journal.specs.Journal.{Entry, Parsed, parse, parseUpTo, callOf, made
 use Rattle.journal.specs.Made.{writtenBy, noticesOf, brnOf}
 use Rattle.journal.proofs.JournalLaws.{fed, parse-fed}
 use Rattle.journal.proofs.BeginLaws.{makes-append}
-use Rattle.brn.specs.declared.Read.{Read}
-use Rattle.brn.specs.Pieces.{PieceMade}
+use Rattle.pieces.specs.declared.Read.{Read}
+use Rattle.pieces.specs.Pieces.{PieceMade}
 use Rattle.brn.specs.Reading.{Ends}
 
 -- ---- what comes of reading some bytes

@@ -6,24 +6,13 @@ ghost use lib.ListN.{length};
 ghost use Rattle.ledger.specs.Sound.{soundLedger};
 ghost use Rattle.input.specs.declared.Filled.the-variants.{Ended};
 ghost use Rattle.journal.specs.Journal.{endsBad};
-ghost use Rattle.brn.specs.Pieces.{PieceMade, ReadsOn};
+ghost use Rattle.brn.specs.Pieces.{ReadsOn};
 ghost use Rattle.brn.specs.Reading.{Ends};
 use input::Filled;
 use ledger::Ledger;
 use libc::STDERR_FILENO;
 use libc::STDOUT_FILENO;
 use units::Date;
-
-// What came of a piece of the journal: the ledger, how many entries came by then, how many of the piece's bytes are done with, how many bytes
-// of notices were written, whether the output has no room for another call's, and whether a bad entry came.
-struct Read {
-    ledger: Ledger,
-    seen: u64,
-    used: usize,
-    written: usize,
-    full: bool,
-    stopped: bool,
-}
 
 // Writes the notices of a piece.
 fn write_notices(out: &[u8]) -> bool {
@@ -38,45 +27,6 @@ fn write_notices(out: &[u8]) -> bool {
 fn warn(stopped: bool) {
     if stopped {
         io::write_all(STDERR_FILENO, b"stopped,13\n");
-    }
-}
-
-// Makes the calls of the whole entries of a piece, as long as the output has room for another call's notices.
-fn run(first: Ledger, before: u64, s: &[u8], out: &mut [u8]) -> Read
-    requires { ⌜ (64200 ≤ length (now out)) × (before ≤ 1000000000) × (soundLedger first ≡ true) ⌝ }
-    ensures { λ r. ⌜ PieceMade first before (now (s .entry)) (now (out .entry)) (now (out .exit)) r ⌝ }
-{
-    let mut l = first;
-    let mut seen = before;
-    let mut at = 0;
-    let mut n = 0;
-    while 64200 <= out.len() - n {
-        let end = n + 64200;
-        let t = journal::make::next_entry(l, &mut out[n..end], &s[at..], seen);
-        let next = t.ledger;
-        l = next;
-        let used = t.used;
-        if used == 0 {
-            return Read {
-                ledger: l,
-                seen,
-                used: at,
-                written: n,
-                full: false,
-                stopped: t.stopped,
-            };
-        }
-        n += t.written;
-        at += used;
-        seen += 1;
-    }
-    Read {
-        ledger: l,
-        seen,
-        used: at,
-        written: n,
-        full: true,
-        stopped: false,
     }
 }
 
@@ -139,7 +89,7 @@ fn read_all(buf: &mut [u8], out: &mut [u8]) -> End
                 failed,
             };
         };
-        let r = run(l, seen, &buf[..n], out);
+        let r = pieces::run(l, seen, &buf[..n], out);
         let next = r.ledger;
         l = next;
         seen = r.seen;

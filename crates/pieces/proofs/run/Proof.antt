@@ -1,4 +1,4 @@
--- `brn::run` meets its contract: each turn's notices come after those of the turns before.
+-- `pieces::run` meets its contract: each turn's notices come after those of the turns before.
 use native.Mathlib.Omega.{arith}
 use Prim.Native.Nat.{ℕ, _-_, _≤_}
 use mathlib.Core.Path.{refl, ap, _∙_}
@@ -7,9 +7,9 @@ use lib.ListN.{length}
 use Rattle.ledger.specs.declared.Ledger.{Ledger}
 use Rattle.ledger.specs.Books.{book}
 use Rattle.journal.proofs.TurnLaws.{noticesIn, Stands, starts, goes-on, at-end, end-written, Holds, holds-none, holds-more}
-use Rattle.brn.proofs.PieceLaws.{length-lent, put-turn, put-none, ran-all, ran-full}
-use Rattle.brn.proofs.run.Statement.{statement}
-use Rattle.brn.proofs.run.Tie as tie
+use Rattle.pieces.proofs.PieceLaws.{length-lent, put-turn, put-none, ran-all, ran-full}
+use Rattle.pieces.proofs.run.Statement.{statement}
+use Rattle.pieces.proofs.run.Tie as tie
 
 record Inv (before : ℕ) (s out₀ : List ℕ) (first : Ledger) (out : List ℕ) (l : Ledger) (seen at n : ℕ) : Type 0 where
   stands : Stands (book first) before s l seen at n

@@ -13,7 +13,7 @@ use Rattle.ledger.specs.declared.Ledger.{Ledger}
 use Rattle.ledger.specs.Books.{book}
 use Rattle.journal.specs.Journal.{parse}
 use Rattle.journal.proofs.TurnLaws.{noticesIn, Stands, Holds}
-use Rattle.brn.specs.Pieces.{PieceMade}
+use Rattle.pieces.specs.Pieces.{PieceMade}
 
 -- ---- the 64,200 bytes from n on are lent
 module _ (out : List ℕ) (n : ℕ) (room : n ≤ length out) (taken : 64200 ≤ length out - n) where

@@ -1,0 +1,2 @@
+-- What the contract of `run` cites.
+pub mod Pieces
