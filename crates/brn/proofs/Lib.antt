@@ -1,3 +1,3 @@
 -- Laws that belong to no one function.
 pub mod ReadLaws
-pub mod ReadingLaws
+pub mod EndLaws

@@ -3,16 +3,14 @@ use Prim.Native.Nat.{ℕ, _≤_}
 use mathlib.Core.Path.{_≡_}
 use mathlib.Core.List.{List}
 use lib.ListN.{length, take}
-use Rattle.ledger.specs.Books.{book}
-use Rattle.journal.specs.Journal.{parse, endsBad, ledgerOf, isBad}
+use Rattle.journal.specs.Journal.{parse, endsBad, isBad}
 use Rattle.journal.specs.Made.{brnOf}
 use Rattle.brn.specs.declared.End.{End}
 
--- some bytes came in pieces: the ledger, the count of entries, whether a bad one stopped the reading and the bytes left in the buffer are those of
+-- some bytes came in pieces: the count of entries, whether a bad one stopped the reading and the bytes left in the buffer are those of
 -- reading them whole, so it ends bad where they do, and as many bytes were written as their BRN file has
 pub record Ends (buf : List ℕ) (e : End) : Type 0 where
   pub bytes : List ℕ
-  pub ledger : book (e .ledger) ≡ ledgerOf bytes
   pub seen : e .seen ≡ length (parse 0 bytes .entries)
   pub stopped : e .stopped ≡ parse 0 bytes .stopped
   pub rest : take (e .left) buf ≡ parse 0 bytes .rest

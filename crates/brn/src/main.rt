@@ -55,7 +55,6 @@ fn unread(f: Filled) -> bool
 // Where the reading ended: the ledger, how many entries came, whether a bad one stopped it, how many bytes are left at the start of the buffer,
 // how many bytes of notices were written, and whether a read or a write failed.
 struct End {
-    ledger: Ledger,
     seen: u64,
     stopped: bool,
     left: usize,
@@ -81,7 +80,6 @@ fn read_all(buf: &mut [u8], out: &mut [u8]) -> End
         let Filled::Bytes(n) = f else {
             let failed = unread(f);
             return End {
-                ledger: l,
                 seen,
                 stopped: false,
                 left: have,
@@ -102,7 +100,6 @@ fn read_all(buf: &mut [u8], out: &mut [u8]) -> End
         have = journal::keep(buf, used, n);
         if !is_written | stopped {
             return End {
-                ledger: l,
                 seen,
                 stopped,
                 left: have,
@@ -112,7 +109,6 @@ fn read_all(buf: &mut [u8], out: &mut [u8]) -> End
         }
     }
     End {
-        ledger: l,
         seen,
         stopped: false,
         left: have,

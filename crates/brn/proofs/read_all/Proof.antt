@@ -9,7 +9,8 @@ use lib.ListN.{length, take}
 use lib.Seq.{length-take-le}
 use Rattle.fields.proofs.BoolLaws.{or-both, cases}
 use Rattle.ledger.specs.declared.Ledger.{Ledger}
-use Rattle.brn.proofs.ReadingLaws.{Reads, Waits, reads-start, waits-start, reads-kept, reads-ended, reads-more, waits-more}
+use Rattle.pieces.proofs.ReadingLaws.{Reads, Waits, reads-start, waits-start, reads-kept, reads-more, waits-more}
+use Rattle.brn.proofs.EndLaws.{reads-ended}
 use Rattle.brn.proofs.read_all.Statement.{statement}
 use Rattle.brn.proofs.read_all.Tie as tie
 

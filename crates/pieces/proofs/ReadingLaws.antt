@@ -1,10 +1,9 @@
--- Standard input read piece by piece is read whole. Assumes nothing.
+-- A journal that comes in pieces is read whole. Assumes nothing.
 use Prim.Native.Nat.{ℕ, _+_, _-_, _≤_}
 use mathlib.Core.Path.{_≡_, refl, sym, ap, ap₂, _∙_}
 use mathlib.Core.Bool.{Bool, true, false, cond}
-use mathlib.Core.List.{List, [], _∷_, _++_, append-assoc, append-nil}
+use mathlib.Core.List.{List, [], _∷_, _++_, append-assoc}
 use native.Mathlib.Omega.{arith}
-use native.Mathlib.Nat.{add-zero}
 use lib.ListN.{length, take, drop, length-append, take-append-drop}
 use lib.Seq.{length-take-le, take-add, drop-at}
 use Rattle.fields.specs.Put.{part, put}
@@ -16,13 +15,12 @@ use Rattle.ledger.specs.Sound.{soundLedger}
 use Rattle.calls.specs.Causes.{startTests, freshCauses}
 use Rattle.calls.specs.Machine.{outcomes}
 use Rattle.calls.proofs.DayLaws.{fresh-sound}
-use Rattle.journal.specs.Journal.{Entry, Parsed, parse, parseUpTo, callOf, made, makes, noBook, ledgerOf, isBad}
-use Rattle.journal.specs.Made.{writtenBy, noticesOf, brnOf}
+use Rattle.journal.specs.Journal.{Entry, Parsed, parse, parseUpTo, callOf, made, makes, noBook}
+use Rattle.journal.specs.Made.{writtenBy, noticesOf}
 use Rattle.journal.proofs.JournalLaws.{fed, parse-fed}
 use Rattle.journal.proofs.BeginLaws.{makes-append}
 use Rattle.pieces.specs.declared.Read.{Read}
 use Rattle.pieces.specs.Pieces.{PieceMade}
-use Rattle.brn.specs.Reading.{Ends}
 
 -- ---- what comes of reading some bytes
 pub record Reading : Type 0 where
@@ -110,7 +108,7 @@ piece-reads first before s out₀ out r p =
     same _ _ (sym (p .books)) (sym (p .count)) (sym (p .stopped)) (sym (p .rest))
     (sym (ap (λ (xs : List ℕ). take (r .written) all ++ xs) (p .others) ∙ take-append-drop (r .written) all))
 
--- ---- the reading of standard input
+-- ---- the reading so far
 -- some bytes came in pieces: read whole they come to what the bytes held come to on the ledger l, behind the notices written
 pub record Reads (buf : List ℕ) (l : Ledger) (seen have total : ℕ) : Type 0 where
   pub bytes : List ℕ
@@ -154,28 +152,6 @@ reads-kept buf after l seen have total x e n =
       within = omega (arith, x .within);
       reading = rw e (x .reading);
       size = x .size;
-    }
-
--- where no entry stands whole in the bytes held the reading has come to its end
-pub reads-ended : (buf : List ℕ) (l : Ledger) (seen have total : ℕ) (stopped failed : Bool) → Reads buf l seen have total
-    → Waits seen (take have buf) stopped
-    → Ends buf (record { ledger = l; seen = seen; stopped = stopped; left = have; total = total; failed = failed })
-unfolding readOn makes noticesOf ledgerOf isBad brnOf
-reads-ended buf l seen have total stopped failed x w =
-    let e = x .reading ∙ ap (λ (p : Parsed). behind (x .written) (by (book l) seen p)) w in
-    let bad = sym (ap (λ (y : Reading). y .stopped) e) in
-    let rest = sym (ap (λ (y : Reading). y .rest) e) in
-    let count : seen ≡ length (parse 0 (x .bytes) .entries) = omega (arith, ap (λ (y : Reading). y .seen) e) in
-    let left : have ≡ length (parse 0 (x .bytes) .rest) = sym (length-take-le have buf (x .within)) ∙ ap length rest in
-    record {
-      bytes = x .bytes;
-      ledger = sym (ap (λ (y : Reading). y .ledger) e);
-      seen = count;
-      stopped = bad;
-      rest = rest;
-      within = x .within;
-      bad = rw (bad, left, count);
-      total = x .size ∙ sym (ap (λ (y : Reading). length (y .notices)) e ∙ ap length (append-nil (x .written)));
     }
 
 -- ---- the bytes of the first n from m on, kept at the start
