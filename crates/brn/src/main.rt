@@ -4,8 +4,6 @@ ghost use Prim.Native.Nat.{_≤_};
 ghost use mathlib.Core.Bool.{true, false};
 ghost use lib.ListN.{length};
 ghost use Rattle.ledger.specs.Sound.{soundLedger};
-ghost use Rattle.input.specs.declared.Filled.the-variants.{Ended};
-ghost use Rattle.journal.specs.Journal.{endsBad};
 ghost use Rattle.brn.specs.Pieces.{ReadsOn};
 ghost use Rattle.brn.specs.Reading.{Ends};
 use input::Filled;
@@ -30,6 +28,19 @@ fn warn(stopped: bool) {
     }
 }
 
+// Says on standard error what the program does: it was given an argument, and takes none.
+fn explain() {
+    io::write_all(STDERR_FILENO, b"usage: brn < JOURNAL > NOTICES\n");
+    io::write_all(
+        STDERR_FILENO,
+        b"Reads a journal on standard input and writes the notices of every call carried out (BIL, ACF, REJ, CXL).\n",
+    );
+    io::write_all(
+        STDERR_FILENO,
+        b"A bad entry stops it: standard error then says stopped,13. It takes no arguments. See docs/FORMAT.md.\n",
+    );
+}
+
 // Reads on where all entries that were read are made.
 fn more(buf: &mut [u8], have: usize, full: bool) -> Filled
     requires { ⌜ have ≤ length (now buf) ⌝ }
@@ -41,18 +52,7 @@ fn more(buf: &mut [u8], have: usize, full: bool) -> Filled
     input::fill(buf, have)
 }
 
-// Says that a read failed, unless the input has ended.
-fn unread(f: Filled) -> bool
-    ensures { λ r. ⌜ (r ≡ false → f ≡ Ended) ⌝ }
-{
-    if let Filled::Ended = f {
-        return false;
-    }
-    os::fail(b"read");
-    true
-}
-
-// Where the reading ended: the ledger, how many entries came, whether a bad one stopped it, how many bytes are left at the start of the buffer,
+// Where the reading ended: how many entries came, whether a bad one stopped it, how many bytes are left at the start of the buffer,
 // how many bytes of notices were written, and whether a read or a write failed.
 struct End {
     seen: u64,
@@ -78,7 +78,7 @@ fn read_all(buf: &mut [u8], out: &mut [u8]) -> End
         turns -= 1;
         let f = more(buf, have, full);
         let Filled::Bytes(n) = f else {
-            let failed = unread(f);
+            let failed = input::unread(f);
             return End {
                 seen,
                 stopped: false,
@@ -117,17 +117,14 @@ fn read_all(buf: &mut [u8], out: &mut [u8]) -> End
     }
 }
 
-// Whether a journal ended bad: a bad entry stopped it, an entry is cut short, or there is none.
-fn is_bad(stopped: bool, left: usize, seen: u64) -> bool
-    ensures { λ r. ⌜ r ≡ endsBad stopped left seen ⌝ }
-{
-    stopped | (0 < left) | (seen == 0)
-}
-
 fn main() {
+    if 1 < os::arg_count() {
+        explain();
+        return;
+    }
     let mut buf = [0u8; 262144];
     let mut out = [0u8; 262144];
     let e = read_all(&mut buf, &mut out);
-    let bad = is_bad(e.stopped, e.left, e.seen);
+    let bad = journal::ends_bad(e.stopped, e.left, e.seen);
     warn(!e.failed & bad);
 }

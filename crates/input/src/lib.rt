@@ -1,7 +1,10 @@
 // Standard input in pieces, for the programs.
+ghost use mathlib.Core.Path.{_≡_};
+ghost use mathlib.Core.Bool.{false};
 ghost use Prim.Native.Nat.{_≤_};
 ghost use lib.ListN.{length};
 ghost use Rattle.input.specs.Filled.{Fills};
+ghost use Rattle.input.specs.declared.Filled.the-variants.{Ended};
 use libc::STDIN_FILENO;
 
 // What a read came to: the buffer holds so many bytes, the input has ended, or the read failed.
@@ -25,4 +28,15 @@ pub fn fill(buf: &mut [u8], have: usize) -> Filled
     }
     let more = io::count(got, &buf[have..]);
     Filled::Bytes(have + more)
+}
+
+// Says on standard error that a read failed, unless the input has ended.
+pub fn unread(f: Filled) -> bool
+    ensures { λ r. ⌜ (r ≡ false → f ≡ Ended) ⌝ }
+{
+    if let Filled::Ended = f {
+        return false;
+    }
+    os::fail(b"read");
+    true
 }

@@ -6,6 +6,7 @@ ghost use mathlib.Core.Bool.{true};
 ghost use Prim.Native.Nat.{_+_, _-_, _≤_, _<_};
 ghost use lib.ListN.{length};
 ghost use Rattle.fields.specs.Put.{part, put};
+ghost use Rattle.journal.specs.Journal.{endsBad};
 ghost use Rattle.journal.specs.Entries.{codeIn, freshBody, requestBody, cancelBody, closeBody, bodyOf, goodLength, inTurn, wholeOf, headBy, headOf};
 use calls::CodeField;
 use calls::Request;
@@ -227,4 +228,11 @@ pub fn keep(buf: &mut [u8], from: usize, n: usize) -> usize
         j += 1;
     }
     i
+}
+
+// Whether a journal ended bad: a bad entry stopped it, bytes are left (an entry cut short), or it held no entry.
+pub fn ends_bad(stopped: bool, left: usize, seen: u64) -> bool
+    ensures { λ r. ⌜ r ≡ endsBad stopped left seen ⌝ }
+{
+    stopped | (0 < left) | (seen == 0)
 }

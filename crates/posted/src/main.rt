@@ -3,6 +3,7 @@ ghost use mathlib.Core.Path.{_≡_};
 ghost use lib.ListN.{length};
 ghost use Rattle.posted.specs.Reading.{Reads, Prints};
 use input::Filled;
+use libc::STDERR_FILENO;
 use libc::STDOUT_FILENO;
 use replay::Reader;
 
@@ -25,38 +26,27 @@ fn read_all(buf: &mut [u8]) -> End
     while 0 < turns {
         turns -= 1;
         let f = input::fill(buf, have);
-        match f {
-            Filled::Ended => {
-                return End {
-                    reader: r,
-                    stopped: false,
-                    left: have,
-                    failed: false,
-                };
-            }
-            Filled::Failed => {
-                return End {
-                    reader: r,
-                    stopped: false,
-                    left: have,
-                    failed: true,
-                };
-            }
-            Filled::Bytes(n) => {
-                let fed = replay::feed(buf, r, n);
-                let next = fed.reader;
-                r = next;
-                have = fed.have;
-                let stopped = fed.stopped;
-                if stopped {
-                    return End {
-                        reader: r,
-                        stopped: true,
-                        left: have,
-                        failed: false,
-                    };
-                }
-            }
+        let Filled::Bytes(n) = f else {
+            let failed = input::unread(f);
+            return End {
+                reader: r,
+                stopped: false,
+                left: have,
+                failed,
+            };
+        };
+        let fed = replay::feed(buf, r, n);
+        let next = fed.reader;
+        r = next;
+        have = fed.have;
+        let stopped = fed.stopped;
+        if stopped {
+            return End {
+                reader: r,
+                stopped: true,
+                left: have,
+                failed: false,
+            };
         }
     }
     End {
@@ -88,12 +78,28 @@ fn post_input(buf: &mut [u8], out: &mut [u8]) -> Printed
     Printed::Table(n)
 }
 
+// Says on standard error what the program does: it was given an argument, and takes none.
+fn explain() {
+    io::write_all(STDERR_FILENO, b"usage: posted < JOURNAL > TABLE\n");
+    io::write_all(
+        STDERR_FILENO,
+        b"Reads a journal on standard input and writes its posted table: a line a bill, and the total.\n",
+    );
+    io::write_all(
+        STDERR_FILENO,
+        b"A bad entry stops it: the last line is then stopped,13. It takes no arguments. See docs/FORMAT.md.\n",
+    );
+}
+
 fn main() {
+    if 1 < os::arg_count() {
+        explain();
+        return;
+    }
     let mut buf = [0u8; 262144];
     let mut out = [0u8; 10970];
     let p = post_input(&mut buf, &mut out);
     let Printed::Table(n) = p else {
-        os::fail(b"read");
         return;
     };
     if !io::write_all(STDOUT_FILENO, &out[..n]) {

@@ -31,7 +31,7 @@ fn measure(src: &[u8]) -> Measured
         l = next;
         let used = t.used;
         if used == 0 {
-            let stopped = crate::ends_bad(t.stopped, src.len() - at, seen);
+            let stopped = journal::ends_bad(t.stopped, src.len() - at, seen);
             return Measured { length: n, stopped };
         }
         n += t.written;

@@ -24,13 +24,6 @@ pub struct Reported {
     pub stopped: bool,
 }
 
-// Whether a journal ended bad: a bad entry stopped it, bytes are left, or it held no entry.
-fn ends_bad(stopped: bool, left: usize, seen: u64) -> bool
-    ensures { λ r. ⌜ r ≡ endsBad stopped left seen ⌝ }
-{
-    stopped | (0 < left) | (seen == 0)
-}
-
 // Writes the table at the end of a journal of which so many bytes are left, and answers its length.
 pub fn finish(out: &mut [u8], r: Reader, stopped: bool, left: usize) -> usize
     requires { ⌜ Good r ⌝ }
@@ -39,7 +32,7 @@ pub fn finish(out: &mut [u8], r: Reader, stopped: bool, left: usize) -> usize
     ensures { λ _. ⌜ now (out .exit) ≡ put (now (out .entry)) 0 (tableOf (book (r .ledger)) (endsBad stopped left (r .seen))) ⌝ }
     ensures { λ n. ⌜ n ≤ 10970 ⌝ }
 {
-    let bad = ends_bad(stopped, left, r.seen);
+    let bad = journal::ends_bad(stopped, left, r.seen);
     let l = r.ledger;
     table::write(out, l, bad)
 }
@@ -52,7 +45,7 @@ pub fn post_table(src: &[u8], out: &mut [u8]) -> Reported
     let r = w.reader;
     let used = w.used;
     let left = src.len() - used;
-    let stopped = ends_bad(w.stopped, left, r.seen);
+    let stopped = journal::ends_bad(w.stopped, left, r.seen);
     if out.len() < 10970 {
         return Reported {
             report: Report::TooSmall,

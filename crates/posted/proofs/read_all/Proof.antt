@@ -27,26 +27,17 @@ sub-turns c = search needs
 fill-requires : tie.Need-fill-requires Inv-loop μ-loop
 fill-requires c κs = c .before .before .loop .inv .1 .within
 
-enum-told : tie.Need-enum-told Inv-loop μ-loop
-enum-told c = search needs
+enum-known-f : tie.Need-enum-known-f Inv-loop μ-loop
+enum-known-f c = search needs
+
+unread-requires : tie.Need-unread-requires Inv-loop μ-loop
+unread-requires c κs = search needs
 
 same-length : tie.Need-same-length Inv-loop μ-loop
 same-length c = search needs
 
 returns : tie.Need-returns Inv-loop μ-loop
 returns c = reads-kept (c .before .before .before .before .before .before .before .loop .buf) (c .before .before .before .before .fill .last .0) (c .before .before .before .before .before .before .before .loop .r) (c .before .before .before .before .before .before .before .loop .have) (c .before .before .before .before .before .before .before .loop .inv .1) (c .before .before .before .before .fill .ensures .stay) (c .before .before .before .before .fill .kept .0)
-
-enum-told-2 : tie.Need-enum-told-2 Inv-loop μ-loop
-enum-told-2 c = search needs
-
-same-length-2 : tie.Need-same-length-2 Inv-loop μ-loop
-same-length-2 c = search needs
-
-returns-2 : tie.Need-returns-2 Inv-loop μ-loop
-returns-2 c = reads-kept (c .before .before .before .before .before .before .before .loop .buf) (c .before .before .before .before .fill .last .0) (c .before .before .before .before .before .before .before .loop .r) (c .before .before .before .before .before .before .before .loop .have) (c .before .before .before .before .before .before .before .loop .inv .1) (c .before .before .before .before .fill .ensures .stay) (c .before .before .before .before .fill .kept .0)
-
-enum-known-f : tie.Need-enum-known-f Inv-loop μ-loop
-enum-known-f c = search needs
 
 feed-requires : tie.Need-feed-requires Inv-loop μ-loop
 feed-requires c κs = let b = rw (c .before .before .f .given .1) at (c .before .before .before .before .before .before .fill .ensures .holds) in (c .before .before .before .before .before .before .before .before .before .loop .inv .1 .read .good, b .1)
@@ -59,11 +50,11 @@ module _ (c : tie.After-feed Inv-loop μ-loop) where
       let held = reads-kept (c .before .before .before .before .before .before .before .before .before .before .loop .buf) (c .before .before .before .before .before .before .before .fill .last .0) (c .before .before .before .before .before .before .before .before .before .before .loop .r) (c .before .before .before .before .before .before .before .before .before .before .loop .have) (c .before .before .before .before .before .before .before .before .before .before .loop .inv .1) (c .before .before .before .before .before .before .before .fill .ensures .stay) (c .before .before .before .before .before .before .before .fill .kept .0) in
       reads-more (c .before .before .before .before .before .before .before .fill .last .0) (c .feed .last .0) (c .before .before .before .before .before .before .before .before .before .before .loop .r) (c .before .before .before .before .before .before .before .before .before .before .loop .have) (c .before .before .before .f .given .0 .0) (c .feed .result) held (b .0) (c .feed .ensures)
 
-same-length-3 : tie.Need-same-length-3 Inv-loop μ-loop
-same-length-3 c = search needs
+same-length-2 : tie.Need-same-length-2 Inv-loop μ-loop
+same-length-2 c = search needs
 
-returns-3 : tie.Need-returns-3 Inv-loop μ-loop
-returns-3 c = rw (c .if1 .taken) at (came (c .before .before .before .before))
+returns-2 : tie.Need-returns-2 Inv-loop μ-loop
+returns-2 c = rw (c .if1 .taken) at (came (c .before .before .before .before))
 
 loop-less : tie.Need-loop-less Inv-loop μ-loop
 loop-less c = search needs
@@ -71,11 +62,11 @@ loop-less c = search needs
 loop-again : tie.Need-loop-again Inv-loop μ-loop
 loop-again c = (c .before .before .before .before .feed .kept .0 ∙ c .before .before .before .before .before .before .before .before .before .before .before .fill .kept .0 ∙ c .before .before .before .before .before .before .before .before .before .before .before .before .before .before .loop .inv .0, rw (c .if1 .left) at (came (c .before .before .before .before)))
 
-same-length-4 : tie.Need-same-length-4 Inv-loop μ-loop
-same-length-4 c = search needs
+same-length-3 : tie.Need-same-length-3 Inv-loop μ-loop
+same-length-3 c = search needs
 
-returns-4 : tie.Need-returns-4 Inv-loop μ-loop
-returns-4 c = c .before .loop .inv .1
+returns-3 : tie.Need-returns-3 Inv-loop μ-loop
+returns-3 c = c .before .loop .inv .1
 
 pub read-all-spec : {M : Type 1} → statement M
 read-all-spec =
@@ -87,17 +78,14 @@ read-all-spec =
     loop-holds
     sub-turns
     fill-requires
-    enum-told
+    enum-known-f
+    unread-requires
     same-length
     returns
-    enum-told-2
+    feed-requires
     same-length-2
     returns-2
-    enum-known-f
-    feed-requires
-    same-length-3
-    returns-3
     loop-less
     loop-again
-    same-length-4
-    returns-4)
+    same-length-3
+    returns-3)

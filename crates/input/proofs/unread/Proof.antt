@@ -1,8 +1,8 @@
--- `brn::unread` meets its contract.
+-- `input::unread` meets its contract.
 use borrow.Author.Needs.{needs}
 use mathlib.Core.Bool.{true≢false}
-use Rattle.brn.proofs.unread.Statement.{statement}
-use Rattle.brn.proofs.unread.Tie as tie
+use Rattle.input.proofs.unread.Statement.{statement}
+use Rattle.input.proofs.unread.Tie as tie
 
 enum-told : tie.Need-enum-told
 enum-told c = search needs
