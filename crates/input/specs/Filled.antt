@@ -1,6 +1,7 @@
 -- What a read into a buffer comes to. Assumes nothing.
 use Prim.Native.Nat.{ℕ, _≤_, _<_}
 use mathlib.Core.Path.{_≡_}
+use mathlib.Core.Bool.{Bool, true, false}
 use mathlib.Core.List.{List}
 use lib.ListN.{length, take}
 use Rattle.input.specs.declared.Filled as filled
@@ -16,3 +17,9 @@ Holds have room Failed = Unit {0}
 pub record Fills (have : ℕ) (before after : List ℕ) (r : filled.Filled) : Type 0 where
   pub stay : take have after ≡ take have before
   pub holds : Holds have (length after) r
+
+-- a read came to something else than the end of the input
+abbrev pub notEnded : filled.Filled → Bool
+notEnded (Bytes n) = true
+notEnded Ended = false
+notEnded Failed = true

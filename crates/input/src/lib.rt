@@ -1,10 +1,8 @@
 // Standard input in pieces, for the programs.
 ghost use mathlib.Core.Path.{_≡_};
-ghost use mathlib.Core.Bool.{false};
 ghost use Prim.Native.Nat.{_≤_};
 ghost use lib.ListN.{length};
-ghost use Rattle.input.specs.Filled.{Fills};
-ghost use Rattle.input.specs.declared.Filled.the-variants.{Ended};
+ghost use Rattle.input.specs.Filled.{Fills, notEnded};
 use libc::STDIN_FILENO;
 
 // What a read came to: the buffer holds so many bytes, the input has ended, or the read failed.
@@ -30,13 +28,16 @@ pub fn fill(buf: &mut [u8], have: usize) -> Filled
     Filled::Bytes(have + more)
 }
 
-// Says on standard error that a read failed, unless the input has ended.
+// Whether a read came to something else than the end of the input; one that failed is told on standard error.
 pub fn unread(f: Filled) -> bool
-    ensures { λ r. ⌜ (r ≡ false → f ≡ Ended) ⌝ }
+    ensures { λ r. ⌜ r ≡ notEnded f ⌝ }
 {
-    if let Filled::Ended = f {
-        return false;
+    match f {
+        Filled::Ended => false,
+        Filled::Bytes(_) => true,
+        Filled::Failed => {
+            os::fail(b"read");
+            true
+        }
     }
-    os::fail(b"read");
-    true
 }

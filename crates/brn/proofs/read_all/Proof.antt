@@ -9,6 +9,7 @@ use lib.ListN.{length, take}
 use lib.Seq.{length-take-le}
 use Rattle.fields.proofs.BoolLaws.{or-both, cases}
 use Rattle.ledger.specs.declared.Ledger.{Ledger}
+use Rattle.input.proofs.FilledLaws.{ended}
 use Rattle.pieces.proofs.ReadingLaws.{Reads, Waits, reads-start, waits-start, reads-kept, reads-more, waits-more}
 use Rattle.brn.proofs.EndLaws.{reads-ended}
 use Rattle.brn.proofs.read_all.Statement.{statement}
@@ -73,7 +74,7 @@ same-length-2 c = search needs
 returns : tie.Need-returns Inv-loop μ-loop
 returns c =
     λ z.
-    let e : c .before .before .before .before .before .before .before .loop .full ≡ false = rw (c .unread .ensures z) at (c .before .before .before .before .more .ensures .holds) in
+    let e : c .before .before .before .before .before .before .before .loop .full ≡ false = rw (ended (c .before .before .before .before .more .result) (sym (c .unread .ensures) ∙ z)) at (c .before .before .before .before .more .ensures .holds) in
     reads-ended _ _ _ _ _ false _ (held (c .before .before .before .before)) (rw (c .before .before .before .before .more .ensures .stay) (c .before .before .before .before .before .before .before .loop .inv .waits e))
 
 slice-reshare-prefix-run : tie.Need-slice-reshare-prefix-run Inv-loop μ-loop

@@ -1,0 +1,2 @@
+-- What a read came to.
+pub mod FilledLaws
