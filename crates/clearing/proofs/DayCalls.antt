@@ -64,7 +64,7 @@ core-ends E Y P = record {
   kept = (yes, (yes, tt));
 }
 
-abbrev lent-ends : (E : Lent) → Outcome E → RattleType → Ended
+abbrev pub lent-ends : (E : Lent) → Outcome E → RattleType → Ended
 lent-ends E Y P = record {
   signature = record {
     lifetimes = 1;

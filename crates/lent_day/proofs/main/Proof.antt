@@ -1,0 +1,70 @@
+-- `lent_day::main` is safe: the ledger's table may be written, and fits its output.
+use borrow.Author.Needs.{needs}
+use native.Mathlib.Omega.{arith}
+use mathlib.Core.Path.{sym}
+use lib.Seq.{length-take-le}
+use Rattle.lent_day.proofs.DayLaws.{ran-table, example-clear}
+use Rattle.lent_day.proofs.main.Statement.{statement}
+use Rattle.lent_day.proofs.main.Tie as tie
+
+-- src/main.rt:31:9
+empty-requires : tie.Need-empty-requires
+empty-requires c κs = search needs
+
+-- src/main.rt:56:45
+slice-aggregate-day : tie.Need-slice-aggregate-day
+slice-aggregate-day c = search needs
+
+-- src/main.rt:56:9
+day-requires : tie.Need-day-requires
+day-requires c κs = search needs
+
+-- src/main.rt:57:34
+slice-aggregate-write-all : tie.Need-slice-aggregate-write-all
+slice-aggregate-write-all c = search needs
+
+-- src/main.rt:57:5
+write-all-requires : tie.Need-write-all-requires
+write-all-requires c κs = search needs
+
+-- src/main.rt:59:26
+slice-aggregate-write : tie.Need-slice-aggregate-write
+slice-aggregate-write c = search needs
+
+-- src/main.rt:59:9
+write-requires : tie.Need-write-requires
+write-requires c κs =
+    let t = ran-table _ _ _ _ example-clear (c .before .before .before .before .day .ensures .0) in
+    (t .0, t .1, omega arith)
+
+-- src/main.rt:60:34
+array-share-prefix-lines : tie.Need-array-share-prefix-lines
+array-share-prefix-lines c = search needs
+
+-- src/main.rt:60:34
+slice-aggregate-write-all-2 : tie.Need-slice-aggregate-write-all-2
+slice-aggregate-write-all-2 c = sym (length-take-le _ _ (omega (arith, c .before .before .write .ensures, c .before .before .write .kept)))
+
+-- src/main.rt:60:5
+write-all-requires-2 : tie.Need-write-all-requires-2
+write-all-requires-2 c κs = search needs
+
+-- src/main.rt:30:1
+returns : tie.Need-returns
+returns c = search needs
+
+pub main-spec : {M : Type 1} → statement M
+main-spec =
+    tie.close
+    (tie.spec
+    empty-requires
+    slice-aggregate-day
+    day-requires
+    slice-aggregate-write-all
+    write-all-requires
+    slice-aggregate-write
+    write-requires
+    array-share-prefix-lines
+    slice-aggregate-write-all-2
+    write-all-requires-2
+    returns)

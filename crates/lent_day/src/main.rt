@@ -1,0 +1,61 @@
+// Document 01's example on a lent ledger: its BIL and its posted table.
+ghost use mathlib.Core.Path.{_≡_};
+ghost use mathlib.Core.List.{[], _∷_};
+ghost use lib.ListN.{length};
+ghost use Rattle.fields.specs.Put.{put};
+ghost use Rattle.calls.specs.Causes.{request, close};
+ghost use Rattle.calls.specs.Machine.{stepIn, ran};
+ghost use Rattle.calls.specs.Days.{freshCalled};
+use calls::CodeField;
+use calls::Request;
+use calls::Start;
+use ledger::Identity;
+use ledger::Ledger;
+use libc::STDOUT_FILENO;
+use units::Ccf;
+use units::Date;
+
+// A fresh, a request whose BIL goes to out, and a close, on one ledger that each call is lent.
+fn day(first: Ledger, s: Start, q: Request, d: Date, out: &mut [u8]) -> Ledger
+    ensures { λ l. ⌜ (l ≡ ran (freshCalled first s .ledger) (request q (length (now (out .entry))) ∷ close d ∷ []))
+        × (now (out .exit) ≡ put (now (out .entry)) 0 (stepIn (freshCalled first s .ledger) (request q (length (now (out .entry)))) .written)) ⌝ }
+{
+    let mut l = first;
+    clearing::fresh(&mut l, s);
+    clearing::request_bill(&mut l, q, out);
+    clearing::close_day(&mut l, d);
+    l
+}
+
+fn main() {
+    let empty = Ledger::empty(Date(0), 0, 0);
+    let s = Start {
+        today: Date(20171113),
+        tracking: 1,
+        confirmation: 1,
+    };
+    let q = Request {
+        code: CodeField {
+            first: b'Z',
+            second: b'Z',
+            third: b'C',
+            tens: b'4',
+            ones: b'0',
+        },
+        identity: Identity {
+            account: 123456780019,
+            key: 7,
+        },
+        product: b'B',
+        billing: Date(20171113),
+        from: Date(20171013),
+        consumption: Ccf(85),
+        scheduled: Date(20171116),
+    };
+    let mut out = [32u8; 642];
+    let l = day(empty, s, q, Date(20171114), &mut out);
+    io::write_all(STDOUT_FILENO, &out);
+    let mut lines = [0u8; 10970];
+    let n = table::write(&mut lines, l, false);
+    io::write_all(STDOUT_FILENO, &lines[..n]);
+}
