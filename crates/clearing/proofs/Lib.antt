@@ -1,4 +1,4 @@
--- The walks that the lent calls share.
+-- The walks that the lent calls share, and those of a caller that lends a ledger of its own.
 pub mod Argument
 pub mod Lent
 pub mod LentLedger
@@ -7,3 +7,6 @@ pub mod DayCalls
 pub mod BillCalls
 pub mod FileCalls
 pub mod LookupCalls
+pub mod LentLocal
+pub mod LentCalls
+pub mod LentBillCalls

@@ -39,9 +39,9 @@ use denote.Exit.{yes}
 use Rattle.clearing.proofs.Argument.{Arg, declared}
 use Rattle.clearing.proofs.Lent.{Lent, Outcome, Row, Held, tyOf, vals}
 use Rattle.clearing.proofs.LentSteps.{gives}
-use Rattle.lent_day.proofs.LentLocal.{val}
-use Rattle.lent_day.proofs.LentCalls.{Lent-day, calls-day}
-use Rattle.lent_day.proofs.LentBillCalls.{Lent-bill, calls-bill}
+use Rattle.clearing.proofs.LentLocal.{val}
+use Rattle.clearing.proofs.LentCalls.{Lent-day, calls-day}
+use Rattle.clearing.proofs.LentBillCalls.{Lent-bill, calls-bill}
 
 abbrev pub fn-three : (E : Lent) → Ty → Ty → Ty → Ty → Name → Name → Name → Fn
 fn-three E answer τ₁ τ₂ τ₃ c₁ c₂ c₃ = record {

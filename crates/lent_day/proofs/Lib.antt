@@ -1,6 +1,3 @@
--- The walk of a caller of lent calls.
-pub mod LentLocal
-pub mod LentCalls
-pub mod LentBillCalls
+-- The walk of `day`, and what its ledger holds.
 pub mod DayWalk
 pub mod DayLaws

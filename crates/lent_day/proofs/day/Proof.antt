@@ -34,8 +34,8 @@ use Rattle.clearing.proofs.request_bill.Met as request-thm
 use Rattle.clearing.proofs.close_day.Symbol as close-def
 use Rattle.clearing.proofs.close_day.Symbol.{name as #close}
 use Rattle.clearing.proofs.close_day.Met as close-thm
-use Rattle.lent_day.proofs.LentCalls.{Lent-day}
-use Rattle.lent_day.proofs.LentBillCalls.{Lent-bill}
+use Rattle.clearing.proofs.LentCalls.{Lent-day}
+use Rattle.clearing.proofs.LentBillCalls.{Lent-bill}
 use Rattle.lent_day.proofs.DayWalk.{meets-three}
 use Rattle.lent_day.proofs.day.Key.{name as #day}
 use Rattle.lent_day.proofs.day as day

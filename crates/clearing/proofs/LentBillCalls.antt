@@ -32,10 +32,10 @@ use denote.Triple.Spec.{tripleOf}
 use denote.Triple.Call.{calls-at}
 use denote.Triple.Clauses.{Clauses, ensured, lasts, closing}
 use denote.Exit.{Last, yes}
 use Rattle.clearing.proofs.Argument.{Arg}
 use Rattle.clearing.proofs.Lent.{Lent, Outcome, Row, Held, tyOf, vals}
 use Rattle.clearing.proofs.BillCalls.{lent-ends as bill-ends}
-use Rattle.lent_day.proofs.LentLocal.{val, ref-at, lends-local, local-back}
+use Rattle.clearing.proofs.LentLocal.{val, ref-at, lends-local, local-back}
 
 module _ (E : Lent) (Y : Outcome E) (P : RattleType) (X : Arg P) (f : Held E → P .Denot → List ℕ → Y .S .Denot) (g : Held E → P .Denot → List ℕ → List ℕ) where
   abbrev bill-says : {M : Type 1} (𝓤 : URA M) → Clauses 𝓤 (bill-ends E Y P)
