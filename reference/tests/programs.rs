@@ -56,6 +56,9 @@ fn compare_tells_a_difference() {
     assert!(compare(posted, brn).1);
     let (told, good) = compare(posted, posted);
     assert!(!good && told.starts_with(b"DIFFERENCE at seed"));
+    // Writes its argument to standard output.
+    let (told, good) = compare(posted, "echo");
+    assert!(!good && told.starts_with(b"USAGE: echo --help"));
 }
 
 #[test]

@@ -1,26 +1,34 @@
-//! bench: how long a program takes beside the reference, and how much memory it needs at most.
+//! bench: how long posted and brn take beside the reference's, and how much memory each needs at most.
 
 use std::fs::{self, File};
 use std::io::{self, BufWriter, Read, Write};
 use std::path::{Path, PathBuf};
-use std::process::{exit, Child, Command, Stdio};
+use std::process::{exit, Child, Command, ExitStatus, Stdio};
 use std::thread::sleep;
 use std::time::{Duration, Instant};
 
 use reference::workload::Workload;
 
 const USAGE: &str = "\
-bench --posted PATH [--reference PATH] [--runs N] [--percent P] [--dir DIR] [--megabytes M] [--limit]
-    --reference  the program to measure against (posted-ref beside this one)
-    --runs       runs of each program on each journal, in turn (5)
+bench [--posted PATH] [--brn PATH] [--reference PATH] [--runs N] [--percent P] [--dir DIR] [--megabytes M] [--limit]
+    --posted, --brn  the programs to measure, one or both
+    --reference  what the program named just before is measured against (posted-ref or brn-ref beside this one)
+    --runs       runs of each program on each journal, in turn, output dropped (5); one more compares the outputs
     --percent    size of the journals in percent (100: about 10^6 entries)
     --dir        where the journals are kept meanwhile (a directory in the system's temporary one)
     --megabytes  size of the journal streamed to measure memory (1000)
-    --limit      instead: streams 1,000,000,000 entries, then one more, which must be bad (3 GB, twice)";
+    --limit      instead, posted only: streams 1,000,000,000 entries, then one more, which must be bad (3 GB, twice)";
+
+/// A program to measure, and the reference's that must write the same bytes.
+struct Pair {
+    /// posted or brn
+    name: &'static str,
+    program: String,
+    reference: String,
+}
 
 struct Plan {
-    posted: String,
-    reference: String,
+    pairs: Vec<Pair>,
     runs: usize,
     percent: u64,
     dir: PathBuf,
@@ -52,7 +60,7 @@ const JOURNALS: &[(&str, u64, Make)] = &[
 
 fn main() {
     let plan = read_plan();
-    let result = if plan.limit { limit(&plan) } else { measure(&plan) };
+    let result = if plan.limit { limit(&plan) } else { plan.pairs.iter().try_for_each(|pair| measure(&plan, pair)) };
     if let Err(error) = result {
         eprintln!("bench: {error}");
         exit(1);
@@ -60,10 +68,8 @@ fn main() {
 }
 
 fn read_plan() -> Plan {
-    let beside = std::env::current_exe().ok().and_then(|path| Some(path.parent()?.join("posted-ref")));
     let mut plan = Plan {
-        posted: String::new(),
-        reference: beside.map_or_else(String::new, |path| path.display().to_string()),
+        pairs: Vec::new(),
         runs: 5,
         percent: 100,
         dir: std::env::temp_dir().join(format!("bench-{}", std::process::id())),
@@ -74,8 +80,9 @@ fn read_plan() -> Plan {
     while let Some(word) = words.next() {
         let mut value = || words.next().unwrap_or_else(|| stop(USAGE));
         match word.as_str() {
-            "--posted" => plan.posted = value(),
-            "--reference" => plan.reference = value(),
+            "--posted" => plan.pairs.push(pair("posted", value())),
+            "--brn" => plan.pairs.push(pair("brn", value())),
+            "--reference" => plan.pairs.last_mut().unwrap_or_else(|| stop(USAGE)).reference = value(),
             "--runs" => plan.runs = value().parse().unwrap_or_else(|_| stop(USAGE)),
             "--percent" => plan.percent = value().parse().unwrap_or_else(|_| stop(USAGE)),
             "--dir" => plan.dir = value().into(),
@@ -84,29 +91,35 @@ fn read_plan() -> Plan {
             _ => stop(USAGE),
         }
     }
-    if plan.posted.is_empty() || plan.runs == 0 {
+    if plan.pairs.is_empty() || plan.runs == 0 {
         stop(USAGE);
     }
     plan
 }
 
-fn measure(plan: &Plan) -> io::Result<()> {
+/// The reference's program stands beside this one.
+fn pair(name: &'static str, program: String) -> Pair {
+    let folder = std::env::current_exe().ok().and_then(|path| Some(path.parent()?.to_path_buf())).unwrap_or_default();
+    Pair { name, program, reference: folder.join(format!("{name}-ref")).display().to_string() }
+}
+
+fn measure(plan: &Plan, pair: &Pair) -> io::Result<()> {
     fs::create_dir_all(&plan.dir)?;
-    println!("median of {} runs each, in turn; ratio = {} / {}", plan.runs, plan.posted, plan.reference);
+    println!("median of {} runs each, in turn; ratio = {} / {}", plan.runs, pair.program, pair.reference);
     println!(
         "{:<36}{:>9}{:>8}{:>12}{:>12}{:>8}{:>8}",
         "journal", "entries", "MB", "ns/entry", "reference", "ratio", "best"
     );
     for (name, entries, make) in JOURNALS {
         let path = plan.dir.join("bench.journal");
-        let result = one_journal(plan, &path, name, entries * plan.percent / 100, *make);
+        let result = one_journal(plan, pair, &path, (name, entries * plan.percent / 100, *make));
         fs::remove_file(&path)?;
         result?;
     }
     // Fails if the directory was there before and holds other files, which is as it should be.
     let _ = fs::remove_dir(&plan.dir);
     println!("peak memory (VmHWM), journal streamed into standard input:");
-    for program in [&plan.posted, &plan.reference] {
+    for program in [&pair.program, &pair.reference] {
         for megabytes in [1, plan.megabytes] {
             println!("{:>8} kB after {megabytes} MB: {program}", peak_memory(program, megabytes)?);
         }
@@ -114,18 +127,14 @@ fn measure(plan: &Plan) -> io::Result<()> {
     Ok(())
 }
 
-fn one_journal(plan: &Plan, path: &Path, name: &str, wanted: u64, make: Make) -> io::Result<()> {
+fn one_journal(plan: &Plan, pair: &Pair, path: &Path, (name, wanted, make): (&str, u64, Make)) -> io::Result<()> {
     let entries = make(BufWriter::with_capacity(1 << 20, File::create(path)?), wanted)?;
     let megabytes = fs::metadata(path)?.len() as f64 / 1e6;
+    compare(pair, path).map_err(|error| io::Error::other(format!("{name}: {error}")))?;
     let (mut theirs, mut ours) = (Vec::new(), Vec::new());
     for _ in 0..plan.runs {
-        let (time, table) = run(&plan.posted, path)?;
-        theirs.push(time);
-        let (time, own) = run(&plan.reference, path)?;
-        ours.push(time);
-        if table != own {
-            return Err(io::Error::other(format!("{name}: the two tables differ")));
-        }
+        theirs.push(run(&pair.program, path)?);
+        ours.push(run(&pair.reference, path)?);
     }
     theirs.sort();
     ours.sort();
@@ -147,24 +156,51 @@ fn made<W: Write>(mut work: Workload<W>, fill: impl FnOnce(&mut Workload<W>) -> 
     Ok(work.entries)
 }
 
-fn run(program: &str, journal: &Path) -> io::Result<(Duration, Vec<u8>)> {
-    let input = File::open(journal)?;
-    let started = Instant::now();
-    let output = Command::new(program).stdin(input).output()?;
-    let time = started.elapsed();
-    if !output.status.success() {
-        return Err(io::Error::other(format!("{program}: {}", output.status)));
+/// Runs both programs at once, untimed, and compares their outputs piece by piece: notices may not fit into memory.
+fn compare(pair: &Pair, journal: &Path) -> io::Result<()> {
+    let start = |program| Command::new(program).stdin(File::open(journal)?).stdout(Stdio::piped()).spawn();
+    let mut children = [start(&pair.program)?, start(&pair.reference)?];
+    let [mut theirs, mut ours] = children.each_mut().map(|child| child.stdout.take().expect("a pipe"));
+    let (mut got, mut wanted) = (vec![0], Vec::new());
+    while !got.is_empty() {
+        read_piece(&mut theirs, &mut got)?;
+        read_piece(&mut ours, &mut wanted)?;
+        if got != wanted {
+            return Err(io::Error::other("the two outputs differ"));
+        }
     }
-    Ok((time, output.stdout))
+    children
+        .iter_mut()
+        .zip([&pair.program, &pair.reference])
+        .try_for_each(|(child, program)| good(program, child.wait()?))
 }
 
-fn spawn(program: &str) -> io::Result<Child> {
-    Command::new(program).stdin(Stdio::piped()).stdout(Stdio::piped()).spawn()
+/// The next megabyte, less at the end only.
+fn read_piece(output: &mut impl Read, piece: &mut Vec<u8>) -> io::Result<usize> {
+    piece.clear();
+    output.take(1 << 20).read_to_end(piece)
+}
+
+/// The output is dropped, so that the time of a reader is not measured with the program's.
+fn run(program: &str, journal: &Path) -> io::Result<Duration> {
+    let input = File::open(journal)?;
+    let started = Instant::now();
+    let status = Command::new(program).stdin(input).stdout(Stdio::null()).status()?;
+    let time = started.elapsed();
+    good(program, status)?;
+    Ok(time)
+}
+
+fn good(program: &str, status: ExitStatus) -> io::Result<()> {
+    if !status.success() {
+        return Err(io::Error::other(format!("{program}: {status}")));
+    }
+    Ok(())
 }
 
 /// Streams a journal and reads the peak before standard input is closed, while the program still waits for more.
 fn peak_memory(program: &str, megabytes: u64) -> io::Result<u64> {
-    let mut child = spawn(program)?;
+    let mut child = Command::new(program).stdin(Stdio::piped()).stdout(Stdio::null()).spawn()?;
     let stdin = child.stdin.take().expect("a pipe");
     let mut work = Workload::new(BufWriter::with_capacity(1 << 20, stdin), 128)?;
     // Half of the bytes in files of one group, half in files of a hundred.
@@ -176,7 +212,7 @@ fn peak_memory(program: &str, megabytes: u64) -> io::Result<u64> {
     let peak =
         status.lines().find_map(|line| line.strip_prefix("VmHWM:")?.trim().strip_suffix("kB")?.trim().parse().ok());
     drop(work);
-    table_of(child)?;
+    good(program, child.wait()?)?;
     peak.ok_or_else(|| io::Error::other("no VmHWM in /proc"))
 }
 
@@ -189,9 +225,10 @@ fn table_of(mut child: Child) -> io::Result<Vec<u8>> {
 
 /// The entry after the 1,000,000,000th is bad, the one before is not.
 fn limit(plan: &Plan) -> io::Result<()> {
+    let posted = plan.pairs.iter().find(|pair| pair.name == "posted").unwrap_or_else(|| stop(USAGE));
     for (entries, stopped) in [(1_000_000_000, false), (1_000_000_001, true)] {
         let started = Instant::now();
-        let mut child = spawn(&plan.posted)?;
+        let mut child = Command::new(&posted.program).stdin(Stdio::piped()).stdout(Stdio::piped()).spawn()?;
         let stdin = child.stdin.take().expect("a pipe");
         let mut work = Workload::new(BufWriter::with_capacity(1 << 20, stdin), 1)?;
         // A program may stop before the last bytes, so a broken pipe is no fault.

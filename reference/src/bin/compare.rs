@@ -4,7 +4,8 @@ use std::io::{Read, Write};
 use std::process::{exit, Command, ExitStatus, Stdio};
 use std::sync::atomic::{AtomicBool, AtomicU64, Ordering::SeqCst};
 use std::sync::Mutex;
-use std::time::Instant;
+use std::thread::JoinHandle;
+use std::time::{Duration, Instant};
 use std::{io, thread};
 
 use reference::coverage::Coverage;
@@ -17,14 +18,21 @@ use reference::shrink::shrink;
 const USAGE: &str = "\
 compare --posted PATH --brn PATH --seeds FROM COUNT [--threads N]
     makes the journals of the seeds, runs both programs on each and compares their output with the reference's
-    (one of the two programs may be left out)
+    (one of the two programs may be left out); before that, asks how each answers an argument: how it is used on
+    standard error, nothing on standard output, and standard input, which stays open, is left alone
 compare --self-check FROM COUNT [--threads N]
     the same without programs: only the reference against its history
 compare --make SEED
     writes that journal to standard output
 compare --show JOURNAL
     lists the entries of a journal with what the reference makes of each
-Exit status: 0 all equal, 1 a difference, 2 a wrong use or a program that could not be run.";
+Exit status: 0 all equal, 1 a difference, or an argument answered otherwise, 2 a wrong use or a program not run.";
+
+/// What each program is given to see that it says how it is used, and how long it may take.
+const ARGUMENTS: [&str; 2] = ["--help", "journal.bin"];
+const PATIENCE: Duration = Duration::from_secs(10);
+/// Waits on standard input meanwhile, to be left there: a good entry, which a program that reads would take.
+const WAITING: &[u8] = b"\x00\x00\x1a20171113000000001000000001";
 
 #[derive(Clone, Default)]
 struct Plan {
@@ -61,6 +69,10 @@ fn main() {
         return;
     }
     let plan = read_plan(&words);
+    if let Err(told) = ask_programs(&plan) {
+        println!("USAGE: {told}");
+        exit(1);
+    }
     let started = Instant::now();
     let tally = run(&plan);
     if let Some((seed, told)) = &tally.difference {
@@ -112,6 +124,64 @@ fn read_plan(words: &[&str]) -> Plan {
         stop(USAGE);
     }
     plan
+}
+
+fn ask_programs(plan: &Plan) -> Result<(), String> {
+    let programs = [&plan.posted, &plan.brn].into_iter().flatten();
+    let mut asked = programs.flat_map(|path| ARGUMENTS.map(|argument| (path, argument)));
+    asked.try_for_each(|(path, argument)| {
+        let told = ask_usage(path, argument).unwrap_or_else(|error| stop(&format!("{path}: {error}")));
+        told.map_or(Ok(()), |told| Err(format!("{path} {argument} {told}")))
+    })
+}
+
+/// Gives a program an argument while standard input stays open; returns what is not as it should be.
+fn ask_usage(path: &str, argument: &str) -> io::Result<Option<String>> {
+    let (mut input, mut sender) = io::pipe()?;
+    sender.write_all(WAITING)?;
+    let mut command = Command::new(path);
+    command.arg(argument).stdin(input.try_clone()?).stdout(Stdio::piped()).stderr(Stdio::piped());
+    let mut child = command.spawn()?;
+    drop(command); // and with it a copy of the input
+    let (output, error) = (collect(child.stdout.take()), collect(child.stderr.take()));
+    let started = Instant::now();
+    let status = loop {
+        match child.try_wait()? {
+            Some(status) => break status,
+            None if started.elapsed() > PATIENCE => {
+                child.kill()?;
+                child.wait()?;
+                return Ok(Some(format!(
+                    "did not end within {} s while standard input stayed open",
+                    PATIENCE.as_secs()
+                )));
+            }
+            None => thread::sleep(Duration::from_millis(5)),
+        }
+    };
+    drop(sender);
+    let mut left = Vec::new();
+    input.read_to_end(&mut left)?;
+    let [output, error] = [output, error].map(|thread| thread.join().expect("no thread panics"));
+    let good = output.is_empty() && error.contains("standard input") && left == WAITING && status.code().is_some();
+    let found = || {
+        format!(
+            "({status}): standard output {output:?} (expected none), standard error {error:?} (expected to speak of \
+             `standard input`), {} bytes of standard input read (expected 0)",
+            WAITING.len() - left.len()
+        )
+    };
+    Ok((!good).then(found))
+}
+
+/// The start of what a program writes, all of which is read, so that it never waits for a reader.
+fn collect(pipe: Option<impl Read + Send + 'static>) -> JoinHandle<String> {
+    thread::spawn(move || {
+        let mut bytes = Vec::new();
+        // What came before a failing read is shown all the same.
+        let _ = pipe.map(|mut pipe| pipe.read_to_end(&mut bytes));
+        String::from_utf8_lossy(&bytes[..bytes.len().min(2000)]).into_owned()
+    })
 }
 
 /// Threads take seed after seed until one finds a difference; seeds already begun are finished.

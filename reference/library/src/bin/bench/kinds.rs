@@ -1,0 +1,239 @@
+//! The kinds of call that are timed: for each, how the library makes it and how the reference does the same.
+
+use std::hint::black_box;
+
+use library::Request;
+use reference::journal::{replay, replay_notices, Replayed};
+use reference::notices::NOTICE_LENGTH;
+use reference::words::{self, text, BLANK, HEAD};
+use reference::{table, Cause, Ledger};
+
+use crate::ledger::{self, account, GROUPS, KEY};
+use crate::lent::Lent;
+
+/// The longest table.
+const TABLE: usize = 10_970;
+/// Entries of the journals.
+const ENTRIES: usize = 1000;
+
+/// Returns the call's number.
+type ByLibrary = Box<dyn Fn(&mut Lent) -> u64>;
+type ByReference = Box<dyn Fn(&mut Lent) -> Result<(), Cause>>;
+
+pub struct Kind {
+    pub name: String,
+    /// What the ledger holds before each call; empty for a whole journal.
+    words: Vec<u64>,
+    /// Bytes of output lent.
+    output: usize,
+    library: ByLibrary,
+    reference: ByReference,
+}
+
+impl Kind {
+    pub fn lent(&self) -> Lent {
+        Lent::new(&self.words, self.output)
+    }
+
+    /// Starts from the same words each time; returns the call's number.
+    pub fn by_library(&self, lent: &mut Lent) -> u64 {
+        lent.words.copy_from_slice(&self.words);
+        black_box((self.library)(black_box(lent)))
+    }
+
+    pub fn by_reference(&self, lent: &mut Lent) -> u64 {
+        lent.words.copy_from_slice(&self.words);
+        black_box((self.reference)(black_box(lent))).err().map_or(0, |cause| cause.number().into())
+    }
+}
+
+/// Every kind, on a ledger of so many bills; a request for a new bill makes the last of them.
+pub fn all(bills: usize) -> Vec<Kind> {
+    let held = ledger::holding(bills);
+    let words = words::of(&held);
+    let one_fewer = words::of(&ledger::holding(bills - 1));
+    let last = bills - 1;
+    let accepted = if bills < GROUPS { format!("{bills} accepted, rest BR16") } else { "all accepted".into() };
+    vec![
+        fresh(&words),
+        request("request, new bill (ledger holds one fewer)", &one_fewer, ledger::request(last, 85)),
+        request("request, known bill", &words, ledger::request(last, 86)),
+        file("file, 1 RSP, accepted", &words, ledger::responses(&held.bills()[last..], 4000)),
+        file(&format!("file, {GROUPS} RSP, {accepted}"), &words, ledger::longest_file()),
+        cancel(&words, account(last)),
+        close(&words),
+        open_bill(&words, account(last)),
+        amounts(&words, account(last)),
+        whole_table(ledger::journal(bills, ENTRIES)),
+        whole_notices(ledger::journal(bills, ENTRIES)),
+    ]
+}
+
+fn fresh(words: &[u64]) -> Kind {
+    let (today, tracking, confirmation) = (20171113, 77, 88);
+    Kind {
+        name: "fresh".into(),
+        words: words.to_vec(),
+        output: 0,
+        library: Box::new(move |lent| {
+            library::fresh(&mut lent.words, today, tracking, confirmation, &mut lent.change, &mut lent.counts)
+        }),
+        reference: Box::new(move |lent| {
+            let ledger = Ledger::fresh(&text(today, 8), &text(tracking, 9), &text(confirmation, 9))?;
+            lent.words[HEAD.len()..].as_chunks_mut().0.fill(BLANK);
+            words::put(&ledger, &mut lent.words);
+            (lent.change, lent.counts) = (0, [0; 4]);
+            Ok(())
+        }),
+    }
+}
+
+fn request(name: &str, words: &[u64], request: Request) -> Kind {
+    let same = request.clone();
+    Kind {
+        name: name.into(),
+        words: words.to_vec(),
+        output: NOTICE_LENGTH,
+        library: Box::new(move |lent| {
+            library::request(&mut lent.words, &request, &mut lent.out, &mut lent.change, &mut lent.counts)
+        }),
+        reference: Box::new(move |lent| {
+            change(lent, |ledger, out| {
+                let done = ledger.request(&ledger::read(&same).ok_or(Cause::BadField)?, Some(out))?;
+                Ok((done.change, [done.written, 0, 0, 0]))
+            })
+        }),
+    }
+}
+
+fn file(name: &str, words: &[u64], file: Vec<u8>) -> Kind {
+    let same = file.clone();
+    Kind {
+        name: name.into(),
+        words: words.to_vec(),
+        output: file.len(),
+        library: Box::new(move |lent| {
+            library::file(&mut lent.words, &file, &mut lent.out, &mut lent.change, &mut lent.counts)
+        }),
+        reference: Box::new(move |lent| {
+            change(lent, |ledger, out| {
+                let done = ledger.file(&same, Some(out))?;
+                Ok((done.change, [done.written, done.accepted, done.rejected, 0]))
+            })
+        }),
+    }
+}
+
+fn cancel(words: &[u64], account: u64) -> Kind {
+    Kind {
+        name: "cancel".into(),
+        words: words.to_vec(),
+        output: NOTICE_LENGTH,
+        library: Box::new(move |lent| {
+            library::cancel(&mut lent.words, account, KEY, &mut lent.out, &mut lent.change, &mut lent.counts)
+        }),
+        reference: Box::new(move |lent| {
+            change(lent, |ledger, out| {
+                let done = ledger.cancel(&text(account, 12), &text(KEY, 4), Some(out))?;
+                Ok((done.change, [done.written, 0, 0, 0]))
+            })
+        }),
+    }
+}
+
+/// The day after the Scheduled Date of every bill.
+fn close(words: &[u64]) -> Kind {
+    let today = 20171117;
+    Kind {
+        name: "close, of all bills".into(),
+        words: words.to_vec(),
+        output: 0,
+        library: Box::new(move |lent| library::close(&mut lent.words, today, &mut lent.change, &mut lent.counts)),
+        reference: Box::new(move |lent| change(lent, |ledger, _| Ok((0, [0, 0, 0, ledger.close(&text(today, 8))?])))),
+    }
+}
+
+fn open_bill(words: &[u64], account: u64) -> Kind {
+    Kind {
+        name: "open_bill".into(),
+        words: words.to_vec(),
+        output: 0,
+        library: Box::new(move |lent| library::open_bill(&lent.words, account, &mut lent.place)),
+        reference: Box::new(move |lent| {
+            lent.place = read(lent)?.open_bill(&text(account, 12))? as u64;
+            Ok(())
+        }),
+    }
+}
+
+fn amounts(words: &[u64], account: u64) -> Kind {
+    Kind {
+        name: "amounts".into(),
+        words: words.to_vec(),
+        output: 0,
+        library: Box::new(move |lent| library::amounts(&lent.words, account, KEY, &mut lent.amounts)),
+        reference: Box::new(move |lent| {
+            let (charge, applied, owed) = read(lent)?.amounts(&text(account, 12), &text(KEY, 4))?;
+            lent.amounts = [charge.0, applied.0, owed.0];
+            Ok(())
+        }),
+    }
+}
+
+fn whole_table(journal: Vec<u8>) -> Kind {
+    let same = journal.clone();
+    Kind {
+        name: format!("table, journal of {ENTRIES} entries"),
+        words: vec![],
+        output: TABLE,
+        library: Box::new(move |lent| library::table(&journal, &mut lent.out, &mut lent.told)),
+        reference: Box::new(move |lent| {
+            let replayed = replay(&same[..]).expect("read from memory");
+            let table = table::table(&replayed);
+            lent.out[..table.len()].copy_from_slice(&table);
+            lent.told = told(table.len(), &replayed);
+            Ok(())
+        }),
+    }
+}
+
+/// The output is as long as the notices.
+fn whole_notices(journal: Vec<u8>) -> Kind {
+    let same = journal.clone();
+    let mut notices = Vec::new();
+    replay_notices(&journal[..], &mut notices).expect("written to memory");
+    Kind {
+        name: format!("notices, journal of {ENTRIES} entries"),
+        words: vec![],
+        output: notices.len(),
+        library: Box::new(move |lent| library::notices(&journal, &mut lent.out, &mut lent.told)),
+        reference: Box::new(move |lent| {
+            let length = lent.out.len();
+            let mut rest = &mut lent.out[..];
+            let replayed = replay_notices(&same[..], &mut rest).map_err(|_| Cause::OutputTooShort)?;
+            lent.told = told(length - rest.len(), &replayed);
+            Ok(())
+        }),
+    }
+}
+
+fn told(written: usize, replayed: &Replayed) -> [u64; 2] {
+    [written as u64, if replayed.stopped { Cause::BadEntry.number().into() } else { 0 }]
+}
+
+/// The reference's ledger of the words that are lent.
+fn read(lent: &Lent) -> Result<Ledger, Cause> {
+    words::read(&lent.words).ok_or(Cause::BadField)
+}
+
+/// Words to the reference's ledger, the call (which returns change and counts), and the ledger back to the words.
+fn change(
+    lent: &mut Lent,
+    call: impl FnOnce(&mut Ledger, &mut [u8]) -> Result<(i64, [usize; 4]), Cause>,
+) -> Result<(), Cause> {
+    let mut ledger = read(lent)?;
+    let (change, counts) = call(&mut ledger, &mut lent.out)?;
+    words::put(&ledger, &mut lent.words);
+    (lent.change, lent.counts) = (change, counts.map(|count| count as u64));
+    Ok(())
+}
