@@ -135,7 +135,8 @@ pub passed : (l : Ledger) (s out out′ : List ℕ) (r : Clearing) → causeIn l
     (called l (file s (length out))))
     × (out′ ≡ put out 0 (stepIn l (file s (length out)) .written))
 unfolding called leftBy answerBy stepIn outcome next nextWritten nextVerdicts nextClosed fileGroups records
-passed l s out out′ r e k = rw e (rw (k .ledger, k .change, k .written, k .accepted, k .rejected), k .bytes)
+passed l s out out′ r e k =
+    rw e (rw (k .took .ledger, k .change, k .took .written, k .took .accepted, k .took .rejected), k .took .bytes)
 
 -- ---- the answers to a file are at most as long as the file
 abbrev Long : List (List ℕ) → Type 0

@@ -149,11 +149,8 @@ pub record Took (l : Ledger) (gs : List Group) (out₀ out : List ℕ) (r : Take
   pub few : r .ledger .count ≤ 128
   pub bills : every calm (live (r .ledger)) ≡ true
 
--- the same with the signed change: new posted total minus old
+-- the same, and the signed change: new posted total minus old
 pub record Cleared (l : Ledger) (gs : List Group) (out₀ out : List ℕ) (r : Clearing) : Type 0 where
-  pub ledger : r .ledger ≡ stored l (taken [] (book l) gs)
-  pub accepted : r .accepted ≡ count isAccepted (verdicts [] (book l) gs)
-  pub rejected : r .rejected ≡ count isRejected (verdicts [] (book l) gs)
+  pub took :
+      Took l gs out₀ out (record { ledger = r .ledger; accepted = r .accepted; rejected = r .rejected; written = r .written })
   pub change : r .change ≡ pos (totalOf (taken [] (book l) gs .bills)) -ℤ pos (totalOf (live l))
-  pub written : r .written ≡ length (answers [] (book l) gs)
-  pub bytes : out ≡ put out₀ 0 (answers [] (book l) gs)

@@ -28,12 +28,8 @@ returns c =
     let t = c .before .before .before .before .take-groups .ensures in
     let e = ap book (t .ledger) ∙ book-stored (c .before .before .before .before .before .before .before .before .args .l) (taken [] (book (c .before .before .before .before .before .before .before .before .args .l)) (groups (recordsFrom (c .before .before .before .before .before .before .before .before .args .s .now) 0 (c .before .before .before .before .before .before .before .before .args .n)))) in
     record {
-      ledger = t .ledger;
-      accepted = t .accepted;
-      rejected = t .rejected;
+      took = t;
       change = toZ-ofZ w64 (c .change-between .result) (sfits-of (c .change-between .ok)) ∙ c .change-between .ensures ∙ ap (λ (k : Book). pos (totalOf (k .bills)) -ℤ pos (totalOf (live (c .before .before .before .before .before .before .before .before .args .l)))) e;
-      written = t .written;
-      bytes = t .bytes;
     }
 
 pub clear-spec : {M : Type 1} → statement M
