@@ -7,7 +7,8 @@ use reference::journal;
 
 const USAGE: &str = "\
 brn-ref < JOURNAL
-    reads a journal from standard input and writes the notices of its calls to standard output; takes no argument";
+    reads a journal from standard input and writes the notices of its calls to standard output, and `stopped,13` to
+    standard error where a bad entry stopped it; takes no argument";
 
 fn main() -> io::Result<()> {
     if std::env::args_os().len() > 1 {
@@ -15,6 +16,10 @@ fn main() -> io::Result<()> {
         exit(2);
     }
     let mut notices = BufWriter::with_capacity(1 << 16, io::stdout().lock());
-    journal::replay_notices(io::stdin().lock(), &mut notices)?;
-    notices.flush()
+    let replayed = journal::replay_notices(io::stdin().lock(), &mut notices)?;
+    notices.flush()?;
+    if replayed.stopped {
+        eprintln!("stopped,13");
+    }
+    Ok(())
 }

@@ -17,7 +17,8 @@ use reference::shrink::shrink;
 
 const USAGE: &str = "\
 compare --posted PATH --brn PATH --seeds FROM COUNT [--threads N]
-    makes the journals of the seeds, runs both programs on each and compares their output with the reference's
+    makes the journals of the seeds, runs both programs on each and compares their output with the reference's, and
+    what they say on standard error: nothing, but `stopped,13` by brn where a bad entry stopped the journal
     (one of the two programs may be left out); before that, asks how each answers an argument: how it is used on
     standard error, nothing on standard output, and standard input, which stays open, is left alone
 compare --self-check FROM COUNT [--threads N]
@@ -31,6 +32,8 @@ Exit status: 0 all equal, 1 a difference, or an argument answered otherwise, 2 a
 /// What each program is given to see that it says how it is used, and how long it may take.
 const ARGUMENTS: [&str; 2] = ["--help", "journal.bin"];
 const PATIENCE: Duration = Duration::from_secs(10);
+/// What brn says of a journal that a bad entry stopped, as the table's last line does.
+const STOPPED: &str = "stopped,13\n";
 /// Waits on standard input meanwhile, to be left there: a good entry, which a program that reads would take.
 const WAITING: &[u8] = b"\x00\x00\x1a20171113000000001000000001";
 
@@ -244,13 +247,19 @@ fn try_journal(plan: &Plan, journal: &[u8]) -> Tally {
     tally.calls = expected.calls;
     tally.table_bytes = expected.table.len() as u64;
     tally.notice_bytes = expected.notices.len() as u64;
-    let programs = [(&plan.posted, &expected.table, true), (&plan.brn, &expected.notices, false)];
-    for (path, wanted, is_table) in programs {
+    // Notices cannot say that a bad entry stopped the journal, so brn says it on standard error.
+    let stopped = if expected.table.ends_with(STOPPED.as_bytes()) { STOPPED } else { "" };
+    let programs = [(&plan.posted, &expected.table, ""), (&plan.brn, &expected.notices, stopped)];
+    for (place, (path, wanted, wanted_error)) in programs.into_iter().enumerate() {
         let Some(path) = path else { continue };
-        let (got, status) = run_program(path, journal);
+        let (got, error, status) = run_program(path, journal);
         tally.failures += u64::from(!status.success());
-        if got != *wanted || status.code().is_none() {
-            let told = if is_table { first_line(&got, wanted) } else { first_record(&got, wanted) };
+        if got != *wanted || error != wanted_error || status.code().is_none() {
+            let told = match place {
+                _ if got == *wanted => format!("standard error {error:?}, {wanted_error:?} expected"),
+                0 => first_line(&got, wanted),
+                _ => first_record(&got, wanted),
+            };
             tally.difference = Some((0, format!("{path} ({status}): {told}")));
             return tally;
         }
@@ -259,9 +268,12 @@ fn try_journal(plan: &Plan, journal: &[u8]) -> Tally {
 }
 
 /// Runs a program with the journal on its standard input, written by a thread so that neither side waits for ever.
-fn run_program(path: &str, journal: &[u8]) -> (Vec<u8>, ExitStatus) {
-    let started = Command::new(path).stdin(Stdio::piped()).stdout(Stdio::piped()).spawn();
+/// Returns what it wrote to standard output and to standard error.
+fn run_program(path: &str, journal: &[u8]) -> (Vec<u8>, String, ExitStatus) {
+    let mut command = Command::new(path);
+    let started = command.stdin(Stdio::piped()).stdout(Stdio::piped()).stderr(Stdio::piped()).spawn();
     let mut child = started.unwrap_or_else(|error| stop(&format!("{path}: {error}")));
+    let error = collect(child.stderr.take());
     let (stdin, stdout) = (child.stdin.take(), child.stdout.take());
     let mut got = Vec::new();
     thread::scope(|scope| {
@@ -272,7 +284,7 @@ fn run_program(path: &str, journal: &[u8]) -> (Vec<u8>, ExitStatus) {
         }
     });
     let status = child.wait().unwrap_or_else(|error| stop(&format!("{path}: {error}")));
-    (got, status)
+    (got, error.join().expect("no thread panics"), status)
 }
 
 /// Where two outputs first differ.
