@@ -1,11 +1,10 @@
 // The notices of a journal: the bytes of its BRN file.
 ghost use mathlib.Core.Path.{_≡_};
+ghost use mathlib.Core.Bool.{true, cond};
 ghost use Prim.Native.Nat.{_≤_};
 ghost use lib.ListN.{length};
-ghost use Rattle.fields.specs.Put.{put};
-ghost use Rattle.journal.specs.Journal.{isBad};
 ghost use Rattle.journal.specs.Made.{brnOf};
-ghost use Rattle.report.specs.NoticesOf.{ReportsNotices};
+ghost use Rattle.report.specs.NoticesOf.{Passes, ReportsNotices};
 use crate::Report;
 use crate::Reported;
 
@@ -15,9 +14,17 @@ struct Measured {
     stopped: bool,
 }
 
-// Makes the calls of a journal and adds up what they write.
-fn measure(src: &[u8]) -> Measured
-    ensures { λ m. ⌜ (m .length ≡ length (brnOf (now (src .entry)))) × (m .stopped ≡ isBad (now (src .entry))) ⌝ }
+// So many where bytes are to be written, else none.
+fn counted(writes: bool, n: usize) -> usize
+    ensures { λ r. ⌜ r ≡ cond writes n 0 ⌝ }
+{
+    if writes { n } else { 0 }
+}
+
+// Makes the calls of a journal, adds up what they write and, where it is to be written, puts each call's after what came before.
+fn pass(src: &[u8], out: &mut [u8], writes: bool) -> Measured
+    requires { ⌜ (writes ≡ true → length (brnOf (now src)) ≤ length (now out)) ⌝ }
+    ensures { λ m. ⌜ Passes (now (src .entry)) writes (now (out .entry)) (now (out .exit)) (m .length) (m .stopped) ⌝ }
 {
     let mut written = [0u8; 64200];
     let r = replay::start();
@@ -34,44 +41,21 @@ fn measure(src: &[u8]) -> Measured
             let stopped = journal::ends_bad(t.stopped, src.len() - at, seen);
             return Measured { length: n, stopped };
         }
-        n += t.written;
-        at += used;
-        seen += 1;
-    }
-}
-
-// Makes the calls of a journal and writes what each of them writes after what came before.
-fn fill(src: &[u8], out: &mut [u8])
-    requires { ⌜ length (brnOf (now src)) ≤ length (now out) ⌝ }
-    ensures { λ _. ⌜ now (out .exit) ≡ put (now (out .entry)) 0 (brnOf (now (src .entry))) ⌝ }
-{
-    let mut written = [0u8; 64200];
-    let r = replay::start();
-    let mut l = r.ledger;
-    let mut seen = 0;
-    let mut at = 0;
-    let mut n = 0;
-    loop {
-        let t = journal::make::next_entry(l, &mut written, &src[at..], seen);
-        let next = t.ledger;
-        l = next;
-        let used = t.used;
-        if used == 0 {
-            return;
-        }
         let m = t.written;
-        fields::put_bytes(out, n, &written[..m]);
+        let to = counted(writes, n);
+        let size = counted(writes, m);
+        fields::put_bytes(out, to, &written[..size]);
         n += m;
         at += used;
         seen += 1;
     }
 }
 
-// Writes the notices of a whole journal, or nothing if the output lent is too small for them.
+// Writes the notices of a whole journal, or nothing if the output lent is too small for them: the first pass only measures.
 pub fn post_notices(src: &[u8], out: &mut [u8]) -> Reported
     ensures { λ r. ⌜ ReportsNotices (now (src .entry)) (now (out .entry)) (now (out .exit)) r ⌝ }
 {
-    let m = measure(src);
+    let m = pass(src, out, false);
     let n = m.length;
     let stopped = m.stopped;
     if out.len() < n {
@@ -80,7 +64,7 @@ pub fn post_notices(src: &[u8], out: &mut [u8]) -> Reported
             stopped,
         };
     }
-    fill(src, out);
+    pass(src, out, true);
     Reported {
         report: Report::Written(n),
         stopped,
