@@ -3,12 +3,14 @@ ghost use mathlib.Core.Path.{_≡_};
 ghost use mathlib.Core.List.{[], _∷_};
 ghost use lib.ListN.{length};
 ghost use Rattle.fields.specs.Put.{put};
-ghost use Rattle.calls.specs.Causes.{request, close};
-ghost use Rattle.calls.specs.Machine.{stepIn, ran};
+ghost use Rattle.calls.specs.Causes.{request, file, close};
+ghost use Rattle.calls.specs.Machine.{stepIn, called, ran};
 ghost use Rattle.calls.specs.Days.{freshCalled};
+ghost use Rattle.calls.specs.Lookups.{amountsIn};
 use calls::CodeField;
 use calls::Request;
 use calls::Start;
+use calls::lookups::Amounts;
 use ledger::Identity;
 use ledger::Ledger;
 use libc::STDOUT_FILENO;
@@ -25,6 +27,16 @@ fn day(first: Ledger, s: Start, q: Request, d: Date, out: &mut [u8]) -> Ledger
     clearing::request_bill(&mut l, q, out);
     clearing::close_day(&mut l, d);
     l
+}
+
+// A supplier file whose answers go to out, on a ledger that the call is lent, and then the amounts of a bill.
+fn answer_day(first: Ledger, s: &[u8], id: Identity, out: &mut [u8]) -> Amounts
+    ensures { λ a. ⌜ (a ≡ amountsIn (called first (file (now (s .entry)) (length (now (out .entry)))) .ledger) id)
+        × (now (out .exit) ≡ put (now (out .entry)) 0 (stepIn first (file (now (s .entry)) (length (now (out .entry)))) .written)) ⌝ }
+{
+    let mut l = first;
+    clearing::take_file(&mut l, s, out);
+    clearing::amounts_of(&l, id)
 }
 
 fn main() {
