@@ -13,7 +13,7 @@ use base.Logic.{SProp, ent, sep, ex, guard}
 use base.Fml.{Fml, GName, ftrue, fsep, fat, fdead, flent, fres}
 use prog.Wp.{Heap}
 use ghost.Atoms.{Atoms, sem}
-use types.Kit.{Given, ‵, later, _$_, _∵_, !, qed, by, move, keep, drop, use1, use2, use3, fsplit, fjoin, fpick, fpack, await, updating, now as at-once, check, done}
+use types.Kit.{Given, ‵, later, _$_, _∵_, !, qed, by, move, keep, drop, use1, use3, fsplit, fjoin, fpick, fpack, await, updating, now as at-once, check, done}
 use types.SemTy.{Body}
 use types.Tokens.{lent-back}
 use denote.Laws.{Is, shows}
