@@ -60,7 +60,7 @@ core-ends E Y = record {
   kept = (yes, (yes, (yes, tt)));
 }
 
-abbrev lent-ends : (E : Lent) → Outcome E → Ended
+abbrev pub lent-ends : (E : Lent) → Outcome E → Ended
 lent-ends E Y = record {
   signature = record {
     lifetimes = 3;

@@ -18,7 +18,7 @@ use denote.Memory.{lone}
 use denote.Struct.Declared.{Declared, row, fields}
 use denote.Struct.Struct.{Plains}
 use denote.Struct.Laws as LL
-use Rattle.clearing.proofs.Argument.{Arg}
+use Rattle.clearing.proofs.Argument.{Arg, declared}
 
 pub record Lent : Type 2 where
   pub type : Declared
@@ -39,6 +39,10 @@ module _ (E : Lent) where
 
   abbrev pub vals : Held → List Val
   vals = LL.vals (E .type) (E .laws)
+
+  -- the struct by value, as an argument
+  abbrev pub whole-of : Arg Row
+  whole-of = declared (E .type) (E .laws) (E .plains) (E .copies)
 
 pub record Outcome (E : Lent) : Type 2 where
   pub S : RattleType

@@ -10,3 +10,5 @@ pub mod LookupCalls
 pub mod LentLocal
 pub mod LentCalls
 pub mod LentBillCalls
+pub mod LentFileCalls
+pub mod LentLookups

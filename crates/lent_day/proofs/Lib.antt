@@ -1,3 +1,4 @@
--- The walk of `day`, and what its ledger holds.
+-- The walks of `day` and `answer_day`, and what its ledger holds.
 pub mod DayWalk
+pub mod AnswerWalk
 pub mod DayLaws

@@ -1,14 +1,16 @@
-// Document 01's example on a lent ledger: its BIL and its posted table.
+// Document 01's example on a lent ledger: its BIL, its posted table, its ACF and the charge that is posted.
 ghost use mathlib.Core.Path.{_≡_};
 ghost use mathlib.Core.List.{[], _∷_};
 ghost use lib.ListN.{length};
 ghost use Rattle.fields.specs.Put.{put};
-ghost use Rattle.calls.specs.Causes.{request, close};
-ghost use Rattle.calls.specs.Machine.{stepIn, ran};
+ghost use Rattle.calls.specs.Causes.{request, file, close};
+ghost use Rattle.calls.specs.Machine.{stepIn, called, ran};
 ghost use Rattle.calls.specs.Days.{freshCalled};
+ghost use Rattle.calls.specs.Lookups.{amountsIn};
 use calls::CodeField;
 use calls::Request;
 use calls::Start;
+use calls::lookups::Amounts;
 use ledger::Identity;
 use ledger::Ledger;
 use libc::STDOUT_FILENO;
@@ -27,12 +29,55 @@ fn day(first: Ledger, s: Start, q: Request, d: Date, out: &mut [u8]) -> Ledger
     l
 }
 
+// A supplier file whose answers go to out, on a ledger that the call is lent, and then the amounts of a bill.
+fn answer_day(first: Ledger, s: &[u8], id: Identity, out: &mut [u8]) -> Amounts
+    ensures { λ a. ⌜ (a ≡ amountsIn (called first (file (now (s .entry)) (length (now (out .entry)))) .ledger) id)
+        × (now (out .exit) ≡ put (now (out .entry)) 0 (stepIn first (file (now (s .entry)) (length (now (out .entry)))) .written)) ⌝ }
+{
+    let mut l = first;
+    clearing::take_file(&mut l, s, out);
+    clearing::amounts_of(&l, id)
+}
+
+// Takes the supplier's file of document 01's example, an accepted RSP of 4250 cents, and writes its ACF and then the charge of the bill.
+fn show_answer(l: Ledger, id: Identity) {
+    let mut file = [32u8; 642];
+    fields::put_bytes(
+        &mut file,
+        0,
+        b"34ZZC4012345678001900000000101RSP201711130000000002017111601",
+    );
+    fields::put_fill(&mut file, 321, 233, b'0');
+    fields::put_bytes(
+        &mut file,
+        321,
+        b"34ZZC4012345678001900000000102RSP201711130007201711130010000000085000000000425020171013000000000000000850000000004250",
+    );
+    file[320] = 13;
+    file[641] = 13;
+    let mut out = [32u8; 642];
+    let a = answer_day(l, &file, id, &mut out);
+    let mut acf = [32u8; 321];
+    fields::put_part(&mut acf, 0, &out, 0, 321);
+    io::write_all(STDOUT_FILENO, &acf);
+    let Amounts::Posted { charge, .. } = a else {
+        return;
+    };
+    let mut line = [10u8; 14];
+    fields::put_digits(&mut line, 0, 13, charge.0);
+    io::write_all(STDOUT_FILENO, &line);
+}
+
 fn main() {
     let empty = Ledger::empty(Date(0), 0, 0);
     let s = Start {
         today: Date(20171113),
         tracking: 1,
         confirmation: 1,
+    };
+    let id = Identity {
+        account: 123456780019,
+        key: 7,
     };
     let q = Request {
         code: CodeField {
@@ -42,10 +87,7 @@ fn main() {
             tens: b'4',
             ones: b'0',
         },
-        identity: Identity {
-            account: 123456780019,
-            key: 7,
-        },
+        identity: id,
         product: b'B',
         billing: Date(20171113),
         from: Date(20171013),
@@ -58,4 +100,5 @@ fn main() {
     let mut lines = [0u8; 10970];
     let n = table::write(&mut lines, l, false);
     io::write_all(STDOUT_FILENO, &lines[..n]);
+    show_answer(l, id);
 }
