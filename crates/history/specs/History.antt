@@ -20,7 +20,7 @@ use Rattle.groups.specs.Groups.{identityOf, verdict}
 use Rattle.calls.specs.declared.Start.{Start}
 use Rattle.calls.specs.declared.Request.{Request}
 use Rattle.calls.specs.Causes.{Call, request, file, cancel, close, causes}
-use Rattle.calls.specs.Machine.{codeOf, productOf, latestOf}
+use Rattle.calls.specs.Machine.{codeOf, productOf}
 
 -- "postings, each a bill and a charge"
 pub record Posting : Type 0 where
@@ -62,6 +62,17 @@ moved sequence requests cancelled latest t =
       latest = latest;
     }
 
+-- what a request asks, under its Tracking ID: said here again, so that the machine's way of renewing a bill is held to it
+abbrev pub asks : Request → ℕ → Latest
+asks r tracking =
+    record {
+      tracking = tracking;
+      consumption = r .consumption;
+      billing = r .billing;
+      from = r .from;
+      scheduled = r .scheduled;
+    }
+
 abbrev pub added : Request → ℕ → Terms
 added r tracking =
     record {
@@ -71,11 +82,11 @@ added r tracking =
       sequence = 1;
       requests = 1;
       cancelled = false;
-      latest = latestOf r tracking;
+      latest = asks r tracking;
     }
 
 abbrev pub renews : Request → ℕ → Terms → Terms
-renews r tracking t = moved (t .sequence + 1) (t .requests + 1) (t .cancelled) (latestOf r tracking) t
+renews r tracking t = moved (t .sequence + 1) (t .requests + 1) (t .cancelled) (asks r tracking) t
 
 abbrev pub marked : Terms → Terms
 marked t = moved (t .sequence) (t .requests) true (t .latest) t

@@ -6,6 +6,7 @@ use mathlib.Core.List.{List, []}
 use native.Mathlib.Omega.{arith}
 use native.Mathlib.Nat.{add-zero}
 use lib.ListN.{length, take, drop}
+use borrow.Author.Tests.{lt-ltb, le-ltb}
 use borrow.Rule.Slice.PartMut.{putMid}
 use Rattle.fields.specs.Put.{put, part}
 use Rattle.fields.proofs.PutLaws.{length-part, put-nil, put-lent}
@@ -38,9 +39,9 @@ module _ (out : List ℕ) (n : ℕ) (room : n ≤ length out) (taken : 64200 ≤
 -- ---- what came of a piece
 module _ (first : Ledger) (before : ℕ) (s out₀ out : List ℕ) (l : Ledger) (seen at n : ℕ) (x : Stands (book first) before s l seen at n)
     (h : Holds (noticesIn (book first) before s) out₀ out n) (room : n ≤ length out) where
-  pub ran-all : (bad : Bool) → parse seen (drop at s) ≡ record { entries = []; stopped = bad; rest = drop at s }
+  pub ran-all : (bad : Bool) → 64200 ≤ length out - n → parse seen (drop at s) ≡ record { entries = []; stopped = bad; rest = drop at s }
       → PieceMade first before s out₀ out (record { ledger = l; seen = seen; used = at; written = n; full = false; stopped = bad })
-  ran-all bad e =
+  ran-all bad q e =
       record {
         bytes = h .bytes;
         others = x .notices;
@@ -49,6 +50,7 @@ module _ (first : Ledger) (before : ℕ) (s out₀ out : List ℕ) (l : Ledger) 
         count = x .count;
         stopped = x .stopped;
         rest = x .rest;
+        filled = sym (le-ltb (length out - n) 64200 q);
         done = λ z. e;
         goes = λ z. absurd (false≢true z);
         sure = x .sure;
@@ -68,6 +70,7 @@ module _ (first : Ledger) (before : ℕ) (s out₀ out : List ℕ) (l : Ledger) 
         count = x .count;
         stopped = x .stopped;
         rest = x .rest;
+        filled = sym (lt-ltb (length out - n) 64200 q);
         done = λ z. absurd (true≢false z);
         goes = λ z. (omega (arith, x .moved), refl);
         sure = x .sure;

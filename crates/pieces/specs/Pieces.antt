@@ -1,8 +1,9 @@
 -- What is made of a piece of a journal. Assumes nothing.
-use Prim.Native.Nat.{ℕ, _+_, _≤_, _<_}
+use Prim.Native.Nat.{ℕ, _+_, _-_, _≤_, _<_}
 use mathlib.Core.Path.{_≡_}
 use mathlib.Core.Bool.{Bool, true, false}
 use mathlib.Core.List.{List, []}
+use lib.Dec.{ltb}
 use lib.ListN.{length, take, drop}
 use Rattle.fields.specs.Put.{put}
 use Rattle.ledger.specs.declared.Ledger.{Ledger}
@@ -26,6 +27,8 @@ pub record PieceMade (first : Ledger) (before : ℕ) (s out₀ out : List ℕ) (
   pub count : r .seen + length (left s r .entries) ≡ before + length (parse before s .entries)
   pub stopped : left s r .stopped ≡ parse before s .stopped
   pub rest : left s r .rest ≡ parse before s .rest
+  -- the output is full where it has no room for another call's notices
+  pub filled : r .full ≡ ltb (length out - r .written) 64200
   pub done : r .full ≡ false → left s r ≡ record { entries = []; stopped = r .stopped; rest = drop (r .used) s }
   pub goes : r .full ≡ true → (0 < r .used) × (r .stopped ≡ false)
   -- what the next piece needs

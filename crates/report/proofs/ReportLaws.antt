@@ -38,8 +38,8 @@ pub claimed : (s : List ℕ) → Claimed s
 claimed s = go (journal-begins s)
   where
     go : Begins s → Claimed s
-    go (nothing e) = empty (none-ledger s e) (none-bad s e)
-    go (begins start bytes es c e k) = holds start (callsOf es) c k (claim start c (callsOf es))
+    go (nothing e) = empty e (none-ledger s e) (none-bad s e)
+    go (begins start bytes es c e k) = holds start bytes es e c k (claim start c (callsOf es))
 
 -- ---- the table
 -- a walk over the whole journal, from its start

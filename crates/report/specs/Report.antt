@@ -2,7 +2,7 @@
 use Prim.Native.Nat.{ℕ, _≤_}
 use mathlib.Core.Path.{_≡_}
 use mathlib.Core.Bool.{true, cond}
-use mathlib.Core.List.{List, []}
+use mathlib.Core.List.{List, [], _∷_}
 use lib.Dec.{ltb}
 use lib.ListN.{length}
 use Rattle.fields.specs.Put.{put}
@@ -10,11 +10,12 @@ use Rattle.table.specs.Table.{tableOf}
 use Rattle.verdict.specs.declared.Check.the-variants.{Clear}
 use Rattle.verdict.specs.Rules.{first}
 use Rattle.calls.specs.declared.Start.{Start}
-use Rattle.calls.specs.Causes.{Call, freshCauses}
+use Rattle.calls.specs.Causes.{freshCauses}
 use Rattle.calls.specs.Machine.{fresh, after}
 use Rattle.history.specs.History.{begun}
 use Rattle.history.specs.Claim.{Claims}
-use Rattle.journal.specs.Journal.{noBook, ledgerOf, isBad}
+use Rattle.journal.specs.declared.Body.the-variants.{Fresh}
+use Rattle.journal.specs.Journal.{Entry, parse, callsOf, noBook, ledgerOf, isBad}
 use Rattle.report.specs.declared.Report.{Report}
 use Rattle.report.specs.declared.Reported.{Reported}
 use Rattle.report.specs.declared.Report.the-variants.{Written, TooSmall}
@@ -23,12 +24,14 @@ use Rattle.report.specs.declared.Report.the-variants.{Written, TooSmall}
 unfoldable pub postedOf : List ℕ → List ℕ
 postedOf s = tableOf (ledgerOf s) (isBad s)
 
--- what is claimed of a journal: it holds no fresh that succeeded, and its table has no bill lines and a zero total; or its ledger is that of the
--- calls cs after a fresh, and of these the claim holds: the total printed is the sum of the changes and the history's sum
+-- what is claimed of a journal: it holds no whole entry, so no fresh that succeeded, and its table has no bill lines and a zero total; or it holds
+-- a fresh that succeeded and the entries es, its ledger is that of their calls after the fresh, and of these calls the claim holds: the total
+-- printed is the sum of the changes and the history's sum
 pub data Claimed (s : List ℕ) : Type 0 where
-  empty : ledgerOf s ≡ noBook → isBad s ≡ true → Claimed s
-  holds : (start : Start) (cs : List Call) → first (freshCauses start) ≡ Clear → ledgerOf s ≡ after (fresh start) cs
-      → Claims (fresh start) (begun start) cs → Claimed s
+  empty : parse 0 s .entries ≡ [] → ledgerOf s ≡ noBook → isBad s ≡ true → Claimed s
+  holds : (start : Start) (bytes : List ℕ) (es : List Entry) → parse 0 s .entries ≡ record { body = Fresh start; bytes = bytes } ∷ es
+      → first (freshCauses start) ≡ Clear → ledgerOf s ≡ after (fresh start) (callsOf es)
+      → Claims (fresh start) (begun start) (callsOf es) → Claimed s
 
 -- an output under 10,970 bytes is refused and left as it was
 unfoldable pub reportOf : ℕ → List ℕ → Report

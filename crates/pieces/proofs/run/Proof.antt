@@ -57,7 +57,7 @@ same-length : tie.Need-same-length Inv-loop μ-loop
 same-length c = ap length (put-none _ _ (c .before .before .before .before .before .before .before .before .loop .inv .room) (c .before .before .before .before .before .before .before .loop-test .taken) _ _ (end-written _ _ _ _ _ _ _ (c .before .before .before .before .before .before .before .before .loop .inv .stands) _ (c .before .before .before .before .next-entry .ensures .0) (c .if1 .taken)) (c .before .before .before .before .next-entry .ensures .1)) ∙ c .before .before .before .before .before .before .before .before .loop .inv .holds .kept
 
 returns : tie.Need-returns Inv-loop μ-loop
-returns c = let x = at-end _ _ _ _ _ _ _ (c .before .before .before .before .before .before .before .before .loop .inv .stands) _ (c .before .before .before .before .next-entry .ensures .0) (c .if1 .taken) in rw (put-none _ _ (c .before .before .before .before .before .before .before .before .loop .inv .room) (c .before .before .before .before .before .before .before .loop-test .taken) _ _ (end-written _ _ _ _ _ _ _ (c .before .before .before .before .before .before .before .before .loop .inv .stands) _ (c .before .before .before .before .next-entry .ensures .0) (c .if1 .taken)) (c .before .before .before .before .next-entry .ensures .1)) (ran-all _ _ _ _ _ _ _ _ _ (x .stands) (c .before .before .before .before .before .before .before .before .loop .inv .holds) (c .before .before .before .before .before .before .before .before .loop .inv .room) _ (x .left))
+returns c = let x = at-end _ _ _ _ _ _ _ (c .before .before .before .before .before .before .before .before .loop .inv .stands) _ (c .before .before .before .before .next-entry .ensures .0) (c .if1 .taken) in rw (put-none _ _ (c .before .before .before .before .before .before .before .before .loop .inv .room) (c .before .before .before .before .before .before .before .loop-test .taken) _ _ (end-written _ _ _ _ _ _ _ (c .before .before .before .before .before .before .before .before .loop .inv .stands) _ (c .before .before .before .before .next-entry .ensures .0) (c .if1 .taken)) (c .before .before .before .before .next-entry .ensures .1)) (ran-all _ _ _ _ _ _ _ _ _ (x .stands) (c .before .before .before .before .before .before .before .before .loop .inv .holds) (c .before .before .before .before .before .before .before .before .loop .inv .room) _ (c .before .before .before .before .before .before .before .loop-test .taken) (x .left))
 
 add-n : tie.Need-add-n Inv-loop μ-loop
 add-n c = let x = goes-on _ _ _ _ _ _ _ (c .before .before .before .before .before .before .before .before .before .loop .inv .stands) _ (c .before .before .before .before .before .next-entry .ensures .0) (omega arith) in omega (arith, x .next .within, x .next .few, x .short, c .before .before .before .before .before .before .before .before .before .loop .inv .room)
