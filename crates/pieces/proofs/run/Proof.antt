@@ -51,13 +51,13 @@ part-next-entry-end-2 : tie.Need-part-next-entry-end-2 Inv-loop μ-loop
 part-next-entry-end-2 c = omega (arith, c .before .before .loop .inv .stands .within)
 
 next-entry-requires : tie.Need-next-entry-requires Inv-loop μ-loop
-next-entry-requires c κs = length-lent _ _ (c .before .before .before .loop .inv .room) (c .before .before .loop-test .taken)
+next-entry-requires c κs = length-lent _ _ (c .before .before .before .loop .inv .room) (omega (arith, c .before .before .loop-test .taken))
 
 same-length : tie.Need-same-length Inv-loop μ-loop
-same-length c = ap length (put-none _ _ (c .before .before .before .before .before .before .before .before .loop .inv .room) (c .before .before .before .before .before .before .before .loop-test .taken) _ _ (end-written _ _ _ _ _ _ _ (c .before .before .before .before .before .before .before .before .loop .inv .stands) _ (c .before .before .before .before .next-entry .ensures .0) (c .if1 .taken)) (c .before .before .before .before .next-entry .ensures .1)) ∙ c .before .before .before .before .before .before .before .before .loop .inv .holds .kept
+same-length c = ap length (put-none _ _ (c .before .before .before .before .before .before .before .before .loop .inv .room) (omega (arith, c .before .before .before .before .before .before .before .loop-test .taken)) _ _ (end-written _ _ _ _ _ _ _ (c .before .before .before .before .before .before .before .before .loop .inv .stands) _ (c .before .before .before .before .next-entry .ensures .0) (c .if1 .taken)) (c .before .before .before .before .next-entry .ensures .1)) ∙ c .before .before .before .before .before .before .before .before .loop .inv .holds .kept
 
 returns : tie.Need-returns Inv-loop μ-loop
-returns c = let x = at-end _ _ _ _ _ _ _ (c .before .before .before .before .before .before .before .before .loop .inv .stands) _ (c .before .before .before .before .next-entry .ensures .0) (c .if1 .taken) in rw (put-none _ _ (c .before .before .before .before .before .before .before .before .loop .inv .room) (c .before .before .before .before .before .before .before .loop-test .taken) _ _ (end-written _ _ _ _ _ _ _ (c .before .before .before .before .before .before .before .before .loop .inv .stands) _ (c .before .before .before .before .next-entry .ensures .0) (c .if1 .taken)) (c .before .before .before .before .next-entry .ensures .1)) (ran-all _ _ _ _ _ _ _ _ _ (x .stands) (c .before .before .before .before .before .before .before .before .loop .inv .holds) (c .before .before .before .before .before .before .before .before .loop .inv .room) _ (c .before .before .before .before .before .before .before .loop-test .taken) (x .left))
+returns c = let x = at-end _ _ _ _ _ _ _ (c .before .before .before .before .before .before .before .before .loop .inv .stands) _ (c .before .before .before .before .next-entry .ensures .0) (c .if1 .taken) in rw (put-none _ _ (c .before .before .before .before .before .before .before .before .loop .inv .room) (omega (arith, c .before .before .before .before .before .before .before .loop-test .taken)) _ _ (end-written _ _ _ _ _ _ _ (c .before .before .before .before .before .before .before .before .loop .inv .stands) _ (c .before .before .before .before .next-entry .ensures .0) (c .if1 .taken)) (c .before .before .before .before .next-entry .ensures .1)) (ran-all _ _ _ _ _ _ _ _ _ (x .stands) (c .before .before .before .before .before .before .before .before .loop .inv .holds) (c .before .before .before .before .before .before .before .before .loop .inv .room) _ (omega (arith, c .before .before .before .before .before .before .before .loop-test .taken)) (x .left))
 
 add-n : tie.Need-add-n Inv-loop μ-loop
 add-n c = let x = goes-on _ _ _ _ _ _ _ (c .before .before .before .before .before .before .before .before .before .loop .inv .stands) _ (c .before .before .before .before .before .next-entry .ensures .0) (omega arith) in omega (arith, x .next .within, x .next .few, x .short, c .before .before .before .before .before .before .before .before .before .loop .inv .room)
@@ -72,7 +72,7 @@ loop-less : tie.Need-loop-less Inv-loop μ-loop
 loop-less c = let x = goes-on _ _ _ _ _ _ _ (c .before .before .before .before .before .before .before .before .before .loop .inv .stands) _ (c .before .before .before .before .before .next-entry .ensures .0) (omega arith) in omega (arith, x .next .within, x .next .few, x .short, c .before .before .before .before .before .before .before .before .before .loop .inv .room)
 
 loop-again : tie.Need-loop-again Inv-loop μ-loop
-loop-again c = let x = goes-on _ _ _ _ _ _ _ (c .before .before .before .before .before .before .before .before .before .loop .inv .stands) _ (c .before .before .before .before .before .next-entry .ensures .0) (omega arith) in let e = put-turn _ _ (c .before .before .before .before .before .before .before .before .before .loop .inv .room) (c .before .before .before .before .before .before .before .before .loop-test .taken) _ _ (omega (arith, x .long, x .short)) (c .before .before .before .before .before .next-entry .ensures .1) in let h = holds-more _ _ _ _ _ _ (x .next .written) (omega (arith, x .short, c .before .before .before .before .before .before .before .before .before .loop .inv .holds .kept, c .before .before .before .before .before .before .before .before .before .loop .inv .room, c .before .before .before .before .before .before .before .before .loop-test .taken)) (x .long) (x .front) (c .before .before .before .before .before .before .before .before .before .loop .inv .holds) in record { stands = x .next; holds = rw e h; room = rw e (omega (arith, x .short, h .kept, c .before .before .before .before .before .before .before .before .before .loop .inv .holds .kept, c .before .before .before .before .before .before .before .before .before .loop .inv .room, c .before .before .before .before .before .before .before .before .loop-test .taken)); fits = rw e (omega (arith, h .kept, c .before .before .before .before .before .before .before .before .before .loop .inv .holds .kept, c .before .before .before .before .before .before .before .before .before .loop .inv .fits)) }
+loop-again c = let x = goes-on _ _ _ _ _ _ _ (c .before .before .before .before .before .before .before .before .before .loop .inv .stands) _ (c .before .before .before .before .before .next-entry .ensures .0) (omega arith) in let e = put-turn _ _ (c .before .before .before .before .before .before .before .before .before .loop .inv .room) (omega (arith, c .before .before .before .before .before .before .before .before .loop-test .taken)) _ _ (omega (arith, x .long, x .short)) (c .before .before .before .before .before .next-entry .ensures .1) in let h = holds-more _ _ _ _ _ _ (x .next .written) (omega (arith, x .short, c .before .before .before .before .before .before .before .before .before .loop .inv .holds .kept, c .before .before .before .before .before .before .before .before .before .loop .inv .room, c .before .before .before .before .before .before .before .before .loop-test .taken)) (x .long) (x .front) (c .before .before .before .before .before .before .before .before .before .loop .inv .holds) in record { stands = x .next; holds = rw e h; room = rw e (omega (arith, x .short, h .kept, c .before .before .before .before .before .before .before .before .before .loop .inv .holds .kept, c .before .before .before .before .before .before .before .before .before .loop .inv .room, c .before .before .before .before .before .before .before .before .loop-test .taken)); fits = rw e (omega (arith, h .kept, c .before .before .before .before .before .before .before .before .before .loop .inv .holds .kept, c .before .before .before .before .before .before .before .before .before .loop .inv .fits)) }
 
 same-length-2 : tie.Need-same-length-2 Inv-loop μ-loop
 same-length-2 c = c .before .loop .inv .holds .kept
