@@ -37,7 +37,7 @@ fn explain() {
     );
     io::write_all(
         STDERR_FILENO,
-        b"A bad entry stops it: standard error then says stopped,13. It takes no arguments. See docs/FORMAT.md.\n",
+        b"Standard error stays empty if all went well. A bad entry stops it: stopped,13. The exit status is 0.\n",
     );
 }
 

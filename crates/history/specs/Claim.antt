@@ -39,7 +39,7 @@ accepts d = isAccepted (d .verdict)
 abbrev pub acfsOf : List Decided → List (List ℕ)
 acfsOf ds = map (λ (d : Decided). answer (d .now) (d .group) (d .verdict)) (keep accepts ds)
 
--- "no group accepted for a cancelled bill, no RSP after its Scheduled Date": of the bill, as the history has it when the group is decided
+-- no group is accepted for a cancelled bill and no RSP after its Scheduled Date (demand 3): of the bill, as the history has it when the group is decided
 pub record Lawful (d : Decided) : Type 0 where
   pub held : accepts d ≡ true → isNothing (sought (d .now) (d .group)) ≡ false
   pub alive : accepts d ≡ true → termsOf (sought (d .now) (d .group)) .cancelled ≡ false
@@ -57,7 +57,7 @@ Once ns = (i j : ℕ) → i < length ns → j < length ns → getD ns i 0 ≡ ge
 
 -- ---- the claim about the calls cs, on the ledger l with the history h
 pub record Claims (l : Book) (h : History) (cs : List Call) : Type 0 where
-  -- "total of the table = sum of the returned signed changes = the history's sum"
+  -- the total of the table = the sum of the returned signed changes = the history's sum
   pub returned : pos (total (after l cs)) ≡ changes (outcomes l cs)
   pub history : total (after l cs) ≡ historySum (hAfter h cs)
   -- the history's today, next numbers and bills are the ledger's
@@ -69,7 +69,7 @@ pub record Claims (l : Book) (h : History) (cs : List Call) : Type 0 where
   pub accepted : map (λ (o : Outcome). o .accepted) (outcomes l cs) ≡ map (count accepts) (hDecisions h cs)
   pub acfs : map (λ (o : Outcome). acfsIn (o .written)) (outcomes l cs) ≡ map acfsOf (hDecisions h cs)
   pub lawful : All (All Lawful) (hDecisions h cs)
-  -- "no Tracking ID twice"
+  -- no Tracking ID twice
   pub once : Once (assigned (outcomes l cs))
   -- the ledger stays sound
   pub kept : sound (after l cs) ≡ true

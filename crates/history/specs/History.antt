@@ -1,5 +1,6 @@
 -- "From fresh's arguments and that list alone the history works out today, the next numbers, the bills with every field but the posted
--- amounts, and a list of postings": it reads causes and verdicts on its own bills and moves by its own definitions. Assumes nothing.
+-- amounts, and a list of postings": it reads causes and verdicts on its own bills, with the machine's words for a bill's fields, and moves by its own
+-- definitions. Assumes nothing.
 use Prim.Native.Nat.{ℕ, _+_}
 use mathlib.Core.Bool.{Bool, true, false, cond}
 use mathlib.Core.List.{List, [], _∷_, _++_}

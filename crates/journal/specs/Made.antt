@@ -58,7 +58,7 @@ turnWritten Cut l s = []
 turnWritten Bad l s = []
 turnWritten (Whole b n) l s = writtenIn l b (part s 3 (n - 3))
 
--- ---- a BRN file: "the notices of every call carried out, in order"
+-- ---- a BRN file: the notices of every call carried out, in order
 -- the bytes that calls wrote
 abbrev pub writtenBy : List Outcome → List ℕ
 writtenBy [] = []

@@ -20,7 +20,7 @@ use Rattle.ledger.specs.declared.State.{State}
 use Rattle.ledger.specs.declared.State.the-variants.{Open, Issued, Cancelled}
 
 -- ---- what a bill holds
--- "A bill is identified by Customer Account Number and Bill Key": the bill has this identity
+-- "A bill is identified by Customer Account Number (12 digits) and Bill Key (4).": the bill has this identity
 abbrev pub isOf : Identity → Terms → Bool
 isOf id t = eqb (t .identity .account) (id .account) && eqb (t .identity .key) (id .key)
 

@@ -1,4 +1,4 @@
--- The ledger as a book: "today, the next Tracking ID, the next Confirmation Number and up to 128 bills in order of first request".
+-- The ledger as a book: "today, the next Tracking ID, the next Confirmation Number .. and up to 128 bills in order of first request".
 -- Assumes nothing.
 use Prim.Native.Nat.{ℕ, _+_}
 use mathlib.Core.Bool.{Bool}

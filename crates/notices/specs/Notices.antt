@@ -66,7 +66,8 @@ asked b =
 abbrev pub productFill : Bool → ℕ
 productFill prepay = cond prepay 48 32
 
--- positions 208 to 259: "previous sequence the count of requests, previous consumption the former one, previous charge the posted one"
+-- positions 208 to 259: "previous sequence the count of requests, previous consumption the former one (0 on the first),
+-- previous charge the posted one"
 unfoldable pub former : Bil → List ℕ
 former b =
     digits 3 (b .bill .terms .requests)

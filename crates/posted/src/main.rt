@@ -87,7 +87,7 @@ fn explain() {
     );
     io::write_all(
         STDERR_FILENO,
-        b"A bad entry stops it: the last line is then stopped,13. It takes no arguments. See docs/FORMAT.md.\n",
+        b"A bad entry stops it: the last line is then stopped,13. A failed read or write is told here; the exit status is 0.\n",
     );
 }
 

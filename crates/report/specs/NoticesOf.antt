@@ -1,4 +1,4 @@
--- The notices of a whole journal in a lent output: "the notices of every call carried out, in order". Assumes nothing.
+-- The notices of a whole journal in a lent output: those of every call carried out, in order. Assumes nothing.
 use Prim.Native.Nat.{ℕ}
 use mathlib.Core.Path.{_≡_}
 use mathlib.Core.Bool.{Bool, cond}

@@ -24,7 +24,7 @@ use Rattle.ledger.specs.Bills.{productByte, cents, blankBill}
 abbrev pub markWord : Bool → ℕ
 markWord m = cond m 1 0
 
--- 15 to 18: the kind (0 none, 1 Bill Ready, 2 Prepay), charge, applied, owed; "the words that a kind does not use are 0"
+-- 15 to 18: the kind (0 none, 1 Bill Ready, 2 Prepay), charge, applied, owed; the words that a kind does not use are 0
 abbrev pub postedWords : Posted → List ℕ
 postedWords posted.None = 0 ∷ 0 ∷ 0 ∷ 0 ∷ []
 postedWords (posted.BillReady charge) = 1 ∷ charge .0 ∷ 0 ∷ 0 ∷ []
@@ -163,7 +163,7 @@ ledgerIn ws =
 unfoldable pub noLedger : Ledger
 noLedger = record { today = date 0; «next_tracking» = 0; «next_confirmation» = 0; count = 129; bills = replicate 128 blankBill }
 
--- "any words at all give a ledger, or one that is not sound"
+-- any words at all give a ledger, or one that is not sound
 unfoldable pub ledgerOf : List ℕ → Ledger
 ledgerOf ws = cond (holdsLedger ws) (ledgerIn ws) noLedger
 
