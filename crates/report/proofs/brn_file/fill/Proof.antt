@@ -46,7 +46,7 @@ part-next-entry-end : tie.Need-part-next-entry-end Inv-loop μ-loop
 part-next-entry-end c = omega arith
 
 next-entry-requires : tie.Need-next-entry-requires Inv-loop μ-loop
-next-entry-requires c κs = c .before .before .loop .inv .room
+next-entry-requires c κs = (c .before .before .loop .inv .room, c .before .before .loop .inv .stands .sure)
 
 same-length : tie.Need-same-length Inv-loop μ-loop
 same-length c = c .before .before .before .before .before .before .loop .inv .holds .kept
