@@ -1,9 +1,11 @@
 // The calls request and cancel on a ledger by value: decided on small values, then applied.
 ghost use mathlib.Core.Path.{_≡_};
+ghost use mathlib.Core.Bool.{true};
 ghost use Prim.Native.Nat.{_≤_};
 ghost use lib.ListN.{length};
 ghost use Rattle.fields.specs.Put.{put};
 ghost use Rattle.ledger.specs.Books.{live, placeOf};
+ghost use Rattle.ledger.specs.Sound.{soundLedger};
 ghost use Rattle.verdict.specs.declared.Check.the-variants.{Clear};
 ghost use Rattle.groups.specs.Steps.{InPlace};
 ghost use Rattle.calls.specs.Causes.{request, cancel};
@@ -180,16 +182,11 @@ fn take_cancel(l: Ledger, out: &mut [u8], id: Identity, f: Found) -> Called
     }
 }
 
-// The call request.
-pub fn request_bill(l: Ledger, out: &mut [u8], r: Request) -> Called
+// The call request on a ledger that is known to be sound.
+pub fn request_on_sound(l: Ledger, out: &mut [u8], r: Request) -> Called
+    requires { ⌜ soundLedger l ≡ true ⌝ }
     ensures { λ a. ⌜ (a ≡ called l (request r (length (now (out .entry))))) × (now (out .exit) ≡ put (now (out .entry)) 0 (stepIn l (request r (length (now (out .entry)))) .written)) ⌝ }
 {
-    if !l.sound() {
-        return Called {
-            ledger: l,
-            answer: Answer::Refused(2),
-        };
-    }
     let today = l.today;
     let id = r.identity;
     let f = l.find(id);
@@ -212,9 +209,9 @@ pub fn request_bill(l: Ledger, out: &mut [u8], r: Request) -> Called
     }
 }
 
-// The call cancel.
-pub fn cancel_bill(l: Ledger, out: &mut [u8], id: Identity) -> Called
-    ensures { λ a. ⌜ (a ≡ called l (cancel id (length (now (out .entry))))) × (now (out .exit) ≡ put (now (out .entry)) 0 (stepIn l (cancel id (length (now (out .entry)))) .written)) ⌝ }
+// The call request.
+pub fn request_bill(l: Ledger, out: &mut [u8], r: Request) -> Called
+    ensures { λ a. ⌜ (a ≡ called l (request r (length (now (out .entry))))) × (now (out .exit) ≡ put (now (out .entry)) 0 (stepIn l (request r (length (now (out .entry)))) .written)) ⌝ }
 {
     if !l.sound() {
         return Called {
@@ -222,6 +219,14 @@ pub fn cancel_bill(l: Ledger, out: &mut [u8], id: Identity) -> Called
             answer: Answer::Refused(2),
         };
     }
+    request_on_sound(l, out, r)
+}
+
+// The call cancel on a ledger that is known to be sound.
+pub fn cancel_on_sound(l: Ledger, out: &mut [u8], id: Identity) -> Called
+    requires { ⌜ soundLedger l ≡ true ⌝ }
+    ensures { λ a. ⌜ (a ≡ called l (cancel id (length (now (out .entry))))) × (now (out .exit) ≡ put (now (out .entry)) 0 (stepIn l (cancel id (length (now (out .entry)))) .written)) ⌝ }
+{
     let f = l.find(id);
     let b = groups::sought_at(l, f);
     let check = causes::cancel_check(id, out.len(), l.next_tracking, l.next_confirmation, b);
@@ -232,4 +237,17 @@ pub fn cancel_bill(l: Ledger, out: &mut [u8], id: Identity) -> Called
         },
         Check::Clear => take_cancel(l, out, id, f),
     }
+}
+
+// The call cancel.
+pub fn cancel_bill(l: Ledger, out: &mut [u8], id: Identity) -> Called
+    ensures { λ a. ⌜ (a ≡ called l (cancel id (length (now (out .entry))))) × (now (out .exit) ≡ put (now (out .entry)) 0 (stepIn l (cancel id (length (now (out .entry)))) .written)) ⌝ }
+{
+    if !l.sound() {
+        return Called {
+            ledger: l,
+            answer: Answer::Refused(2),
+        };
+    }
+    cancel_on_sound(l, out, id)
 }

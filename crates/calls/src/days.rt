@@ -1,9 +1,10 @@
 // Fresh, which begins a history, and close of day, on a ledger by value.
 ghost use mathlib.Core.Path.{_≡_};
-ghost use mathlib.Core.Bool.{cond};
+ghost use mathlib.Core.Bool.{true, cond};
 ghost use Prim.Native.Nat.{_≤_};
 ghost use Rattle.ledger.specs.Lists.{count};
 ghost use Rattle.ledger.specs.Books.{live};
+ghost use Rattle.ledger.specs.Sound.{soundLedger};
 ghost use Rattle.verdict.specs.Rules.{first};
 ghost use Rattle.calls.specs.Causes.{isNumber, freshCauses, closeCauses, close};
 ghost use Rattle.calls.specs.Machine.{closes, called};
@@ -107,16 +108,11 @@ fn closed_by(l: Ledger, d: Date) -> u64
     closed
 }
 
-// Sets today to a later date.
-pub fn close_day(l: Ledger, d: Date) -> Called
+// Sets today to a later date on a ledger that is known to be sound.
+pub fn close_on_sound(l: Ledger, d: Date) -> Called
+    requires { ⌜ soundLedger l ≡ true ⌝ }
     ensures { λ a. ⌜ a ≡ called l (close d) ⌝ }
 {
-    if !l.sound() {
-        return Called {
-            ledger: l,
-            answer: Answer::Refused(2),
-        };
-    }
     let today = l.today;
     let check = close_check(d, today);
     match check {
@@ -134,4 +130,17 @@ pub fn close_day(l: Ledger, d: Date) -> Called
             }
         }
     }
+}
+
+// Sets today to a later date.
+pub fn close_day(l: Ledger, d: Date) -> Called
+    ensures { λ a. ⌜ a ≡ called l (close d) ⌝ }
+{
+    if !l.sound() {
+        return Called {
+            ledger: l,
+            answer: Answer::Refused(2),
+        };
+    }
+    close_on_sound(l, d)
 }

@@ -1,7 +1,9 @@
 // An entry's call made on a ledger by value, with its notices.
 ghost use mathlib.Core.Path.{_≡_};
+ghost use mathlib.Core.Bool.{true};
 ghost use lib.ListN.{length};
 ghost use Rattle.fields.specs.Put.{put};
+ghost use Rattle.ledger.specs.Sound.{soundLedger};
 ghost use Rattle.journal.specs.Entries.{headOf};
 ghost use Rattle.journal.specs.Made.{madeIn, writtenIn, lengthOf, turnedOn, turnWritten};
 use crate::Body;
@@ -13,14 +15,15 @@ use ledger::Ledger;
 // Makes the call of an entry: "Each call's output there is 64,200 bytes".
 pub fn make(l: Ledger, out: &mut [u8], bytes: &[u8], b: Body) -> Called
     requires { ⌜ length (now out) ≡ 64200 ⌝ }
+    requires { ⌜ soundLedger l ≡ true ⌝ }
     ensures { λ a. ⌜ (a ≡ madeIn l b (now (bytes .entry))) × (now (out .exit) ≡ put (now (out .entry)) 0 (writtenIn l b (now (bytes .entry)))) ⌝ }
 {
     match b {
         Body::Fresh(s) => calls::days::fresh(l, s),
-        Body::Request(r) => calls::bills::request_bill(l, out, r),
-        Body::File => calls::files::take_file(l, out, bytes),
-        Body::Cancel(id) => calls::bills::cancel_bill(l, out, id),
-        Body::Close(d) => calls::days::close_day(l, d),
+        Body::Request(r) => calls::bills::request_on_sound(l, out, r),
+        Body::File => calls::files::file_on_sound(l, out, bytes),
+        Body::Cancel(id) => calls::bills::cancel_on_sound(l, out, id),
+        Body::Close(d) => calls::days::close_on_sound(l, d),
         Body::Unread => Called {
             ledger: l,
             answer: Answer::Refused(2),
@@ -50,6 +53,7 @@ pub struct Turned {
 // Makes the call of the entry at the start of s, after so many entries.
 pub fn next_entry(l: Ledger, out: &mut [u8], s: &[u8], seen: u64) -> Turned
     requires { ⌜ length (now out) ≡ 64200 ⌝ }
+    requires { ⌜ soundLedger l ≡ true ⌝ }
     ensures { λ r. ⌜ (r ≡ turnedOn (headOf seen (now (s .entry))) l (now (s .entry))) × (now (out .exit) ≡ put (now (out .entry)) 0 (turnWritten (headOf seen (now (s .entry))) l (now (s .entry)))) ⌝ }
 {
     let h = crate::head_at(s, seen);

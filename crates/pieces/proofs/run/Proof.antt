@@ -51,7 +51,7 @@ part-next-entry-end-2 : tie.Need-part-next-entry-end-2 Inv-loop μ-loop
 part-next-entry-end-2 c = omega (arith, c .before .before .loop .inv .stands .within)
 
 next-entry-requires : tie.Need-next-entry-requires Inv-loop μ-loop
-next-entry-requires c κs = length-lent _ _ (c .before .before .before .loop .inv .room) (omega (arith, c .before .before .loop-test .taken))
+next-entry-requires c κs = (length-lent _ _ (c .before .before .before .loop .inv .room) (omega (arith, c .before .before .loop-test .taken)), c .before .before .before .loop .inv .stands .sure)
 
 same-length : tie.Need-same-length Inv-loop μ-loop
 same-length c = ap length (put-none _ _ (c .before .before .before .before .before .before .before .before .loop .inv .room) (omega (arith, c .before .before .before .before .before .before .before .loop-test .taken)) _ _ (end-written _ _ _ _ _ _ _ (c .before .before .before .before .before .before .before .before .loop .inv .stands) _ (c .before .before .before .before .next-entry .ensures .0) (c .if1 .taken)) (c .before .before .before .before .next-entry .ensures .1)) ∙ c .before .before .before .before .before .before .before .before .loop .inv .holds .kept

@@ -17,26 +17,26 @@ fresh-requires c κs = search needs
 enum-known-b-2 : tie.Need-enum-known-b-2
 enum-known-b-2 c = search needs
 
-request-bill-requires : tie.Need-request-bill-requires
-request-bill-requires c κs = search needs
+request-on-sound-requires : tie.Need-request-on-sound-requires
+request-on-sound-requires c κs = c .before .before .before .before .before .before .pre .1
 
 enum-told : tie.Need-enum-told
 enum-told c = search needs
 
-take-file-requires : tie.Need-take-file-requires
-take-file-requires c κs = search needs
+file-on-sound-requires : tie.Need-file-on-sound-requires
+file-on-sound-requires c κs = c .before .before .before .before .before .pre .1
 
 enum-known-b-3 : tie.Need-enum-known-b-3
 enum-known-b-3 c = search needs
 
-cancel-bill-requires : tie.Need-cancel-bill-requires
-cancel-bill-requires c κs = search needs
+cancel-on-sound-requires : tie.Need-cancel-on-sound-requires
+cancel-on-sound-requires c κs = c .before .before .before .before .before .before .pre .1
 
 enum-known-b-4 : tie.Need-enum-known-b-4
 enum-known-b-4 c = search needs
 
-close-day-requires : tie.Need-close-day-requires
-close-day-requires c κs = search needs
+close-on-sound-requires : tie.Need-close-on-sound-requires
+close-on-sound-requires c κs = c .before .before .before .before .before .pre .1
 
 enum-told-2 : tie.Need-enum-told-2
 enum-told-2 c = search needs
@@ -48,22 +48,22 @@ same-length : tie.Need-same-length
 same-length c = search needs
 
 returns-2 : tie.Need-returns-2
-returns-2 c = rw (c .before .before .before .before .before .b2 .given .1) (lent (λ (n : ℕ). request (c .before .before .before .before .before .b2 .given .0 .0) n) 64200 _ _ _ _ (c .before .before .before .before .before .before .before .before .before .pre) (c .before .before .request-bill .ensures))
+returns-2 c = rw (c .before .before .before .before .before .b2 .given .1) (lent (λ (n : ℕ). request (c .before .before .before .before .before .b2 .given .0 .0) n) 64200 _ _ _ _ (c .before .before .before .before .before .before .before .before .before .pre .0) (c .before .before .request-on-sound .ensures))
 
 same-length-2 : tie.Need-same-length-2
 same-length-2 c = search needs
 
 returns-3 : tie.Need-returns-3
-returns-3 c = rw (c .before .before .before .before .enum-told .given .1) (lent (λ (n : ℕ). file (c .before .before .before .before .before .before .before .before .args .bytes .now) n) 64200 _ _ _ _ (c .before .before .before .before .before .before .before .before .pre) (c .before .before .take-file .ensures))
+returns-3 c = rw (c .before .before .before .before .enum-told .given .1) (lent (λ (n : ℕ). file (c .before .before .before .before .before .before .before .before .args .bytes .now) n) 64200 _ _ _ _ (c .before .before .before .before .before .before .before .before .pre .0) (c .before .before .file-on-sound .ensures))
 
 same-length-3 : tie.Need-same-length-3
 same-length-3 c = search needs
 
 returns-4 : tie.Need-returns-4
-returns-4 c = rw (c .before .before .before .before .before .b3 .given .1) (lent (λ (n : ℕ). cancel (c .before .before .before .before .before .b3 .given .0 .0) n) 64200 _ _ _ _ (c .before .before .before .before .before .before .before .before .before .pre) (c .before .before .cancel-bill .ensures))
+returns-4 c = rw (c .before .before .before .before .before .b3 .given .1) (lent (λ (n : ℕ). cancel (c .before .before .before .before .before .b3 .given .0 .0) n) 64200 _ _ _ _ (c .before .before .before .before .before .before .before .before .before .pre .0) (c .before .before .cancel-on-sound .ensures))
 
 returns-5 : tie.Need-returns-5
-returns-5 c = rw (c .before .before .b4 .given .1) (c .close-day .ensures, put-nil _ 0)
+returns-5 c = rw (c .before .before .b4 .given .1) (c .close-on-sound .ensures, put-nil _ 0)
 
 returns-6 : tie.Need-returns-6
 returns-6 c = rw (c .enum-told2 .given .1) (refl, put-nil _ 0)
@@ -75,13 +75,13 @@ make-spec =
     enum-known-b
     fresh-requires
     enum-known-b-2
-    request-bill-requires
+    request-on-sound-requires
     enum-told
-    take-file-requires
+    file-on-sound-requires
     enum-known-b-3
-    cancel-bill-requires
+    cancel-on-sound-requires
     enum-known-b-4
-    close-day-requires
+    close-on-sound-requires
     enum-told-2
     returns
     same-length

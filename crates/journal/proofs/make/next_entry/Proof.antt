@@ -31,7 +31,7 @@ part-make-end : tie.Need-part-make-end
 part-make-end c = let f = whole-fits _ _ _ _ (sym (c .before .before .before .before .head-at .ensures) ∙ c .before .before .h .given .1) in omega (arith, f .1)
 
 make-requires : tie.Need-make-requires
-make-requires c κs = search needs
+make-requires c κs = c .before .before .before .before .before .before .before .before .pre
 
 written-requires : tie.Need-written-requires
 written-requires c κs = search needs

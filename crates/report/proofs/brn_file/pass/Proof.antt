@@ -47,7 +47,7 @@ part-next-entry-end : tie.Need-part-next-entry-end Inv-loop μ-loop
 part-next-entry-end c = omega arith
 
 next-entry-requires : tie.Need-next-entry-requires Inv-loop μ-loop
-next-entry-requires c κs = c .before .before .loop .inv .room
+next-entry-requires c κs = (c .before .before .loop .inv .room, c .before .before .loop .inv .stands .sure)
 
 sub-ends-bad : tie.Need-sub-ends-bad Inv-loop μ-loop
 sub-ends-bad c = omega (arith, c .before .before .before .before .before .before .loop .inv .stands .within)
