@@ -19,7 +19,7 @@ use Rattle.journal.specs.declared.Head.the-variants.{Cut, Bad, Whole}
 use Rattle.journal.specs.declared.make.Turned.{Turned}
 use Rattle.journal.specs.Entries.{headOf}
 use Rattle.journal.specs.Journal.{Parsed, more, parse, makes}
-use Rattle.journal.specs.Made.{turnedOn, turnWritten, noticesOf}
+use Rattle.journal.specs.Made.{madeAll, turnedOn, turnWritten, noticesOf}
 use Rattle.journal.proofs.HeadLaws.{whole-fits}
 use Rattle.journal.proofs.JournalLaws.{parse-cut, parse-bad, parse-whole}
 use Rattle.journal.proofs.BeginLaws.{whole-taken}
@@ -61,6 +61,10 @@ starts k seen s l few h e =
       stopped = refl;
       rest = refl;
     }
+
+-- and of the struct, places past the count too: what is left, made on l, leaves what all of s leaves of first
+abbrev pub Leaves : Ledger → ℕ → List ℕ → Ledger → ℕ → ℕ → Type 0
+Leaves first seen₀ s l seen at = madeAll l (parse seen (drop at s) .entries) ≡ madeAll first (parse seen₀ s .entries)
 
 -- the next part w of a list of which n elements are done with
 record Cuts (xs w r : List ℕ) (n m : ℕ) : Type 0 where
@@ -182,7 +186,26 @@ module _ (k : Book) (seen₀ : ℕ) (s : List ℕ) (l : Ledger) (seen at n : ℕ
   quiet Bad e t q z = refl
   quiet (Whole b m) e t q z = absurd (omega (arith, ap (λ (u : Turned). u .used) q, whole-fits seen (drop at s) b m e .0))
 
+  left-on : (first : Ledger) → Leaves first seen₀ s l seen at → (h : Head) → headOf seen (drop at s) ≡ h → (t : Turned) → t ≡ turnedOn h l (drop at s)
+      → 0 < t .used → Leaves first seen₀ s (t .ledger) (seen + 1) (at + t .used)
+  unfolding madeAll
+  left-on first x Cut e t q p = absurd (omega (arith, ap (λ (u : Turned). u .used) q))
+  left-on first x Bad e t q p = absurd (omega (arith, ap (λ (u : Turned). u .used) q))
+  left-on first x (Whole b m) e t q p = rw q (ap (λ (p : Parsed). madeAll l (p .entries)) (sym (parsed b m e)) ∙ x)
+
+  left-as : (first : Ledger) → Leaves first seen₀ s l seen at → (h : Head) → headOf seen (drop at s) ≡ h → (t : Turned) → t ≡ turnedOn h l (drop at s)
+      → t .used ≡ 0 → Leaves first seen₀ s (t .ledger) seen at
+  left-as first x Cut e t q z = rw q x
+  left-as first x Bad e t q z = rw q x
+  left-as first x (Whole b m) e t q z = absurd (omega (arith, ap (λ (u : Turned). u .used) q, whole-fits seen (drop at s) b m e .0))
+
   module _ (t : Turned) (e : t ≡ turnedOn (headOf seen here) l here) where
+    pub leaves-on : (first : Ledger) → Leaves first seen₀ s l seen at → 0 < t .used → Leaves first seen₀ s (t .ledger) (seen + 1) (at + t .used)
+    leaves-on first x p = left-on first x (headOf seen (drop at s)) refl t (rw tail at e) p
+
+    pub leaves-end : (first : Ledger) → Leaves first seen₀ s l seen at → t .used ≡ 0 → Leaves first seen₀ s (t .ledger) seen at
+    leaves-end first x z = left-as first x (headOf seen (drop at s)) refl t (rw tail at e) z
+
     pub goes-on : 0 < t .used → Goes k seen₀ s seen at n t (turnWritten (headOf seen here) l here)
     goes-on p = rw tail (went (headOf seen (drop at s)) refl t (rw tail at e) p)
 

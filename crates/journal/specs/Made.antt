@@ -41,6 +41,11 @@ abbrev pub lengthOf : Answer → ℕ
 lengthOf (Done r) = r .written
 lengthOf (Refused n) = 0
 
+-- the struct that entries leave, each on the one that the entry before left
+unfoldable pub madeAll : Ledger → List Entry → Ledger
+madeAll l [] = l
+madeAll l (e ∷ es) = madeAll (madeIn l (e .body) (e .bytes) .ledger) es
+
 -- ---- the entry that stands before a reader
 abbrev pub turnedOn : Head → Ledger → List ℕ → Turned
 turnedOn Cut l s = record { ledger = l; used = 0; written = 0; stopped = false }

@@ -13,7 +13,7 @@ use Rattle.fields.proofs.PutLaws.{length-part, put-nil, put-lent}
 use Rattle.ledger.specs.declared.Ledger.{Ledger}
 use Rattle.ledger.specs.Books.{book}
 use Rattle.journal.specs.Journal.{parse}
-use Rattle.journal.proofs.TurnLaws.{noticesIn, Stands, Holds}
+use Rattle.journal.proofs.TurnLaws.{noticesIn, Stands, Leaves, Holds}
 use Rattle.pieces.specs.Pieces.{PieceMade}
 
 -- ---- the 64,200 bytes from n on are lent
@@ -38,7 +38,7 @@ module _ (out : List ℕ) (n : ℕ) (room : n ≤ length out) (taken : 64200 ≤
 
 -- ---- what came of a piece
 module _ (first : Ledger) (before : ℕ) (s out₀ out : List ℕ) (l : Ledger) (seen at n : ℕ) (x : Stands (book first) before s l seen at n)
-    (h : Holds (noticesIn (book first) before s) out₀ out n) (room : n ≤ length out) where
+    (w : Leaves first before s l seen at) (h : Holds (noticesIn (book first) before s) out₀ out n) (room : n ≤ length out) where
   pub ran-all : (bad : Bool) → 64200 ≤ length out - n → parse seen (drop at s) ≡ record { entries = []; stopped = bad; rest = drop at s }
       → PieceMade first before s out₀ out (record { ledger = l; seen = seen; used = at; written = n; full = false; stopped = bad })
   ran-all bad q e =
@@ -47,6 +47,7 @@ module _ (first : Ledger) (before : ℕ) (s out₀ out : List ℕ) (l : Ledger) 
         others = x .notices;
         written = x .written;
         books = x .books;
+        whole = w;
         count = x .count;
         stopped = x .stopped;
         rest = x .rest;
@@ -67,6 +68,7 @@ module _ (first : Ledger) (before : ℕ) (s out₀ out : List ℕ) (l : Ledger) 
         others = x .notices;
         written = x .written;
         books = x .books;
+        whole = w;
         count = x .count;
         stopped = x .stopped;
         rest = x .rest;

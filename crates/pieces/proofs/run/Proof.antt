@@ -6,13 +6,14 @@ use mathlib.Core.List.{List}
 use lib.ListN.{length}
 use Rattle.ledger.specs.declared.Ledger.{Ledger}
 use Rattle.ledger.specs.Books.{book}
-use Rattle.journal.proofs.TurnLaws.{noticesIn, Stands, starts, goes-on, at-end, end-written, Holds, holds-none, holds-more}
+use Rattle.journal.proofs.TurnLaws.{noticesIn, Stands, starts, goes-on, at-end, end-written, Leaves, leaves-on, leaves-end, Holds, holds-none, holds-more}
 use Rattle.pieces.proofs.PieceLaws.{length-lent, put-turn, put-none, ran-all, ran-full}
 use Rattle.pieces.proofs.run.Statement.{statement}
 use Rattle.pieces.proofs.run.Tie as tie
 
 record Inv (before : ℕ) (s out₀ : List ℕ) (first : Ledger) (out : List ℕ) (l : Ledger) (seen at n : ℕ) : Type 0 where
   stands : Stands (book first) before s l seen at n
+  leaves : Leaves first before s l seen at
   holds : Holds (noticesIn (book first) before s) out₀ out n
   room : n ≤ length out
   fits : 64200 ≤ length out
@@ -24,7 +25,7 @@ abbrev μ-loop : tie.MeasureT-loop
 μ-loop before s out₀ l₀ seen₀ at₀ n₀ out l seen at n = length s - at
 
 loop-holds : tie.Need-loop-holds Inv-loop μ-loop
-loop-holds c = record { stands = starts _ _ _ _ (c .before .before .pre .1) (c .before .before .pre .2) refl; holds = holds-none _ _; room = omega arith; fits = c .before .before .pre .0 }
+loop-holds c = record { stands = starts _ _ _ _ (c .before .before .pre .1) (c .before .before .pre .2) refl; leaves = refl; holds = holds-none _ _; room = omega arith; fits = c .before .before .pre .0 }
 
 sub-loop : tie.Need-sub-loop Inv-loop μ-loop
 sub-loop c = omega (arith, c .loop .inv .room)
@@ -57,7 +58,7 @@ same-length : tie.Need-same-length Inv-loop μ-loop
 same-length c = ap length (put-none _ _ (c .before .before .before .before .before .before .before .before .loop .inv .room) (omega (arith, c .before .before .before .before .before .before .before .loop-test .taken)) _ _ (end-written _ _ _ _ _ _ _ (c .before .before .before .before .before .before .before .before .loop .inv .stands) _ (c .before .before .before .before .next-entry .ensures .0) (c .if1 .taken)) (c .before .before .before .before .next-entry .ensures .1)) ∙ c .before .before .before .before .before .before .before .before .loop .inv .holds .kept
 
 returns : tie.Need-returns Inv-loop μ-loop
-returns c = let x = at-end _ _ _ _ _ _ _ (c .before .before .before .before .before .before .before .before .loop .inv .stands) _ (c .before .before .before .before .next-entry .ensures .0) (c .if1 .taken) in rw (put-none _ _ (c .before .before .before .before .before .before .before .before .loop .inv .room) (omega (arith, c .before .before .before .before .before .before .before .loop-test .taken)) _ _ (end-written _ _ _ _ _ _ _ (c .before .before .before .before .before .before .before .before .loop .inv .stands) _ (c .before .before .before .before .next-entry .ensures .0) (c .if1 .taken)) (c .before .before .before .before .next-entry .ensures .1)) (ran-all _ _ _ _ _ _ _ _ _ (x .stands) (c .before .before .before .before .before .before .before .before .loop .inv .holds) (c .before .before .before .before .before .before .before .before .loop .inv .room) _ (omega (arith, c .before .before .before .before .before .before .before .loop-test .taken)) (x .left))
+returns c = let x = at-end _ _ _ _ _ _ _ (c .before .before .before .before .before .before .before .before .loop .inv .stands) _ (c .before .before .before .before .next-entry .ensures .0) (c .if1 .taken) in rw (put-none _ _ (c .before .before .before .before .before .before .before .before .loop .inv .room) (omega (arith, c .before .before .before .before .before .before .before .loop-test .taken)) _ _ (end-written _ _ _ _ _ _ _ (c .before .before .before .before .before .before .before .before .loop .inv .stands) _ (c .before .before .before .before .next-entry .ensures .0) (c .if1 .taken)) (c .before .before .before .before .next-entry .ensures .1)) (ran-all _ _ _ _ _ _ _ _ _ (x .stands) (leaves-end _ _ _ _ _ _ _ (c .before .before .before .before .before .before .before .before .loop .inv .stands) _ (c .before .before .before .before .next-entry .ensures .0) _ (c .before .before .before .before .before .before .before .before .loop .inv .leaves) (c .if1 .taken)) (c .before .before .before .before .before .before .before .before .loop .inv .holds) (c .before .before .before .before .before .before .before .before .loop .inv .room) _ (omega (arith, c .before .before .before .before .before .before .before .loop-test .taken)) (x .left))
 
 add-n : tie.Need-add-n Inv-loop μ-loop
 add-n c = let x = goes-on _ _ _ _ _ _ _ (c .before .before .before .before .before .before .before .before .before .loop .inv .stands) _ (c .before .before .before .before .before .next-entry .ensures .0) (omega arith) in omega (arith, x .next .within, x .next .few, x .short, c .before .before .before .before .before .before .before .before .before .loop .inv .room)
@@ -72,13 +73,13 @@ loop-less : tie.Need-loop-less Inv-loop μ-loop
 loop-less c = let x = goes-on _ _ _ _ _ _ _ (c .before .before .before .before .before .before .before .before .before .loop .inv .stands) _ (c .before .before .before .before .before .next-entry .ensures .0) (omega arith) in omega (arith, x .next .within, x .next .few, x .short, c .before .before .before .before .before .before .before .before .before .loop .inv .room)
 
 loop-again : tie.Need-loop-again Inv-loop μ-loop
-loop-again c = let x = goes-on _ _ _ _ _ _ _ (c .before .before .before .before .before .before .before .before .before .loop .inv .stands) _ (c .before .before .before .before .before .next-entry .ensures .0) (omega arith) in let e = put-turn _ _ (c .before .before .before .before .before .before .before .before .before .loop .inv .room) (omega (arith, c .before .before .before .before .before .before .before .before .loop-test .taken)) _ _ (omega (arith, x .long, x .short)) (c .before .before .before .before .before .next-entry .ensures .1) in let h = holds-more _ _ _ _ _ _ (x .next .written) (omega (arith, x .short, c .before .before .before .before .before .before .before .before .before .loop .inv .holds .kept, c .before .before .before .before .before .before .before .before .before .loop .inv .room, c .before .before .before .before .before .before .before .before .loop-test .taken)) (x .long) (x .front) (c .before .before .before .before .before .before .before .before .before .loop .inv .holds) in record { stands = x .next; holds = rw e h; room = rw e (omega (arith, x .short, h .kept, c .before .before .before .before .before .before .before .before .before .loop .inv .holds .kept, c .before .before .before .before .before .before .before .before .before .loop .inv .room, c .before .before .before .before .before .before .before .before .loop-test .taken)); fits = rw e (omega (arith, h .kept, c .before .before .before .before .before .before .before .before .before .loop .inv .holds .kept, c .before .before .before .before .before .before .before .before .before .loop .inv .fits)) }
+loop-again c = let x = goes-on _ _ _ _ _ _ _ (c .before .before .before .before .before .before .before .before .before .loop .inv .stands) _ (c .before .before .before .before .before .next-entry .ensures .0) (omega arith) in let e = put-turn _ _ (c .before .before .before .before .before .before .before .before .before .loop .inv .room) (omega (arith, c .before .before .before .before .before .before .before .before .loop-test .taken)) _ _ (omega (arith, x .long, x .short)) (c .before .before .before .before .before .next-entry .ensures .1) in let h = holds-more _ _ _ _ _ _ (x .next .written) (omega (arith, x .short, c .before .before .before .before .before .before .before .before .before .loop .inv .holds .kept, c .before .before .before .before .before .before .before .before .before .loop .inv .room, c .before .before .before .before .before .before .before .before .loop-test .taken)) (x .long) (x .front) (c .before .before .before .before .before .before .before .before .before .loop .inv .holds) in record { stands = x .next; leaves = leaves-on _ _ _ _ _ _ _ (c .before .before .before .before .before .before .before .before .before .loop .inv .stands) _ (c .before .before .before .before .before .next-entry .ensures .0) _ (c .before .before .before .before .before .before .before .before .before .loop .inv .leaves) (omega arith); holds = rw e h; room = rw e (omega (arith, x .short, h .kept, c .before .before .before .before .before .before .before .before .before .loop .inv .holds .kept, c .before .before .before .before .before .before .before .before .before .loop .inv .room, c .before .before .before .before .before .before .before .before .loop-test .taken)); fits = rw e (omega (arith, h .kept, c .before .before .before .before .before .before .before .before .before .loop .inv .holds .kept, c .before .before .before .before .before .before .before .before .before .loop .inv .fits)) }
 
 same-length-2 : tie.Need-same-length-2 Inv-loop μ-loop
 same-length-2 c = c .before .loop .inv .holds .kept
 
 returns-2 : tie.Need-returns-2 Inv-loop μ-loop
-returns-2 c = ran-full _ _ _ _ _ _ _ _ _ (c .before .loop .inv .stands) (c .before .loop .inv .holds) (c .before .loop .inv .room) (c .before .loop .inv .fits) (omega (arith, c .loop-test .left))
+returns-2 c = ran-full _ _ _ _ _ _ _ _ _ (c .before .loop .inv .stands) (c .before .loop .inv .leaves) (c .before .loop .inv .holds) (c .before .loop .inv .room) (c .before .loop .inv .fits) (omega (arith, c .loop-test .left))
 
 pub run-spec : {M : Type 1} → statement M
 run-spec =
