@@ -8,6 +8,7 @@ use reference::notices::NOTICE_LENGTH;
 use reference::words::{self, text, BLANK, HEAD};
 use reference::{table, Cause, Ledger};
 
+use crate::asked;
 use crate::ledger::{self, account, GROUPS, KEY};
 use crate::lent::Lent;
 
@@ -99,7 +100,7 @@ fn request(name: &str, words: &[u64], request: Request) -> Kind {
         }),
         reference: Box::new(move |lent| {
             change(lent, |ledger, out| {
-                let done = ledger.request(&ledger::read(&same).ok_or(Cause::BadField)?, Some(out))?;
+                let done = ledger.request(&asked::read(&same).ok_or(Cause::BadField)?, Some(out))?;
                 Ok((done.change, [done.written, 0, 0, 0]))
             })
         }),

@@ -1,13 +1,14 @@
 //! The ledgers, requests, files and journals that the calls are made on.
 
 use library::Request;
-use reference::fields::{Product, RateCode};
 use reference::groups::{self, Amounts, Sent};
 use reference::ledger::BILL_LIMIT;
 use reference::verdict::Notification;
-use reference::words::{consumption, date, identity};
+use reference::words::date;
 use reference::workload::Workload;
 use reference::{Bill, Ledger};
+
+use crate::asked::read;
 
 pub const KEY: u64 = 7;
 /// So many groups of two records are the longest file.
@@ -29,19 +30,6 @@ pub fn request(bill: usize, consumption: u64) -> Request {
         consumption,
         scheduled: 20171116,
     }
-}
-
-/// The request as the reference takes it; None if a number is not in its range.
-pub fn read(request: &Request) -> Option<reference::Request> {
-    Some(reference::Request {
-        rate_code: RateCode::read(&request.code)?,
-        identity: identity(request.account, request.key)?,
-        product: Product::read(request.product)?,
-        billing_date: date(request.billing)?,
-        from_date: date(request.from)?,
-        consumption: consumption(request.consumption)?,
-        scheduled_date: date(request.scheduled)?,
-    })
 }
 
 /// A ledger of so many open bills, each with a posted charge.

@@ -1,5 +1,7 @@
 //! bench: how long each call of libclearing_c.a takes beside the second implementation, in one process.
 
+#[path = "../../asked.rs"]
+mod asked;
 mod kinds;
 mod ledger;
 mod lent;

@@ -8,6 +8,8 @@ use reference::notices::NOTICE_LENGTH;
 use reference::words::{consumption, date, identity, text};
 use reference::{Cause, Ledger};
 
+use crate::asked::read;
+
 #[derive(Clone, Debug, PartialEq)]
 pub enum Call {
     Fresh { today: u64, tracking: u64, confirmation: u64 },
@@ -137,16 +139,4 @@ impl fmt::Display for Call {
 
 fn figures(change: i64, counts: [usize; 4]) -> Answer {
     Answer::Done(change, counts.map(|count| count as u64))
-}
-
-fn read(request: &Request) -> Option<reference::Request> {
-    Some(reference::Request {
-        rate_code: RateCode::read(&request.code)?,
-        identity: identity(request.account, request.key)?,
-        product: Product::read(request.product)?,
-        billing_date: date(request.billing)?,
-        from_date: date(request.from)?,
-        consumption: consumption(request.consumption)?,
-        scheduled_date: date(request.scheduled)?,
-    })
 }

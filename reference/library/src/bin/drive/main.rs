@@ -2,6 +2,8 @@
 
 mod aim;
 mod arguments;
+#[path = "../../asked.rs"]
+mod asked;
 mod base;
 mod both;
 mod call;

@@ -1,0 +1,18 @@
+//! A request's arguments as the second implementation takes them, for drive and for bench.
+
+use library::Request;
+use reference::fields::{Product, RateCode};
+use reference::words::{consumption, date, identity};
+
+/// None if an argument is not in its range.
+pub fn read(request: &Request) -> Option<reference::Request> {
+    Some(reference::Request {
+        rate_code: RateCode::read(&request.code)?,
+        identity: identity(request.account, request.key)?,
+        product: Product::read(request.product)?,
+        billing_date: date(request.billing)?,
+        from_date: date(request.from)?,
+        consumption: consumption(request.consumption)?,
+        scheduled_date: date(request.scheduled)?,
+    })
+}
