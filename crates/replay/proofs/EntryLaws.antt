@@ -1,8 +1,8 @@
 -- What an entry does on small values and in place is what its call does. Assumes nothing.
-use Prim.Native.Nat.{ℕ, _*_, _/_, _≤_, _<_}
-use mathlib.Core.Path.{_≡_, refl, sym, ap, _∙_, subst}
-use mathlib.Core.Bool.{true, false, true≢false}
-use mathlib.Core.List.{List, [], _∷_}
+use Prim.Native.Nat.{ℕ, _+_, _*_, _/_, _≤_, _<_}
+use mathlib.Core.Path.{_≡_, refl, sym, ap, ap₂, _∙_, subst}
+use mathlib.Core.Bool.{Bool, true, false, true≢false}
+use mathlib.Core.List.{List, [], _∷_, _++_, append-nil}
 use native.Mathlib.Omega.{arith}
 use lib.ListN.{length, take}
 use lib.Seq.{set-getD}
@@ -23,7 +23,7 @@ use Rattle.verdict.specs.declared.Check.{Check}
 use Rattle.verdict.specs.declared.Check.the-variants.{Clear, Stop}
 use Rattle.verdict.specs.Rules.{first}
 use Rattle.verdict.specs.Lines.{isNothing}
-use Rattle.groups.specs.Groups.{taken}
+use Rattle.groups.specs.Groups.{taken, answers}
 use Rattle.groups.specs.Steps.{billAt}
 use Rattle.groups.proofs.TurnLaws.{stored-book}
 use Rattle.groups.proofs.GroupWalk.{book-stored}
@@ -31,19 +31,20 @@ use Rattle.calls.specs.declared.Start.{Start}
 use Rattle.calls.specs.declared.Request.{Request}
 use Rattle.calls.specs.declared.Called.{Called}
 use Rattle.calls.specs.Causes.{Call, request, file, cancel, close, freshCauses, requestCauses, fileCauses, cancelCauses, closeCauses, causes}
-use Rattle.calls.specs.Machine.{next, after, causeIn, ran}
+use Rattle.calls.specs.Machine.{next, nextWritten, outcome, outcomes, after, causeIn, stepIn, ran}
 use Rattle.calls.specs.BillSteps.{billFound, askedAt, storedAt, counted, HasPlace}
-use Rattle.calls.proofs.CallLaws.{cause-sound, called-stop, called-clear}
+use Rattle.calls.proofs.CallLaws.{cause-sound, called-stop, called-clear, written-clear}
 use Rattle.calls.proofs.CauseLaws.{asks, sends, cancels}
-use Rattle.calls.proofs.BillLaws.{request-cause, request-place, request-left, cancel-cause, cancel-left}
+use Rattle.calls.proofs.BillLaws.{request-cause, request-place, request-left, request-bytes, cancel-cause, cancel-left, cancel-bytes}
 use Rattle.calls.proofs.DayLaws.{dated, close-done, fresh-sound}
 use Rattle.calls.proofs.FileCallLaws.{good-short, file-groups, cause-file}
 use Rattle.calls.proofs.RunLaws.{runs}
 use Rattle.journal.specs.declared.Body.{Body}
 use Rattle.journal.specs.declared.Body.the-variants as body
 use Rattle.journal.specs.Journal.{callOf, made}
-use Rattle.journal.proofs.MadeLaws.{Taken}
-use Rattle.replay.specs.Steps.{findFor, slotOf, soughtBy, SoundAt, RenewsAt, recordsBy, toTake, askedBy, grown, kept, usedBy, requestBy, cancelBy, closeBy, leftBy, topOf, leftAt}
+use Rattle.journal.specs.Made.{writtenBy}
+use Rattle.journal.proofs.MadeLaws.{Taken, made-written}
+use Rattle.replay.specs.Steps.{findFor, slotOf, soughtBy, SoundAt, RenewsAt, recordsBy, toTake, askedBy, grown, kept, usedBy, requestBy, cancelBy, closeBy, leftBy, topOf, leftAt, formerBy, noticeOf, noticeBy, sizeFor}
 use Rattle.replay.proofs.SpotLaws.{Lists, lists-find, Spots, none, some, spots, spot-sought, spot-sound}
 use Rattle.replay.proofs.RecordWalk.{Taking, taking-end}
 
@@ -73,15 +74,29 @@ to-take-few body.File s t c = go (first (fileCauses s 64200 t c)) refl
     go Clear e = rw e (omega (arith, good-short s (sends s 64200 t c e .good)), omega arith)
     go (Stop m) e = rw e (omega arith, omega arith)
 
+-- and their answers leave room for the entry's notice
+pub take-room : (b : Body) (s : List ℕ) (t c : ℕ) → toTake b s t c * 321 + sizeFor b ≤ 64200
+unfolding toTake
+take-room (body.Fresh x) s t c = omega arith
+take-room (body.Request r) s t c = omega arith
+take-room (body.Cancel id) s t c = omega arith
+take-room (body.Close d) s t c = omega arith
+take-room body.Unread s t c = omega arith
+take-room body.File s t c = omega (arith, to-take-few body.File s t c .0)
+
 -- one call on the struct
 module _ (l : Ledger) (c : Call) where
-  ran-clear : causeIn l c ≡ Clear → ran l (c ∷ []) ≡ stored l (next (book l) c)
+  pub ran-clear : causeIn l c ≡ Clear → ran l (c ∷ []) ≡ stored l (next (book l) c)
   unfolding ran
   ran-clear e = sym (ap (λ (r : Called). r .ledger) (called-clear l c e _ _ refl refl))
 
-  ran-stop : (n : ℕ) → causeIn l c ≡ Stop n → ran l (c ∷ []) ≡ l
+  pub ran-stop : (n : ℕ) → causeIn l c ≡ Stop n → ran l (c ∷ []) ≡ l
   unfolding ran
   ran-stop n e = sym (ap (λ (r : Called). r .ledger) (called-stop l c n e))
+
+  pub written-stop : (n : ℕ) → causeIn l c ≡ Stop n → [] ≡ stepIn l c .written
+  unfolding stepIn outcome
+  written-stop n e = rw e
 
   -- past its bills the struct holds what it held
   ran-one : l .count ≤ length (l .bills) → ran l (c ∷ []) ≡ stored l (book (ran l (c ∷ [])))
@@ -116,33 +131,35 @@ module _ (l : Ledger) (long : length (l .bills) ≡ 128) (sure : soundLedger l �
   fits : l .count ≤ length (l .bills)
   fits = omega (arith, ledger-count l sure)
 
-  abbrev takes : List ℕ → ℕ → Ledger
+  abbrev pub takes : List ℕ → ℕ → Ledger
   takes s n = stored l (taken [] (book l) (groups (recordsFrom s 0 n)))
 
   takes-none : (s : List ℕ) → takes s 0 ≡ l
   unfolding recordsFrom groups taken
   takes-none s = stored-book l fits
 
-  file-filed : (s : List ℕ) (k : Check) → first (fileCauses s 64200 (l .«next_tracking») (l .«next_confirmation»)) ≡ k
-      → takes s (recordsBy k (length s / 321)) ≡ ran l (file s 64200 ∷ [])
+  pub file-filed : (room : ℕ) (s : List ℕ) (k : Check) → first (fileCauses s room (l .«next_tracking») (l .«next_confirmation»)) ≡ k
+      → takes s (recordsBy k (length s / 321)) ≡ ran l (file s room ∷ [])
   unfolding next
-  file-filed s Clear e =
-      sym (ran-clear l (file s 64200) (cause-file l s 64200 Clear sure (sym e)) ∙ ap (λ gs. stored l (taken [] (book l) gs)) (file-groups s))
-  file-filed s (Stop n) e = takes-none s ∙ sym (ran-stop l (file s 64200) n (cause-file l s 64200 (Stop n) sure (sym e)))
+  file-filed room s Clear e =
+      sym (ran-clear l (file s room) (cause-file l s room Clear sure (sym e)) ∙ ap (λ gs. stored l (taken [] (book l) gs)) (file-groups s))
+  file-filed room s (Stop n) e = takes-none s ∙ sym (ran-stop l (file s room) n (cause-file l s room (Stop n) sure (sym e)))
 
   pub takes-filed : (b : Body) (s : List ℕ) → takes s (toTake b s (l .«next_tracking») (l .«next_confirmation»)) ≡ filed b s l
   unfolding toTake
   takes-filed (body.Fresh x) s = takes-none s
   takes-filed (body.Request r) s = takes-none s
-  takes-filed body.File s = file-filed s (first (fileCauses s 64200 (l .«next_tracking») (l .«next_confirmation»))) refl
+  takes-filed body.File s = file-filed 64200 s (first (fileCauses s 64200 (l .«next_tracking») (l .«next_confirmation»))) refl
   takes-filed (body.Cancel id) s = takes-none s
   takes-filed (body.Close d) s = takes-none s
   takes-filed body.Unread s = takes-none s
 
 -- what came of the walk over the records
-pub filed-by : (l : Ledger) (ns ks : List ℕ) (k : Ledger) (n i : ℕ) (b : Body) (s : List ℕ) → length (l .bills) ≡ 128 → soundLedger l ≡ true
-    → Taking s n l ns ks k i → n ≤ i → n ≡ toTake b s (l .«next_tracking») (l .«next_confirmation») → k ≡ filed b s l
-filed-by l ns ks k n i b s long sure w h e = taking-end s n l ns ks k i w h ∙ ap (takes l long sure s) e ∙ takes-filed l long sure b s
+pub filed-by : (l : Ledger) (ns ks : List ℕ) (writes : Bool) (a : ℕ) (out₀ : List ℕ) (k : Ledger) (out : List ℕ) (m n i : ℕ) (b : Body) (s : List ℕ)
+    → length (l .bills) ≡ 128 → soundLedger l ≡ true → Taking s n l ns ks writes a out₀ k out m i → n ≤ i
+    → n ≡ toTake b s (l .«next_tracking») (l .«next_confirmation») → k ≡ filed b s l
+filed-by l ns ks writes a out₀ k out m n i b s long sure w h e =
+    taking-end s n l ns ks writes a out₀ k out m i w h ∙ ap (takes l long sure s) e ∙ takes-filed l long sure b s
 
 pub filed-sound : (l : Ledger) → soundLedger l ≡ true → (b : Body) (s : List ℕ) → soundLedger (filed b s l) ≡ true
 filed-sound l h (body.Fresh x) s = h
@@ -154,68 +171,120 @@ filed-sound l h body.Unread s = h
 
 -- ---- the other entries
 -- the same top and the same bill stored leave the struct as it was
-pub kept-same : (l : Ledger) (p : ℕ) → leftAt l p (kept (topOf l) (billAt l p)) ≡ l
-kept-same l p = rw (set-getD (l .bills) p blankBill)
+pub kept-same : (k : Check) (l : Ledger) (p : ℕ) → leftAt l p (kept k (topOf l) (billAt l p)) ≡ l
+kept-same k l p = rw (set-getD (l .bills) p blankBill)
 
 module _ (l : Ledger) (long : length (l .bills) ≡ 128) (sure : soundLedger l ≡ true) (f : Found) (p : ℕ) (q : p ≡ slotOf f (l .count)) where
   -- a request
-  module _ (r : Request) (e : f ≡ placeOf (r .identity) (live l)) where
+  module _ (room : ℕ) (r : Request) (e : f ≡ placeOf (r .identity) (live l)) where
     asks-at : Spots l f p → HasPlace l f
-        → leftAt l p (kept (usedBy (topOf l) (grown f (l .count))) (askedBy r (l .«next_tracking») f (billAt l p))) ≡ counted (storedAt l f (askedAt r l f))
+        → leftAt l p (kept Clear (usedBy (topOf l) (grown f (l .count))) (askedBy r (l .«next_tracking») f (billAt l p))) ≡ counted (storedAt l f (askedAt r l f))
     asks-at (none x y) h =
         let k : l .count < 128 = rw x at h in
         let z : p ≡ l .count = y ∙ rw (lt-ltb (l .count) 128 k) in
         rw (x, z)
     asks-at (some x y) h = rw x
 
-    request-by : (k : Check)
-        → first (requestCauses r 64200 (l .today) (l .«next_tracking») (l .«next_confirmation») (l .count) (soughtBy f (billAt l p))) ≡ k
-        → leftAt l p (requestBy k r (topOf l) f (billAt l p)) ≡ ran l (request r 64200 ∷ [])
+    pub request-by : (k : Check)
+        → first (requestCauses r room (l .today) (l .«next_tracking») (l .«next_confirmation») (l .count) (soughtBy f (billAt l p))) ≡ k
+        → leftAt l p (requestBy k r (topOf l) f (billAt l p)) ≡ ran l (request r room ∷ [])
     request-by Clear z =
-        let c = request-cause l long sure r 64200 e (spot-sought l f p (spots l (ledger-count l sure) (r .identity) f p e q)) (sym z) in
-        asks-at (spots l (ledger-count l sure) (r .identity) f p e q) (rw e (request-place l long r 64200 c))
+        let c = request-cause l long sure r room e (spot-sought l f p (spots l (ledger-count l sure) (r .identity) f p e q)) (sym z) in
+        asks-at (spots l (ledger-count l sure) (r .identity) f p e q) (rw e (request-place l long r room c))
         ∙ ap (λ (i : Found). counted (storedAt l i (askedAt r l i))) e
-        ∙ request-left l long r 64200 c
-        ∙ sym (ran-clear l (request r 64200) c)
+        ∙ request-left l long r room c
+        ∙ sym (ran-clear l (request r room) c)
     request-by (Stop n) z =
-        let c = request-cause l long sure r 64200 e (spot-sought l f p (spots l (ledger-count l sure) (r .identity) f p e q)) (sym z) in
-        kept-same l p ∙ sym (ran-stop l (request r 64200) n c)
+        let c = request-cause l long sure r room e (spot-sought l f p (spots l (ledger-count l sure) (r .identity) f p e q)) (sym z) in
+        kept-same (Stop n) l p ∙ sym (ran-stop l (request r room) n c)
+
+    -- the bill and the consumption before it that the notice tells are those of the place
+    asked-at : Spots l f p → askedBy r (l .«next_tracking») f (billAt l p) ≡ askedAt r l f
+    asked-at (none x y) = rw x
+    asked-at (some x y) = rw x
+
+    former-at : Spots l f p → formerBy f (billAt l p) ≡ billFound l f .terms .latest .consumption
+    former-at (none x y) = rw x
+    former-at (some x y) = rw x
+
+    pub request-says : (k : Check)
+        → first (requestCauses r room (l .today) (l .«next_tracking») (l .«next_confirmation») (l .count) (soughtBy f (billAt l p))) ≡ k
+        → noticeBy (requestBy k r (topOf l) f (billAt l p) .check) (body.Request r) (topOf l) f (billAt l p) (requestBy k r (topOf l) f (billAt l p) .bill)
+        ≡ stepIn l (request r room) .written
+    unfolding noticeOf
+    request-says Clear z =
+        let w = spots l (ledger-count l sure) (r .identity) f p e q in
+        let c = request-cause l long sure r room e (spot-sought l f p w) (sym z) in
+        rw (former-at w) (request-bytes l long r room c f e (asked-at w) refl)
+    request-says (Stop n) z =
+        written-stop l (request r room) n (request-cause l long sure r room e (spot-sought l f p (spots l (ledger-count l sure) (r .identity) f p e q)) (sym z))
 
   -- a cancel
-  module _ (id : Identity) (e : f ≡ placeOf id (live l)) where
+  module _ (room : ℕ) (id : Identity) (e : f ≡ placeOf id (live l)) where
     cancels-at : Spots l f p → isNothing (soughtBy f (billAt l p)) ≡ false
-        → leftAt l p (kept (usedBy (topOf l) (l .count)) (cancelledBill (billAt l p))) ≡ counted (storedAt l f (cancelledBill (billFound l f)))
+        → leftAt l p (kept Clear (usedBy (topOf l) (l .count)) (cancelledBill (billAt l p))) ≡ counted (storedAt l f (cancelledBill (billFound l f)))
     cancels-at (none x y) h = absurd (true≢false (subst (λ (i : Found). isNothing (soughtBy i (billAt l p)) ≡ false) x h))
     cancels-at (some x y) h = rw x
 
-    cancel-by : (k : Check) → first (cancelCauses id 64200 (l .«next_tracking») (l .«next_confirmation») (soughtBy f (billAt l p))) ≡ k
-        → leftAt l p (cancelBy k (topOf l) (billAt l p)) ≡ ran l (cancel id 64200 ∷ [])
+    pub cancel-by : (k : Check) → first (cancelCauses id room (l .«next_tracking») (l .«next_confirmation») (soughtBy f (billAt l p))) ≡ k
+        → leftAt l p (cancelBy k (topOf l) (billAt l p)) ≡ ran l (cancel id room ∷ [])
     cancel-by Clear z =
-        let c = cancel-cause l long sure id 64200 e (spot-sought l f p (spots l (ledger-count l sure) id f p e q)) (sym z) in
-        cancels-at (spots l (ledger-count l sure) id f p e q) (cancels id 64200 (l .«next_tracking») (l .«next_confirmation») (soughtBy f (billAt l p)) z .known)
+        let c = cancel-cause l long sure id room e (spot-sought l f p (spots l (ledger-count l sure) id f p e q)) (sym z) in
+        cancels-at (spots l (ledger-count l sure) id f p e q) (cancels id room (l .«next_tracking») (l .«next_confirmation») (soughtBy f (billAt l p)) z .known)
         ∙ ap (λ (i : Found). counted (storedAt l i (cancelledBill (billFound l i)))) e
-        ∙ cancel-left l long id 64200 c
-        ∙ sym (ran-clear l (cancel id 64200) c)
+        ∙ cancel-left l long id room c
+        ∙ sym (ran-clear l (cancel id room) c)
     cancel-by (Stop n) z =
-        let c = cancel-cause l long sure id 64200 e (spot-sought l f p (spots l (ledger-count l sure) id f p e q)) (sym z) in
-        kept-same l p ∙ sym (ran-stop l (cancel id 64200) n c)
+        let c = cancel-cause l long sure id room e (spot-sought l f p (spots l (ledger-count l sure) id f p e q)) (sym z) in
+        kept-same (Stop n) l p ∙ sym (ran-stop l (cancel id room) n c)
+
+    pub cancel-says : (k : Check) → first (cancelCauses id room (l .«next_tracking») (l .«next_confirmation») (soughtBy f (billAt l p))) ≡ k
+        → noticeBy (cancelBy k (topOf l) (billAt l p) .check) (body.Cancel id) (topOf l) f (billAt l p) (cancelBy k (topOf l) (billAt l p) .bill)
+        ≡ stepIn l (cancel id room) .written
+    unfolding noticeOf
+    cancel-says Clear z =
+        let w = spots l (ledger-count l sure) id f p e q in
+        let c = cancel-cause l long sure id room e (spot-sought l f p w) (sym z) in
+        cancel-bytes l long id room c f e (bill-at w (cancels id room (l .«next_tracking») (l .«next_confirmation») (soughtBy f (billAt l p)) z .known))
+      where
+        bill-at : Spots l f p → isNothing (soughtBy f (billAt l p)) ≡ false → billAt l p ≡ billFound l f
+        bill-at (none x y) h = absurd (true≢false (subst (λ (i : Found). isNothing (soughtBy i (billAt l p)) ≡ false) x h))
+        bill-at (some x y) h = rw x
+    cancel-says (Stop n) z =
+        written-stop l (cancel id room) n (cancel-cause l long sure id room e (spot-sought l f p (spots l (ledger-count l sure) id f p e q)) (sym z))
 
   -- a close
   module _ (d : Date) where
-    close-cause : (k : Check) → first (closeCauses d (l .today)) ≡ k → causeIn l (close d) ≡ k
+    pub close-cause : (k : Check) → first (closeCauses d (l .today)) ≡ k → causeIn l (close d) ≡ k
     unfolding causes
     close-cause k z = cause-sound l (close d) sure ∙ z
 
-    close-by : (k : Check) → first (closeCauses d (l .today)) ≡ k → leftAt l p (kept (closeBy k d (topOf l)) (billAt l p)) ≡ ran l (close d ∷ [])
+    pub close-by : (k : Check) → first (closeCauses d (l .today)) ≡ k → leftAt l p (closeBy k d (topOf l) (billAt l p)) ≡ ran l (close d ∷ [])
     unfolding ran
     close-by Clear z =
-        kept-same (dated l d) p
+        kept-same Clear (dated l d) p
         ∙ sym (ap (λ (r : Called). r .ledger) (close-done l d (omega (arith, ledger-count l sure)) (close-cause Clear z)))
-    close-by (Stop n) z = kept-same l p ∙ sym (ran-stop l (close d) n (close-cause (Stop n) z))
+    close-by (Stop n) z = kept-same (Stop n) l p ∙ sym (ran-stop l (close d) n (close-cause (Stop n) z))
 
-unread-by : (l : Ledger) (p : ℕ) → leftAt l p (kept (topOf l) (billAt l p)) ≡ ran l []
+unread-by : (l : Ledger) (p : ℕ) → leftAt l p (kept (Stop 2) (topOf l) (billAt l p)) ≡ ran l []
 unfolding ran
-unread-by l p = kept-same l p
+unread-by l p = kept-same (Stop 2) l p
+
+-- ---- the answers to a file's groups are what its call writes
+module _ (l : Ledger) (sure : soundLedger l ≡ true) where
+  abbrev pub answersOf : List ℕ → ℕ → List ℕ
+  answersOf s n = answers [] (book l) (groups (recordsFrom s 0 n))
+
+  answers-none : (s : List ℕ) → answersOf s 0 ≡ []
+  unfolding recordsFrom groups answers
+  answers-none s = refl
+
+  pub file-says : (room : ℕ) (s : List ℕ) (k : Check) → first (fileCauses s room (l .«next_tracking») (l .«next_confirmation»)) ≡ k
+      → answersOf s (recordsBy k (length s / 321)) ≡ stepIn l (file s room) .written
+  unfolding nextWritten
+  file-says room s Clear e =
+      sym (written-clear l (file s room) (cause-file l s room Clear sure (sym e)) ∙ ap (λ gs. answers [] (book l) gs) (file-groups s))
+  file-says room s (Stop n) e = answers-none s ∙ written-stop l (file s room) n (cause-file l s room (Stop n) sure (sym e))
 
 -- ---- an entry, its groups taken
 -- the struct that an entry leaves, and that it is sound
@@ -268,9 +337,40 @@ module _ (l : Ledger) (room : length (l .bills) ≡ 128) (sure : soundLedger l �
   entered (body.Fresh x) z t f p e q =
       fresh-entered x s l _ (set-getD (k .bills) p blankBill ∙ ap (λ (m : Ledger). m .bills) z) t
   entered (body.Request r) z t f p e q =
-      by-call (body.Request r) refl z _ (λ h. request-by k long h f p q r (e ∙ lists-find k ns ks w (r .identity)) _ refl)
-  entered body.File z t f p e q = entered-by body.File s l _ room sure refl (kept-same k p ∙ z)
+      by-call (body.Request r) refl z _ (λ h. request-by k long h f p q 64200 r (e ∙ lists-find k ns ks w (r .identity)) _ refl)
+  entered body.File z t f p e q = entered-by body.File s l _ room sure refl (kept-same Clear k p ∙ z)
   entered (body.Cancel id) z t f p e q =
-      by-call (body.Cancel id) refl z _ (λ h. cancel-by k long h f p q id (e ∙ lists-find k ns ks w id) _ refl)
+      by-call (body.Cancel id) refl z _ (λ h. cancel-by k long h f p q 64200 id (e ∙ lists-find k ns ks w id) _ refl)
   entered (body.Close d) z t f p e q = by-call (body.Close d) refl z _ (λ h. close-by k long h f p q d _ refl)
   entered body.Unread z t f p e q = by-call body.Unread refl z _ (λ h. unread-by k p)
+
+  -- what it writes: the answers to its groups, and then its notice
+  abbrev sent : Body → List ℕ
+  sent b = answers [] (book l) (groups (recordsFrom s 0 (toTake b s (l .«next_tracking») (l .«next_confirmation»))))
+
+  abbrev told : Body → Found → ℕ → List ℕ
+  told b f p = let x = leftBy b (topOf k) f (billAt k p) in noticeBy (x .check) b (topOf k) f (billAt k p) (x .bill)
+
+  pub says : (b : Body) → k ≡ filed b s l → (f : Found) (p : ℕ) → f ≡ findFor b (take (k .count) ns) (take (k .count) ks)
+      → p ≡ slotOf f (k .count) → sent b ++ told b f p ≡ writtenBy (outcomes (book l) (callOf b s))
+  unfolding findFor leftBy toTake noticeOf
+  says (body.Fresh x) z f p e q = ap (λ (a : List ℕ). a ++ []) (answers-none l sure s) ∙ made-written l sure (body.Fresh x) s
+  says (body.Request r) z f p e q =
+      let h : soundLedger k ≡ true = rw z sure in
+      ap (λ (a : List ℕ). a ++ told (body.Request r) f p) (answers-none l sure s)
+      ∙ request-says k long h f p q 64200 r (e ∙ lists-find k ns ks w (r .identity)) _ refl
+      ∙ ap (λ (j : Ledger). stepIn j (request r 64200) .written) z
+      ∙ made-written l sure (body.Request r) s
+  says body.File z f p e q = append-nil (sent body.File) ∙ file-says l sure 64200 s _ refl ∙ made-written l sure body.File s
+  says (body.Cancel id) z f p e q =
+      let h : soundLedger k ≡ true = rw z sure in
+      ap (λ (a : List ℕ). a ++ told (body.Cancel id) f p) (answers-none l sure s)
+      ∙ cancel-says k long h f p q 64200 id (e ∙ lists-find k ns ks w id) _ refl
+      ∙ ap (λ (j : Ledger). stepIn j (cancel id 64200) .written) z
+      ∙ made-written l sure (body.Cancel id) s
+  says (body.Close d) z f p e q = ap₂ (λ (a b : List ℕ). a ++ b) (answers-none l sure s) (quiet (first (closeCauses d (k .today)))) ∙ made-written l sure (body.Close d) s
+    where
+      quiet : (v : Check) → noticeBy (closeBy v d (topOf k) (billAt k p) .check) (body.Close d) (topOf k) f (billAt k p) (closeBy v d (topOf k) (billAt k p) .bill) ≡ []
+      quiet Clear = refl
+      quiet (Stop n) = refl
+  says body.Unread z f p e q = ap (λ (a : List ℕ). a ++ []) (answers-none l sure s) ∙ made-written l sure body.Unread s

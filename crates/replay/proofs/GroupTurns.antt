@@ -25,11 +25,11 @@ use Rattle.verdict.specs.Lines.{line4}
 use Rattle.file.specs.Walk.{groupAt}
 use Rattle.groups.specs.declared.Decision.the-variants.{Post}
 use Rattle.groups.specs.Groups.{identityOf, sought, linesBy, verdictOn, verdictBy}
-use Rattle.groups.specs.Steps.{identityAt, billAt, soughtAt, decided, decisionBy, applied}
+use Rattle.groups.specs.Steps.{identityAt, billAt, soughtAt, decided, decisionBy, applied, answerTo, answerBy}
 use Rattle.groups.proofs.PlaceLaws.{sought-is}
 use Rattle.groups.proofs.DecideLaws.{by-bill, same-name}
 use Rattle.groups.proofs.TurnLaws.{Comes, rejects, posts, comes, clear-off, accepted-clear}
-use Rattle.replay.specs.Steps.{slotOf, soughtBy, turnedAt, turnBy, Turns, CanPost, CalmAt}
+use Rattle.replay.specs.Steps.{slotOf, soughtBy, turnedAt, turnBy, Turns, CanPost, CalmAt, topOf, answered}
 use Rattle.replay.specs.declared.turns.Settled.{Settled}
 use Rattle.replay.proofs.SpotLaws.{spots, spot-sought}
 
@@ -54,6 +54,11 @@ unfolding turnBy
 ids-few (Rejected n) sup b = omega arith
 ids-few (Accepted amounts) true b = omega arith
 ids-few (Accepted amounts) false b = omega arith
+
+told : (v : Verdict) (sup : Bool) (b : Bill) → turnBy v sup b .verdict ≡ v
+unfolding turnBy
+told (Rejected n) sup b = refl
+told (Accepted amounts) sup b = refl
 
 -- ---- a turn does to the struct what the decision does
 decided-post : (f : Found) (p : ℕ) (a b : Posted) → decided f (Accepted a) ≡ Post p b → f ≡ At p
@@ -82,7 +87,7 @@ module _ (l : Ledger) (s : List ℕ) (i n : ℕ) (t : Bool) (f : Found) (p : ℕ
   pub turn-ids : x .ids ≤ 1
   turn-ids = rw turn-is (ids-few (verdictBy t (view (book l)) g) (asksId g) (billAt l p))
 
-  found-at : (j : ℕ) (amounts : Posted) → verdictBy t (view (book l)) g ≡ Accepted amounts → decisionBy t l g ≡ Post j amounts → f ≡ At j
+  pub found-at : (j : ℕ) (amounts : Posted) → verdictBy t (view (book l)) g ≡ Accepted amounts → decisionBy t l g ≡ Post j amounts → f ≡ At j
   unfolding linesBy
   found-at j amounts v d =
       let o = clear-off (linesBy t (view (book l)) g) (accepted-clear t (view (book l)) g amounts v .0) in
@@ -98,6 +103,20 @@ module _ (l : Ledger) (s : List ℕ) (i n : ℕ) (t : Bool) (f : Found) (p : ℕ
       go (posts j amounts h v d y z) =
           let k : p ≡ j = q ∙ rw (found-at j amounts v d, lt-ltb j 128 (omega arith)) in
           rw (d, turn-is, v, k)
+
+  -- and its answer is the decision's
+  pub verdict-is : x .verdict ≡ verdictBy t (view (book l)) g
+  verdict-is = ap (λ (y : Settled). y .verdict) turn-is ∙ told (verdictBy t (view (book l)) g) (asksId g) (billAt l p)
+
+  pub turn-answer : answered (x .verdict) (topOf l) (billAt l p) g ≡ answerBy t l g
+  unfolding answered answerTo
+  turn-answer = go (comes t l g)
+    where
+      go : Comes t l g → answered (x .verdict) (topOf l) (billAt l p) g ≡ answerBy t l g
+      go (rejects m v d) = rw (d, verdict-is, v)
+      go (posts j amounts h v d y z) =
+          let k : p ≡ j = q ∙ rw (found-at j amounts v d, lt-ltb j 128 (omega arith)) in
+          rw (d, verdict-is, v, k)
 
   -- and leaves the bill's identity
   pub turn-identity : x .bill .terms .identity ≡ billAt l p .terms .identity

@@ -1,15 +1,18 @@
 -- What a reader holds, and what reading some bytes of a journal leaves. Assumes nothing.
-use Prim.Native.Nat.{ℕ, _+_, _≤_}
+use Prim.Native.Nat.{ℕ, _+_, _-_, _≤_}
 use mathlib.Core.Path.{_≡_}
-use mathlib.Core.Bool.{Bool, true}
-use mathlib.Core.List.{List, [], _∷_, map}
+use mathlib.Core.Bool.{Bool, true, false, _&&_}
+use mathlib.Core.List.{List, [], _∷_, _++_, map}
+use lib.Dec.{ltb}
 use lib.ListN.{length, take, drop, replicate}
 use Rattle.fields.specs.Put.{put}
 use Rattle.ledger.specs.declared.Bill.{Bill}
 use Rattle.ledger.specs.declared.Ledger.{Ledger}
 use Rattle.ledger.specs.Books.{book, stored, emptyLedger}
 use Rattle.ledger.specs.Sound.{soundLedger}
-use Rattle.journal.specs.Journal.{Entry, parse, made, makes}
+use Rattle.journal.specs.Journal.{Entry, Parsed, parse, made, makes}
+use Rattle.journal.specs.Made.{noticesOf}
+use Rattle.replay.specs.Steps.{said}
 use Rattle.replay.specs.declared.Reader.{Reader}
 use Rattle.replay.specs.declared.Walked.{Walked}
 use Rattle.replay.specs.declared.Fed.{Fed}
@@ -40,6 +43,28 @@ started =
 unfoldable pub leaves : Ledger → List Entry → Ledger
 leaves l [] = l
 leaves l (e ∷ es) = leaves (stored l (made (e .body) (e .bytes) (book l))) es
+
+-- the entries es, and what is parsed behind them
+abbrev pub behind : List Entry → Parsed → Parsed
+behind es p = record { entries = es ++ p .entries; stopped = p .stopped; rest = p .rest }
+
+-- the first entries of src were made on the ledger of r, up to some entry, and their notices, if any are written, stand at the start of the output;
+-- none is left unless the output has no room for another entry's
+pub record WalksInto (r : Reader) (writes : Bool) (src out₀ out : List ℕ) (w : Walked) : Type 0 where
+  pub good : Good (w .reader)
+  pub used : w .used ≤ length src
+  -- the entries that were made
+  pub done : List Entry
+  pub parsed : parse (r .seen) src ≡ behind done (parse (w .reader .seen) (drop (w .used) src))
+  pub ledger : book (w .reader .ledger) ≡ makes (book (r .ledger)) done
+  pub whole : w .reader .ledger ≡ leaves (r .ledger) done
+  pub seen : w .reader .seen ≡ r .seen + length done
+  pub bytes : out ≡ put out₀ 0 (said writes (noticesOf (book (r .ledger)) done))
+  pub written : w .written ≡ length (said writes (noticesOf (book (r .ledger)) done))
+  pub within : w .written ≤ length out₀
+  pub full : w .full ≡ (writes && ltb (length out₀ - w .written) 64200)
+  pub left : w .full ≡ false → parse (w .reader .seen) (drop (w .used) src) ≡ record { entries = []; stopped = w .stopped; rest = drop (w .used) src }
+  pub goes : w .full ≡ true → w .stopped ≡ false
 
 -- the whole entries at the start of src were made on the ledger of r, and the bytes after them are left
 pub record Walks (r : Reader) (src : List ℕ) (w : Walked) : Type 0 where

@@ -11,7 +11,10 @@ use Rattle.ledger.specs.declared.Bill.{Bill}
 use Rattle.ledger.specs.declared.Ledger.{Ledger}
 use Rattle.ledger.specs.declared.Found.{Found}
 use Rattle.ledger.specs.declared.Found.the-variants.{At, Nothing}
-use Rattle.ledger.specs.Bills.{renewed, posting, cancelledBill}
+use Rattle.units.specs.declared.Ccf.{Ccf}
+use Rattle.ledger.specs.Bills.{renewed, posting, cancelledBill, blankBill}
+use Rattle.notices.specs.Notices.{bil, cxl}
+use Rattle.answers.specs.Answers.{acf, rej}
 use Rattle.file.specs.File.{Group, asksId}
 use Rattle.verdict.specs.declared.Check.{Check}
 use Rattle.verdict.specs.declared.Check.the-variants.{Clear, Stop}
@@ -65,8 +68,8 @@ soughtBy (At p) b = sought.Bill (b .terms)
 -- ---- a group
 -- what a verdict leaves at the bill's place, and how many Tracking IDs it takes: a rejection leaves the same bill
 unfoldable pub turnBy : Verdict → Bool → Bill → Settled
-turnBy (Accepted amounts) sup b = record { bill = posting amounts sup b; ids = cond sup 1 0 }
-turnBy (Rejected n) sup b = record { bill = b; ids = 0 }
+turnBy (Accepted amounts) sup b = record { verdict = Accepted amounts; bill = posting amounts sup b; ids = cond sup 1 0 }
+turnBy (Rejected n) sup b = record { verdict = Rejected n; bill = b; ids = 0 }
 
 -- one group's turn, where b stands at the place that was found
 abbrev pub Turns : Bool → Date → Found → Bill → Group → Settled → Type 0
@@ -132,37 +135,37 @@ abbrev pub grown : Found → ℕ → ℕ
 grown Nothing n = n + 1
 grown (At p) n = n
 
-abbrev pub kept : Top → Bill → Left
-kept t b = record { top = t; bill = b }
+abbrev pub kept : Check → Top → Bill → Left
+kept k t b = record { top = t; bill = b; check = k }
 
 -- one of each number used
 abbrev pub usedBy : Top → ℕ → Top
 usedBy t n = record { today = t .today; tracking = t .tracking + 1; confirmation = t .confirmation + 1; count = n }
 
 abbrev pub requestBy : Check → Request → Top → Found → Bill → Left
-requestBy Clear r t f b = kept (usedBy t (grown f (t .count))) (askedBy r (t .tracking) f b)
-requestBy (Stop n) r t f b = kept t b
+requestBy Clear r t f b = kept Clear (usedBy t (grown f (t .count))) (askedBy r (t .tracking) f b)
+requestBy (Stop n) r t f b = kept (Stop n) t b
 
 abbrev pub cancelBy : Check → Top → Bill → Left
-cancelBy Clear t b = kept (usedBy t (t .count)) (cancelledBill b)
-cancelBy (Stop n) t b = kept t b
+cancelBy Clear t b = kept Clear (usedBy t (t .count)) (cancelledBill b)
+cancelBy (Stop n) t b = kept (Stop n) t b
 
-abbrev pub closeBy : Check → Date → Top → Top
-closeBy Clear d t = record { today = d; tracking = t .tracking; confirmation = t .confirmation; count = t .count }
-closeBy (Stop n) d t = t
+abbrev pub closeBy : Check → Date → Top → Bill → Left
+closeBy Clear d t b = kept Clear (record { today = d; tracking = t .tracking; confirmation = t .confirmation; count = t .count }) b
+closeBy (Stop n) d t b = kept (Stop n) t b
 
 abbrev pub freshTop : Start → Top
 freshTop s = record { today = s .today; tracking = s .tracking; confirmation = s .confirmation; count = 0 }
 
 -- what an entry leaves of the top of the struct and of the bill at its place; a file's groups are taken before
 unfoldable pub leftBy : Body → Top → Found → Bill → Left
-leftBy (body.Fresh s) t f b = kept (freshTop s) b
+leftBy (body.Fresh s) t f b = kept Clear (freshTop s) b
 leftBy (body.Request r) t f b =
     requestBy (first (requestCauses r 64200 (t .today) (t .tracking) (t .confirmation) (t .count) (soughtBy f b))) r t f b
-leftBy body.File t f b = kept t b
+leftBy body.File t f b = kept Clear t b
 leftBy (body.Cancel id) t f b = cancelBy (first (cancelCauses id 64200 (t .tracking) (t .confirmation) (soughtBy f b))) t b
-leftBy (body.Close d) t f b = kept (closeBy (first (closeCauses d (t .today))) d t) b
-leftBy body.Unread t f b = kept t b
+leftBy (body.Close d) t f b = closeBy (first (closeCauses d (t .today))) d t b
+leftBy body.Unread t f b = kept (Stop 2) t b
 
 abbrev pub topOf : Ledger → Top
 topOf l = record { today = l .today; tracking = l .«next_tracking»; confirmation = l .«next_confirmation»; count = l .count }
@@ -177,3 +180,43 @@ leftAt l p x =
       count = x .top .count;
       bills = set (l .bills) p (x .bill);
     }
+
+-- ---- what is written
+-- ys, where notices are written
+abbrev pub said : Bool → List ℕ → List ℕ
+said writes ys = cond writes ys []
+
+-- the answer to a group, where b stands at the place that was found
+unfoldable pub answered : Verdict → Top → Bill → Group → List ℕ
+answered (Accepted amounts) t b g =
+    acf (g .header) (record { terms = b .terms; tracking = t .tracking; today = t .today; confirmation = t .confirmation })
+answered (Rejected n) t b g = rej (g .header) (g .details) (record { code = n; today = t .today; confirmation = t .confirmation })
+
+-- the consumption before a request
+abbrev pub formerBy : Found → Bill → Ccf
+formerBy Nothing b = blankBill .terms .latest .consumption
+formerBy (At p) b = b .terms .latest .consumption
+
+-- the notice of an entry that was carried out: b stood at its place, and c does now
+unfoldable pub noticeOf : Body → Top → Found → Bill → Bill → List ℕ
+noticeOf (body.Fresh s) t f b c = []
+noticeOf (body.Request r) t f b c =
+    bil (record { bill = c; former = formerBy f b; today = t .today; confirmation = t .confirmation })
+noticeOf body.File t f b c = []
+noticeOf (body.Cancel id) t f b c =
+    cxl (record { terms = b .terms; tracking = t .tracking; today = t .today; confirmation = t .confirmation })
+noticeOf (body.Close d) t f b c = []
+noticeOf body.Unread t f b c = []
+
+abbrev pub noticeBy : Check → Body → Top → Found → Bill → Bill → List ℕ
+noticeBy Clear e t f b c = noticeOf e t f b c
+noticeBy (Stop n) e t f b c = []
+
+-- how long it is at most
+abbrev pub sizeFor : Body → ℕ
+sizeFor (body.Fresh s) = 0
+sizeFor (body.Request r) = 642
+sizeFor body.File = 0
+sizeFor (body.Cancel id) = 642
+sizeFor (body.Close d) = 0
+sizeFor body.Unread = 0

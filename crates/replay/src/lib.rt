@@ -1,4 +1,5 @@
-// A journal's entries made on a ledger that is changed in place: the ledger is passed to no function, and no notice is written.
+// A journal's entries made on a ledger that is changed in place: the ledger is passed to no function.
+pub mod output;
 pub mod search;
 pub mod settle;
 pub mod turns;
@@ -8,7 +9,7 @@ ghost use Prim.Native.Nat.{_≤_};
 ghost use lib.ListN.{length};
 ghost use Rattle.ledger.specs.Books.{book};
 ghost use Rattle.journal.specs.Journal.{noBook};
-ghost use Rattle.replay.specs.Reader.{Good, started, Walks, Feeds};
+ghost use Rattle.replay.specs.Reader.{Good, started, Walks, WalksInto, Feeds};
 use crate::settle::Top;
 use journal::Head;
 use ledger::Ledger;
@@ -22,10 +23,13 @@ pub struct Reader {
     pub seen: u64,
 }
 
-// The reader after some bytes, how many of them are done with, and whether a bad entry stopped it.
+// The reader after some bytes, how many of them are done with, how many bytes of notices were written, whether the output has no room for
+// another entry's, and whether a bad entry stopped it.
 pub struct Walked {
     pub reader: Reader,
     pub used: usize,
+    pub written: usize,
+    pub full: bool,
     pub stopped: bool,
 }
 
@@ -49,17 +53,34 @@ pub fn start() -> Reader
     }
 }
 
-// Makes the whole entries at the start of src. (The loop over a file's groups stands here, since this function holds the ledger.)
-pub fn walk(src: &[u8], r: Reader) -> Walked
+// Makes the whole entries at the start of src, as long as the output has room for another entry's notices; where `writes` is not set it is
+// left alone. (The loop over a file's groups stands here, since this function holds the ledger.)
+pub fn walk_into(src: &[u8], out: &mut [u8], writes: bool, r: Reader) -> Walked
     requires { ⌜ Good r ⌝ }
-    ensures { λ w. ⌜ Walks r (now (src .entry)) w ⌝ }
+    ensures { λ w. ⌜ WalksInto r writes (now (src .entry)) (now (out .entry)) (now (out .exit)) w ⌝ }
 {
     let mut l = r.ledger;
     let mut accounts = r.accounts;
     let mut keys = r.keys;
     let mut seen = r.seen;
     let mut at = 0;
+    let mut written = 0;
     'entries: loop {
+        let full = output::is_full(writes, out.len() - written);
+        if full {
+            return Walked {
+                reader: Reader {
+                    ledger: l,
+                    accounts,
+                    keys,
+                    seen,
+                },
+                used: at,
+                written,
+                full: true,
+                stopped: false,
+            };
+        }
         let h = journal::head_at(&src[at..], seen);
         let Head::Whole(body, n) = h else {
             let stopped = settle::is_bad(h);
@@ -71,6 +92,8 @@ pub fn walk(src: &[u8], r: Reader) -> Walked
                     seen,
                 },
                 used: at,
+                written,
+                full: false,
                 stopped,
             };
         };
@@ -92,6 +115,14 @@ pub fn walk(src: &[u8], r: Reader) -> Walked
                 let old = l.bills[q];
                 let day = l.today;
                 let x = turns::turn(&src[from..end], i, m, marks[i], g, old, day);
+                let v = x.verdict;
+                let now = Top {
+                    today: day,
+                    tracking: l.next_tracking,
+                    confirmation: l.next_confirmation,
+                    count: held,
+                };
+                written = output::answer(out, written, writes, &src[from..end], i, m, v, old, now);
                 let new = x.bill;
                 l.bills[q] = new;
                 l.next_tracking = l.next_tracking + x.ids;
@@ -111,6 +142,8 @@ pub fn walk(src: &[u8], r: Reader) -> Walked
         let b = l.bills[p];
         let left = settle::settle(body, top, f, b);
         let c = left.bill;
+        let check = left.check;
+        written = output::notice(out, written, writes, body, check, top, f, b, c);
         let t = left.top;
         let date = t.today;
         accounts[p] = c.terms.identity.account;
@@ -123,6 +156,15 @@ pub fn walk(src: &[u8], r: Reader) -> Walked
         seen += 1;
         at = end;
     }
+}
+
+// The same with no notice written: every whole entry is made.
+pub fn walk(src: &[u8], r: Reader) -> Walked
+    requires { ⌜ Good r ⌝ }
+    ensures { λ w. ⌜ Walks r (now (src .entry)) w ⌝ }
+{
+    let mut none = [0u8; 1];
+    walk_into(src, &mut none, false, r)
 }
 
 // Makes the whole entries of the first n bytes of buf, and moves the bytes that are left to its start.

@@ -24,10 +24,11 @@ pub struct Top {
     pub count: usize,
 }
 
-// What an entry leaves: the top, and the bill at its place.
+// What an entry leaves: the top, the bill at its place, and whether its call was carried out.
 pub struct Left {
     pub top: Top,
     pub bill: Bill,
+    pub check: Check,
 }
 
 // Whether a bad entry stands there.
@@ -105,15 +106,15 @@ fn use_numbers(t: Top, n: usize) -> Top
 }
 
 // A request, where b stands at the place that was found.
-fn settle_request(r: Request, t: Top, f: Found, b: Bill) -> Left
+pub fn settle_request(r: Request, room: usize, t: Top, f: Found, b: Bill) -> Left
     requires { ⌜ (t .tracking ≤ 1000000000) × (t .confirmation ≤ 1000000000) × (t .count ≤ 128) ⌝ }
     requires { ⌜ SoundAt f b ⌝ }
-    ensures { λ a. ⌜ a ≡ requestBy (first (requestCauses r 64200 (t .today) (t .tracking) (t .confirmation) (t .count) (soughtBy f b))) r t f b ⌝ }
+    ensures { λ a. ⌜ a ≡ requestBy (first (requestCauses r room (t .today) (t .tracking) (t .confirmation) (t .count) (soughtBy f b))) r t f b ⌝ }
 {
     let today = t.today;
     let check = calls::causes::request_check(
         r,
-        64200,
+        room,
         today,
         t.tracking,
         t.confirmation,
@@ -121,48 +122,66 @@ fn settle_request(r: Request, t: Top, f: Found, b: Bill) -> Left
         turns::sought_by(f, b),
     );
     match check {
-        Check::Stop(_) => Left { top: t, bill: b },
+        Check::Stop(_) => Left {
+            top: t,
+            bill: b,
+            check,
+        },
         Check::Clear => Left {
             top: use_numbers(t, grown(f, t.count)),
             bill: asked(r, t.tracking, f, b),
+            check,
         },
     }
 }
 
 // A cancel, where b stands at the place that was found.
-fn settle_cancel(id: Identity, t: Top, f: Found, b: Bill) -> Left
+pub fn settle_cancel(id: Identity, room: usize, t: Top, f: Found, b: Bill) -> Left
     requires { ⌜ (t .tracking ≤ 1000000000) × (t .confirmation ≤ 1000000000) ⌝ }
-    ensures { λ a. ⌜ a ≡ cancelBy (first (cancelCauses id 64200 (t .tracking) (t .confirmation) (soughtBy f b))) t b ⌝ }
+    ensures { λ a. ⌜ a ≡ cancelBy (first (cancelCauses id room (t .tracking) (t .confirmation) (soughtBy f b))) t b ⌝ }
 {
     let check = calls::causes::cancel_check(
         id,
-        64200,
+        room,
         t.tracking,
         t.confirmation,
         turns::sought_by(f, b),
     );
     match check {
-        Check::Stop(_) => Left { top: t, bill: b },
+        Check::Stop(_) => Left {
+            top: t,
+            bill: b,
+            check,
+        },
         Check::Clear => Left {
             top: use_numbers(t, t.count),
             bill: b.cancel(),
+            check,
         },
     }
 }
 
-// A close of day.
-fn settle_close(d: Date, t: Top) -> Top
-    ensures { λ a. ⌜ a ≡ closeBy (first (closeCauses d (t .today))) d t ⌝ }
+// A close of day, where b stands at the entry's place.
+pub fn settle_close(d: Date, t: Top, b: Bill) -> Left
+    ensures { λ a. ⌜ a ≡ closeBy (first (closeCauses d (t .today))) d t b ⌝ }
 {
     let today = t.today;
     let check = calls::days::close_check(d, today);
     match check {
-        Check::Stop(_) => t,
-        Check::Clear => Top {
-            today: d,
-            tracking: t.tracking,
-            confirmation: t.confirmation,
-            count: t.count,
+        Check::Stop(_) => Left {
+            top: t,
+            bill: b,
+            check,
+        },
+        Check::Clear => Left {
+            top: Top {
+                today: d,
+                tracking: t.tracking,
+                confirmation: t.confirmation,
+                count: t.count,
+            },
+            bill: b,
+            check,
         },
     }
 }
@@ -187,17 +206,23 @@ pub fn settle(body: Body, t: Top, f: Found, b: Bill) -> Left
     ensures { λ a. ⌜ a ≡ leftBy body t f b ⌝ }
 {
     match body {
-        Body::Request(r) => settle_request(r, t, f, b),
-        Body::Cancel(id) => settle_cancel(id, t, f, b),
-        Body::Close(d) => Left {
-            top: settle_close(d, t),
-            bill: b,
-        },
+        Body::Request(r) => settle_request(r, 64200, t, f, b),
+        Body::Cancel(id) => settle_cancel(id, 64200, t, f, b),
+        Body::Close(d) => settle_close(d, t, b),
         Body::Fresh(s) => Left {
             top: fresh_top(s),
             bill: b,
+            check: Check::Clear,
         },
-        Body::File => Left { top: t, bill: b },
-        Body::Unread => Left { top: t, bill: b },
+        Body::File => Left {
+            top: t,
+            bill: b,
+            check: Check::Clear,
+        },
+        Body::Unread => Left {
+            top: t,
+            bill: b,
+            check: Check::Stop(2),
+        },
     }
 }

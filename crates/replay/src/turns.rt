@@ -11,8 +11,9 @@ use units::Date;
 use verdict::Sought;
 use verdict::Verdict;
 
-// What a group leaves of the bill at its place, and how many Tracking IDs it took.
+// A group's verdict, what it leaves of the bill at its place, and how many Tracking IDs it took.
 pub struct Settled {
+    pub verdict: Verdict,
     pub bill: Bill,
     pub ids: u64,
 }
@@ -45,11 +46,19 @@ fn post(v: Verdict, sup: bool, b: Bill) -> Settled
     ensures { λ r. ⌜ r ≡ turnBy v sup b ⌝ }
 {
     match v {
-        Verdict::Rejected(_) => Settled { bill: b, ids: 0 },
+        Verdict::Rejected(_) => Settled {
+            verdict: v,
+            bill: b,
+            ids: 0,
+        },
         Verdict::Accepted(amounts) => {
             let ids = groups::ids_used(sup);
             let bill = b.post(amounts, sup);
-            Settled { bill, ids }
+            Settled {
+                verdict: v,
+                bill,
+                ids,
+            }
         }
     }
 }

@@ -149,7 +149,7 @@ fn terms_in(w: &[u64]) -> Terms
 }
 
 // The bill of the 19 words from index `at` on.
-fn bill_in(words: &[u64], at: usize) -> Bill
+pub fn bill_in(words: &[u64], at: usize) -> Bill
     requires { ⌜ at + 19 ≤ length (now words) ⌝ }
     requires { ⌜ holdsBill (drop at (now words)) ≡ true ⌝ }
     ensures { λ r. ⌜ r ≡ billIn (drop at (now (words .entry))) ⌝ }
@@ -270,7 +270,7 @@ fn terms_words(t: Terms) -> [u64; 10]
 }
 
 // Writes a place's 19 words into words from index `at` on.
-fn put_bill(words: &mut [u64], at: usize, b: Bill)
+pub fn put_bill(words: &mut [u64], at: usize, b: Bill)
     requires { ⌜ at + 19 ≤ length (now words) ⌝ }
     ensures { λ _. ⌜ now (words .exit) ≡ put (now (words .entry)) at (billWords b) ⌝ }
 {

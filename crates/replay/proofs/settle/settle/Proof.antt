@@ -44,7 +44,7 @@ returns-2 c = rw (c .before .before .body2 .given .1) (c .settle-cancel .ensures
 
 returns-3 : tie.Need-returns-3
 unfolding leftBy
-returns-3 c = rw (c .before .before .body3 .given .1, c .settle-close .ensures)
+returns-3 c = rw (c .before .before .body3 .given .1) (c .settle-close .ensures)
 
 returns-4 : tie.Need-returns-4
 unfolding leftBy

@@ -23,10 +23,10 @@ cancel-requires : tie.Need-cancel-requires
 cancel-requires c κs = search needs
 
 returns : tie.Need-returns
-returns c = rw (← c .before .before .before .sought-by .ensures, sym (c .before .before .cancel-check .ensures) ∙ c .enum-told .given .1)
+returns c = rw (c .enum-told .given .1, ← c .before .before .before .sought-by .ensures, sym (c .before .before .cancel-check .ensures) ∙ c .enum-told .given .1)
 
 returns-2 : tie.Need-returns-2
-returns-2 c = rw (← c .before .before .before .before .before .sought-by .ensures, sym (c .before .before .before .before .cancel-check .ensures) ∙ c .before .before .enum-told2 .given .1, c .before .use-numbers .ensures, c .cancel .ensures)
+returns-2 c = rw (c .before .before .enum-told2 .given .1, ← c .before .before .before .before .before .sought-by .ensures, sym (c .before .before .before .before .cancel-check .ensures) ∙ c .before .before .enum-told2 .given .1, c .before .use-numbers .ensures, c .cancel .ensures)
 
 pub settle-cancel-spec : {M : Type 1} → statement M
 settle-cancel-spec =

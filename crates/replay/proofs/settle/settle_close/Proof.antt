@@ -14,10 +14,10 @@ enum-told-2 : tie.Need-enum-told-2
 enum-told-2 c = search needs
 
 returns : tie.Need-returns
-returns c = rw (sym (c .before .before .close-check .ensures) ∙ c .enum-told .given .1)
+returns c = rw (c .enum-told .given .1, sym (c .before .before .close-check .ensures) ∙ c .enum-told .given .1)
 
 returns-2 : tie.Need-returns-2
-returns-2 c = rw (sym (c .before .before .close-check .ensures) ∙ c .enum-told2 .given .1)
+returns-2 c = rw (c .enum-told2 .given .1, sym (c .before .before .close-check .ensures) ∙ c .enum-told2 .given .1)
 
 pub settle-close-spec : {M : Type 1} → statement M
 settle-close-spec =

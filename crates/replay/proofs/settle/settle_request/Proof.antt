@@ -27,10 +27,10 @@ asked-requires : tie.Need-asked-requires
 asked-requires c κs = renews _ _ _ _ _ _ (c .before .before .before .before .before .before .before .args .f) (c .before .before .before .before .before .before .before .args .b) (c .before .before .before .before .before .before .before .pre .1) (rw (c .before .before .before .before .before .sought-by .ensures) at (sym (c .before .before .before .before .request-check .ensures) ∙ c .before .before .enum-told2 .given .1))
 
 returns : tie.Need-returns
-returns c = rw (← c .before .before .before .sought-by .ensures, sym (c .before .before .request-check .ensures) ∙ c .enum-told .given .1)
+returns c = rw (c .enum-told .given .1, ← c .before .before .before .sought-by .ensures, sym (c .before .before .request-check .ensures) ∙ c .enum-told .given .1)
 
 returns-2 : tie.Need-returns-2
-returns-2 c = rw (← c .before .before .before .before .before .before .sought-by .ensures, sym (c .before .before .before .before .before .request-check .ensures) ∙ c .before .before .before .enum-told2 .given .1, c .before .use-numbers .ensures, c .before .before .grown .ensures, c .asked .ensures)
+returns-2 c = rw (c .before .before .before .enum-told2 .given .1, ← c .before .before .before .before .before .before .sought-by .ensures, sym (c .before .before .before .before .before .request-check .ensures) ∙ c .before .before .before .enum-told2 .given .1, c .before .use-numbers .ensures, c .before .before .grown .ensures, c .asked .ensures)
 
 pub settle-request-spec : {M : Type 1} → statement M
 settle-request-spec =
