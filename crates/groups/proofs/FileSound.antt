@@ -19,8 +19,8 @@ use Rattle.file.specs.File.{Group, asksId, line3}
 use Rattle.verdict.specs.declared.Sought.the-variants as sought
 use Rattle.verdict.specs.declared.Verdict.{Verdict}
 use Rattle.verdict.specs.declared.Verdict.the-variants.{Accepted, Rejected}
-use Rattle.groups.specs.Groups.{identityOf, soughtIn, verdictBy, settled, verdictHere, taken}
-use Rattle.groups.proofs.GroupWalk.{length-settled}
+use Rattle.group.specs.Groups.{identityOf, soughtIn, verdictBy, settled, verdictHere, taken}
+use Rattle.group.proofs.GroupWalk.{length-settled}
 use Rattle.groups.proofs.SoundKept.{sound-posted}
 
 -- ---- the bills

@@ -1,16 +1,20 @@
 -- The ledger as a book: "today, the next Tracking ID, the next Confirmation Number .. and up to 128 bills in order of first request".
 -- Assumes nothing.
 use Prim.Native.Nat.{ℕ, _+_}
-use mathlib.Core.Bool.{Bool}
+use mathlib.Core.Bool.{Bool, cond}
 use mathlib.Core.List.{List, map, _++_}
-use lib.ListN.{length, take, drop, set, replicate}
+use lib.Dec.{ltb}
+use lib.ListN.{length, getD, take, drop, set, replicate}
 use Rattle.units.specs.declared.Date.{Date}
 use Rattle.units.specs.Units.{fitsCents}
 use Rattle.ledger.specs.declared.Identity.{Identity}
 use Rattle.ledger.specs.declared.Terms.{Terms}
 use Rattle.ledger.specs.declared.Bill.{Bill}
 use Rattle.ledger.specs.declared.Ledger.{Ledger}
+use Rattle.ledger.specs.declared.LedgerHeader.{LedgerHeader}
+use Rattle.ledger.specs.declared.Update.{Update}
 use Rattle.ledger.specs.declared.Found.{Found}
+use Rattle.ledger.specs.declared.Found.the-variants.{At, Nothing}
 use Rattle.ledger.specs.Lists.{sum, find}
 use Rattle.ledger.specs.Bills.{isOf, chargeOf, blankBill}
 
@@ -28,6 +32,14 @@ live l = take (l .count) (l .bills)
 -- the book that the struct holds
 abbrev pub book : Ledger → Book
 book l = record { today = l .today; tracking = l .«next_tracking»; confirmation = l .«next_confirmation»; bills = live l }
+
+-- the bill at a place of the struct
+abbrev pub billAt : Ledger → ℕ → Bill
+billAt l p = getD (l .bills) p blankBill
+
+-- what the struct holds besides its bills
+abbrev pub headerOf : Ledger → LedgerHeader
+headerOf l = record { today = l .today; tracking = l .«next_tracking»; confirmation = l .«next_confirmation»; count = l .count }
 
 -- a ledger without the posted amounts: what the rules read
 pub record View : Type 0 where
@@ -84,6 +96,17 @@ emptyLedger today tracking confirmation =
       bills = replicate 128 blankBill;
     }
 
+-- with this header, and its bills as they were
+abbrev pub withHeader : Ledger → LedgerHeader → Ledger
+withHeader l h =
+    record {
+      today = h .today;
+      «next_tracking» = h .tracking;
+      «next_confirmation» = h .confirmation;
+      count = h .count;
+      bills = l .bills;
+    }
+
 -- with the bill at place i replaced
 abbrev pub replaced : Ledger → ℕ → Bill → Ledger
 replaced l i b =
@@ -105,3 +128,15 @@ appended l b =
       count = l .count + 1;
       bills = set (l .bills) (l .count) b;
     }
+
+-- with this header, and this bill at place p
+abbrev pub updated : Ledger → ℕ → Update → Ledger
+updated l p u = withHeader (replaced l p (u .bill)) (u .header)
+
+-- the place that was found or, where none was, the next free one; the last one stands where all are taken
+abbrev pub within : ℕ → ℕ
+within i = cond (ltb i 128) i 127
+
+abbrev pub slotOf : Found → ℕ → ℕ
+slotOf (At p) count = within p
+slotOf Nothing count = within count

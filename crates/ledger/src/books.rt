@@ -6,11 +6,12 @@ ghost use lib.ListN.{length, getD, take};
 ghost use lib.IntN.{pos, _-ℤ_};
 ghost use Rattle.ledger.specs.Lists.{every};
 ghost use Rattle.ledger.specs.Bills.{blankBill};
-ghost use Rattle.ledger.specs.Books.{emptyLedger, live, placeOf, replaced, appended, billCharge, smallCharge, totalOf};
+ghost use Rattle.ledger.specs.Books.{emptyLedger, live, placeOf, replaced, updated, within, slotOf, billCharge, smallCharge, totalOf};
 use crate::Bill;
 use crate::Found;
 use crate::Identity;
 use crate::Ledger;
+use crate::Update;
 use units::Cents;
 use units::Date;
 
@@ -55,14 +56,19 @@ impl Ledger {
         self
     }
 
-    // The ledger with one bill more.
-    pub fn append(mut self, b: Bill) -> Ledger
-        requires { ⌜ self .count < 128 ⌝ }
-        ensures { λ r. ⌜ r ≡ appended self b ⌝ }
+    // The ledger with a header, and a bill at a place.
+    pub fn updated(mut self, i: usize, u: Update) -> Ledger
+        requires { ⌜ i < 128 ⌝ }
+        ensures { λ r. ⌜ r ≡ updated self i u ⌝ }
     {
-        let at = self.count;
-        self.bills[at] = b;
-        self.count = at + 1;
+        let h = u.header;
+        let today = h.today;
+        let b = u.bill;
+        self.bills[i] = b;
+        self.today = today;
+        self.next_tracking = h.tracking;
+        self.next_confirmation = h.confirmation;
+        self.count = h.count;
         self
     }
 
@@ -74,6 +80,22 @@ impl Ledger {
         let b = self.bills;
         let n = self.count;
         total_first(b, n)
+    }
+}
+
+fn within(i: usize) -> usize
+    ensures { λ r. ⌜ (r ≡ within i) × (r < 128) ⌝ }
+{
+    if i < 128 { i } else { 127 }
+}
+
+// A place of the array: the one that was found, else the next free one, else the last.
+pub fn slot(f: Found, count: usize) -> usize
+    ensures { λ r. ⌜ (r ≡ slotOf f count) × (r < 128) ⌝ }
+{
+    match f {
+        Found::At(p) => within(p),
+        Found::Nothing => within(count),
     }
 }
 

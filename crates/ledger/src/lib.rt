@@ -72,6 +72,20 @@ pub struct Ledger {
     pub bills: [Bill; 128],
 }
 
+// A ledger but for its bills.
+pub struct LedgerHeader {
+    pub today: Date,
+    pub tracking: u64,
+    pub confirmation: u64,
+    pub count: usize,
+}
+
+// What a call or a group leaves: the header, and the bill at its place.
+pub struct Update {
+    pub header: LedgerHeader,
+    pub bill: Bill,
+}
+
 // Where a bill stands in its life.
 pub enum State {
     Open,

@@ -1,84 +1,48 @@
--- `groups::turn` meets its contract: its parts answer by one decision.
-use borrow.Author.Needs.{needs}
-use mathlib.Core.Path.{sym, ap, _∙_, subst}
+-- `groups::turn` meets its contract.
+use mathlib.Core.Path.{refl}
 use native.Mathlib.Omega.{arith}
-use Rattle.fields.specs.Put.{put}
-use Rattle.notices.specs.Layout.{isSup}
-use Rattle.file.specs.Walk.{groupAt}
-use Rattle.file.proofs.FileLaws.{header-is}
-use Rattle.groups.specs.declared.Decision.{Decision}
-use Rattle.groups.specs.Steps.{InReach, answerTo}
-use Rattle.groups.proofs.TurnLaws.{reach}
-use Rattle.groups.proofs.GroupWalk.{accepted-le, rejected-le, turn-is}
+use Rattle.group.proofs.GroupWalk.{turn-calm, turn-on}
+use borrow.Author.Needs.{needs}
 use Rattle.groups.proofs.turn.Statement.{statement}
 use Rattle.groups.proofs.turn.Tie as tie
 
-sup-at-requires : tie.Need-sup-at-requires
-sup-at-requires c κs = search needs
+identity-at-requires : tie.Need-identity-at-requires
+identity-at-requires c κs = search needs
 
-decide-requires : tie.Need-decide-requires
-decide-requires c κs = search needs
+find-requires : tie.Need-find-requires
+find-requires c κs = search needs
 
-write-answer-requires : tie.Need-write-answer-requires
-write-answer-requires c κs =
-    let a = c .before .before .before .before .before .before .args in
-    let f = c .before .before .before .before .before .before .pre .1 in (
-      c .before .before .before .before .before .before .pre .0,
-      subst (λ (d : Decision). InReach (a .c .ledger) d) (sym (c .before .decide .ensures))
-          (reach (a .duplicate) (a .c .ledger) (groupAt (a .s .now) (a .i) (a .n)) (f .places) (f .count) (f .bills)),
-    )
+slot-requires : tie.Need-slot-requires
+slot-requires c κs = search needs
 
-apply-requires : tie.Need-apply-requires
-apply-requires c κs =
-    let a = c .before .before .before .before .before .before .before .before .before .args in
-    let f = c .before .before .before .before .before .before .before .before .before .pre .1 in (
-      subst (λ (d : Decision). InReach (a .c .ledger) d) (sym (c .before .before .before .before .decide .ensures))
-          (reach (a .duplicate) (a .c .ledger) (groupAt (a .s .now) (a .i) (a .n)) (f .places) (f .count) (f .bills)),
-      (f .tracking, f .confirmation),
-    )
+mul-b : tie.Need-mul-b
+mul-b c = search needs
 
-one-accepted-requires : tie.Need-one-accepted-requires
-one-accepted-requires c κs = search needs
+element-copy-out-b : tie.Need-element-copy-out-b
+element-copy-out-b c = search needs
 
-add-t16 : tie.Need-add-t16
-add-t16 c =
-    let a = c .before .before .before .before .before .before .before .before .before .before .before .before .args in
-    let q = rw (sym (c .before .before .before .before .before .before .before .decide .ensures)) at (accepted-le (a .duplicate) (a .c .ledger) (groupAt (a .s .now) (a .i) (a .n))) in
-    omega (arith, q, c .before .one-accepted .ensures, c .before .before .before .before .before .before .before .before .before .before .before .before .pre .1 .accepted)
+turn-requires : tie.Need-turn-requires
+turn-requires c κs = ((c .before .before .before .before .before .before .before .before .before .before .pre .0 .0, c .before .before .before .before .before .before .before .before .before .before .pre .0 .1, c .before .before .before .before .before .before .before .before .before .before .pre .0 .2, λ z. c .before .before .before .before .before .before .before .before .before .before .pre .0 .3), (turn-calm (c .before .before .before .before .before .before .before .before .before .before .args .t .ledger) (c .before .before .before .before .before .before .before .before .before .before .args .t .tally) (c .before .before .before .before .before .before .before .before .before .before .pre .1) (c .before .before .before .before .before .before .before .before .before .before .args .s .now) (c .before .before .before .before .before .before .before .before .before .before .args .i) (c .before .before .before .before .before .before .before .before .before .before .args .n) _ (c .before .before .before .before .identity-at .ensures) _ (c .before .before .before .find .ensures) _ (c .before .before .slot .ensures .0) _ refl, c .before .before .before .before .before .before .before .before .before .before .pre .1 .few, c .before .before .before .before .before .before .before .before .before .before .pre .1 .tracking, c .before .before .before .before .before .before .before .before .before .before .pre .1 .confirmation))
 
-one-rejected-requires : tie.Need-one-rejected-requires
-one-rejected-requires c κs = search needs
-
-add-t18 : tie.Need-add-t18
-add-t18 c =
-    let a = c .before .before .before .before .before .before .before .before .before .before .before .before .before .before .args in
-    let q = rw (sym (c .before .before .before .before .before .before .before .before .before .decide .ensures)) at (rejected-le (a .duplicate) (a .c .ledger) (groupAt (a .s .now) (a .i) (a .n))) in
-    omega (arith, q, c .before .one-rejected .ensures, c .before .before .before .before .before .before .before .before .before .before .before .before .before .before .pre .1 .rejected)
+updated-requires : tie.Need-updated-requires
+updated-requires c κs = search needs
 
 same-length : tie.Need-same-length
 same-length c = search needs
 
 returns : tie.Need-returns
-returns c =
-    let a = c .before .before .before .before .before .before .before .before .before .before .before .before .before .before .args in
-    let g = groupAt (a .s .now) (a .i) (a .n) in
-    let x = c .before .before .before .before .before .before .before .before .before .before .before .sup-at .ensures ∙ ap isSup (sym (header-is (a .s .now) (a .i) (a .n))) in
-    let y = c .before .before .before .before .before .before .before .before .before .decide .ensures in (
-      turn-is (a .duplicate) (a .c) g _ _ _ _ _ _ x y (c .before .before .before .before .apply .ensures) (c .before .before .before .one-accepted .ensures) (c .before .one-rejected .ensures) (c .before .before .before .before .before .before .before .write-answer .ensures .1),
-      c .before .before .before .before .before .before .before .write-answer .ensures .0 ∙ ap (λ (d : Decision). put (a .out .now) (a .c .written) (answerTo (a .c .ledger) g d)) y,
-    )
+returns c = turn-on (c .before .before .before .before .before .before .before .before .before .before .before .before .before .before .before .before .args .t .ledger) (c .before .before .before .before .before .before .before .before .before .before .before .before .before .before .before .before .args .t .tally) (c .before .before .before .before .before .before .before .before .before .before .before .before .before .before .before .before .pre .1) (c .before .before .before .before .before .before .before .before .before .before .before .before .before .before .before .before .args .s .now) (c .before .before .before .before .before .before .before .before .before .before .before .before .before .before .before .before .args .i) (c .before .before .before .before .before .before .before .before .before .before .before .before .before .before .before .before .args .n) _ (c .before .before .before .before .before .before .before .before .before .before .identity-at .ensures) _ (c .before .before .before .before .before .before .before .before .before .find .ensures) _ (c .before .before .before .before .before .before .before .before .slot .ensures .0) _ refl _ _ _ _ _ (c .before .before .before .before .before .turn .ensures) _ (c .updated .ensures)
 
 pub turn-spec : {M : Type 1} → statement M
 turn-spec =
     tie.close
     (tie.spec
-    sup-at-requires
-    decide-requires
-    write-answer-requires
-    apply-requires
-    one-accepted-requires
-    add-t16
-    one-rejected-requires
-    add-t18
+    identity-at-requires
+    find-requires
+    slot-requires
+    mul-b
+    element-copy-out-b
+    turn-requires
+    updated-requires
     same-length
     returns)

@@ -1,0 +1,3 @@
+-- One group of a supplier file: the rules of its verdict, answer and effect, and the same on small values.
+pub mod Groups
+pub mod Turns

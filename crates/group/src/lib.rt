@@ -1,0 +1,171 @@
+// One group of a supplier file on small values: the bill that it names, its verdict, and its turn. Who holds the ledger finds the bill and stores what the
+// turn leaves: groups by value, engine in words.
+pub mod answer;
+pub mod counts;
+
+ghost use mathlib.Core.Path.{_≡_};
+ghost use mathlib.Core.Bool.{true, false, cond};
+ghost use Prim.Native.Nat.{ℕ, _+_, _-_, _*_, _≤_, _<_};
+ghost use lib.ListN.{length, getD};
+ghost use Rattle.file.specs.Walk.{groupAt, markAt};
+ghost use Rattle.group.specs.Groups.{verdictOn};
+ghost use Rattle.group.specs.Turns.{identityIn, identityAt, soughtBy, CalmAt, CanPost, idsBy, billBy, Few, TurnedBy};
+use file::Form;
+use ledger::Bill;
+use ledger::Found;
+use ledger::Identity;
+use ledger::LedgerHeader;
+use ledger::Update;
+use units::Date;
+use verdict::Kind;
+use verdict::Sought;
+use verdict::Verdict;
+
+// What came of a file's groups so far: how many were accepted and rejected, how many bytes their answers have, and the sums of the charges that were posted and
+// of those that they replaced.
+pub struct Tally {
+    pub accepted: u64,
+    pub rejected: u64,
+    pub written: usize,
+    pub came: u64,
+    pub went: u64,
+}
+
+// What a group's turn leaves: the header and the bill at its place, and the counts.
+pub struct Turned {
+    pub update: Update,
+    pub tally: Tally,
+}
+
+// The identity that a header and a detail name.
+fn identity_of(h: &[u8], d: &[u8]) -> Identity
+    requires { ⌜ (321 ≤ length (now h)) × (321 ≤ length (now d)) ⌝ }
+    ensures { λ r. ⌜ r ≡ identityIn (now (h .entry)) (now (d .entry)) ⌝ }
+{
+    Identity {
+        account: pairs::number_at(h, 7, 12),
+        key: pairs::number_at(d, 41, 4),
+    }
+}
+
+// The identity that the group of record i names, where a record follows.
+pub fn identity_at(s: &[u8], i: usize, n: usize) -> Identity
+    requires { ⌜ (i < n) × (n * 321 ≤ length (now s)) ⌝ }
+    ensures { λ r. ⌜ r ≡ identityAt (now (s .entry)) i n ⌝ }
+{
+    let j = i + 1;
+    if n <= j {
+        return Identity { account: 0, key: 0 };
+    }
+    let a = i * 321;
+    let b = j * 321;
+    let e = b + 321;
+    identity_of(&s[a..b], &s[b..e])
+}
+
+// Lines 1 to 10 for the group whose header is record i; duplicate says what line 3 asks, b is the bill it names.
+pub fn verdict_at(s: &[u8], i: usize, n: usize, duplicate: bool, b: Sought, today: Date) -> Verdict
+    requires { ⌜ (i < n) × (n * 321 ≤ length (now s)) ⌝ }
+    ensures { λ r. ⌜ r ≡ verdictOn duplicate today b (groupAt (now (s .entry)) i n) ⌝ }
+{
+    let form = file::form_at(s, i, n);
+    let kind = match form {
+        Form::Broken => {
+            return Verdict::Rejected(17);
+        }
+        Form::Unknown => {
+            return Verdict::Rejected(19);
+        }
+        Form::Response => Kind::Response,
+        Form::Supplement => Kind::Supplement,
+    };
+    if duplicate {
+        return Verdict::Rejected(14);
+    }
+    let a = i * 321;
+    let m = (i + 1) * 321;
+    let e = m + 321;
+    verdict::verdict_of(&s[a..m], &s[m..e], kind, b, today)
+}
+
+// The headers of groups that get BR14. (Most entries of a journal are no file: they are not searched.)
+pub fn marks(s: &[u8], n: usize) -> [bool; 200]
+    requires { ⌜ (n ≤ 200) × (n * 321 ≤ length (now s)) ⌝ }
+    ensures { λ r. ⌜ ((k : ℕ) → k < n → getD r k false ≡ markAt (now (s .entry)) n k) × ((k : ℕ) → n ≤ k → getD r k false ≡ false) ⌝ }
+{
+    if n == 0 {
+        return [false; 200];
+    }
+    pairs::duplicates(s, n)
+}
+
+// The bill that was found, where b stands at its place.
+pub fn sought_by(f: Found, b: Bill) -> Sought
+    ensures { λ r. ⌜ r ≡ soughtBy f b ⌝ }
+{
+    let t = b.terms;
+    match f {
+        Found::At(_) => Sought::Bill(t),
+        Found::Nothing => Sought::Nothing,
+    }
+}
+
+// How many Tracking IDs a group takes.
+fn ids_used(v: Verdict, sup: bool) -> u64
+    ensures { λ r. ⌜ (r ≡ idsBy v sup) × (r ≤ 1) ⌝ }
+{
+    match v {
+        Verdict::Rejected(_) => 0,
+        Verdict::Accepted(_) => {
+            if sup {
+                1
+            } else {
+                0
+            }
+        }
+    }
+}
+
+// What a verdict leaves of the bill at its place.
+fn post(v: Verdict, sup: bool, b: Bill) -> Bill
+    requires { ⌜ CanPost v b ⌝ }
+    ensures { λ r. ⌜ r ≡ billBy v sup b ⌝ }
+{
+    match v {
+        Verdict::Rejected(_) => b,
+        Verdict::Accepted(amounts) => b.post(amounts, sup),
+    }
+}
+
+// One group's turn, where b stands at the place that was found: its answer is written, if notices are.
+pub fn turn(
+    out: &mut [u8],
+    writes: bool,
+    c: Tally,
+    s: &[u8],
+    i: usize,
+    n: usize,
+    duplicate: bool,
+    h: LedgerHeader,
+    f: Found,
+    b: Bill,
+) -> Turned
+    requires { ⌜ (i < n) × (n * 321 ≤ length (now s)) × (n ≤ 200) × (writes ≡ true → c .written + (n - i) * 321 ≤ length (now out)) ⌝ }
+    requires { ⌜ CalmAt f b × Few c × (h .tracking ≤ 1000000200) × (h .confirmation ≤ 1000000200) ⌝ }
+    ensures { λ r. ⌜ TurnedBy (verdictOn duplicate (h .today) (soughtBy f b) (groupAt (now (s .entry)) i n)) (groupAt (now (s .entry)) i n) h b c writes (now (out .entry)) (now (out .exit)) r ⌝ }
+{
+    let sup = file::sup_at(s, i);
+    let today = h.today;
+    let v = verdict_at(s, i, n, duplicate, sought_by(f, b), today);
+    let size = answer::answer(out, c.written, writes, s, i, n, v, b, h);
+    let tally = counts::add(c, v, b, size);
+    let header = LedgerHeader {
+        today,
+        tracking: h.tracking + ids_used(v, sup),
+        confirmation: h.confirmation + 1,
+        count: h.count,
+    };
+    let bill = post(v, sup, b);
+    let update = Update { header, bill };
+    Turned { update, tally }
+}

@@ -1,3 +1,0 @@
--- A supplier file's groups on a ledger.
-pub mod Groups
-pub mod Steps
