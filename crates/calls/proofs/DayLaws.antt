@@ -32,16 +32,6 @@ use Rattle.calls.specs.Days.{freshLedger, quietAnswer}
 pub fresh-book : (s : Start) → book (freshLedger s) ≡ fresh s
 fresh-book s = refl
 
--- the code's tests, joined from the left
-module _ (s : Start) (a b c : Bool) (p : a ≡ isDate (s .today .0)) (q : b ≡ isNumber (s .tracking)) (r : c ≡ isNumber (s .confirmation)) where
-  pub fresh-tested : (t : Bool) → (a && b && c) ≡ t → first (freshCauses s) ≡ cond t Clear (Stop 2)
-  unfolding freshCauses startTests
-  fresh-tested t e = rw (sym (all-joined (isDate (s .today .0)) (isNumber (s .tracking) ∷ isNumber (s .confirmation) ∷ [])), ← p, ← q, ← r, e) (by t)
-    where
-      by : (t : Bool) → cond (not t) (Stop 2) Clear ≡ cond t Clear (Stop 2)
-      by true = refl
-      by false = refl
-
 number-next : (n : ℕ) → isNumber n ≡ true → isNext n ≡ true
 number-next n h =
     let a : 1 ≤ n = leb-true _ _ (and-left (leb 1 n) (leb n 999999999) h) in

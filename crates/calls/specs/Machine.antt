@@ -3,19 +3,14 @@ use Prim.Native.Nat.{ℕ, _+_}
 use mathlib.Core.Path.{_≡_}
 use mathlib.Core.Bool.{Bool, true, cond, not, _&&_}
 use mathlib.Core.List.{List, [], _∷_, _++_, map}
-use lib.Dec.{eqb}
 use lib.ListN.{length}
 use lib.IntN.{ℤ, pos, _-ℤ_}
 use Rattle.units.specs.declared.Date.{Date}
 use Rattle.ledger.specs.declared.Identity.{Identity}
-use Rattle.ledger.specs.declared.RateCode.{RateCode}
-use Rattle.ledger.specs.declared.Product.{Product}
-use Rattle.ledger.specs.declared.Product.the-variants as product
-use Rattle.ledger.specs.declared.Latest.{Latest}
 use Rattle.ledger.specs.declared.Bill.{Bill}
 use Rattle.ledger.specs.declared.Ledger.{Ledger}
 use Rattle.ledger.specs.Lists.{count, update}
-use Rattle.ledger.specs.Bills.{productByte, isOpen, firstBill, renewed, cancelledBill, blankBill}
+use Rattle.ledger.specs.Bills.{renewed, cancelledBill, blankBill}
 use Rattle.ledger.specs.Books.{Book, book, view, stored, ofId, totalOf}
 use Rattle.ledger.specs.Sound.{holdsId, sound, soundLedger}
 use Rattle.notices.specs.Notices.{bil, cxl}
@@ -24,42 +19,20 @@ use Rattle.verdict.specs.declared.Check.{Check}
 use Rattle.verdict.specs.declared.Check.the-variants.{Clear, Stop}
 use Rattle.verdict.specs.declared.Verdict.{Verdict}
 use Rattle.verdict.specs.Rules.{first}
-use Rattle.groups.specs.Groups.{taken, answers, verdicts, isAccepted, isRejected}
-use Rattle.calls.specs.declared.Start.{Start}
-use Rattle.calls.specs.declared.CodeField.{CodeField}
-use Rattle.calls.specs.declared.Request.{Request}
+use Rattle.group.specs.Groups.{taken, answers, verdicts, isAccepted, isRejected}
+use Rattle.causes.specs.declared.Start.{Start}
+use Rattle.causes.specs.declared.Request.{Request}
 use Rattle.calls.specs.declared.Called.{Called}
 use Rattle.calls.specs.declared.Answer.{Answer}
 use Rattle.calls.specs.declared.Answer.the-variants.{Done, Refused}
-use Rattle.calls.specs.Causes.{Call, request, file, cancel, close, causes}
+use Rattle.causes.specs.Causes.{Call, request, file, cancel, close, causes}
+use Rattle.causes.specs.Requests.{latestOf, newBill, closes}
 
 -- "a ledger that isn't sound" is 2; then the causes of the call in their order
 unfoldable pub cause : Book → Call → Check
 cause l c = cond (sound l) (first (causes (view l) c)) (Stop 2)
 
--- ---- what a request gives a bill
--- the rate code that five bytes hold, and the product that a byte holds
-abbrev pub codeOf : CodeField → RateCode
-codeOf x = record { first = x .first; second = x .second; tens = x .tens; ones = x .ones }
-
-abbrev pub productOf : ℕ → Product
-productOf x = cond (eqb x (productByte product.Prepay)) product.Prepay product.BillReady
-
--- "from its latest request the Tracking ID, consumption, Billing Date, From Date and Scheduled Date"
-abbrev pub latestOf : Request → ℕ → Latest
-latestOf r tracking =
-    record {
-      tracking = tracking;
-      consumption = r .consumption;
-      billing = r .billing;
-      from = r .from;
-      scheduled = r .scheduled;
-    }
-
--- the bill of a new identity
-abbrev pub newBill : Request → ℕ → Bill
-newBill r tracking = firstBill (r .identity) (codeOf (r .code)) (productOf (r .product)) (latestOf r tracking)
-
+-- ---- the bill of an identity
 -- the bill with this identity; a blank one stands where there is none
 abbrev pub billOf : Identity → List Bill → Bill
 billOf id [] = blankBill
@@ -120,10 +93,6 @@ nextVerdicts l (request r room) = []
 nextVerdicts l (file s room) = verdicts [] l (fileGroups s)
 nextVerdicts l (cancel id room) = []
 nextVerdicts l (close d) = []
-
--- "how many bills were open before and are not after"
-abbrev pub closes : Date → Date → Bill → Bool
-closes old new b = isOpen old (b .terms) && not (isOpen new (b .terms))
 
 unfoldable pub nextClosed : Book → Call → ℕ
 nextClosed l (request r room) = 0

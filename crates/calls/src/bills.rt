@@ -27,43 +27,6 @@ use notices::cxl::Cxl;
 use units::Cents;
 use verdict::Check;
 
-// The product that a byte holds.
-fn product_of(x: u8) -> Product
-    ensures { λ r. ⌜ r ≡ productOf x ⌝ }
-{
-    if x == 80 {
-        return Product::Prepay;
-    }
-    Product::BillReady
-}
-
-// What a bill has from a request that takes this Tracking ID.
-pub fn latest_of(r: Request, tracking: u64) -> Latest
-    ensures { λ a. ⌜ a ≡ latestOf r tracking ⌝ }
-{
-    let consumption = r.consumption;
-    let billing = r.billing;
-    let from = r.from;
-    let scheduled = r.scheduled;
-    Latest {
-        tracking,
-        consumption,
-        billing,
-        from,
-        scheduled,
-    }
-}
-
-// The bill of a new identity.
-pub fn new_bill(r: Request, tracking: u64) -> Bill
-    ensures { λ a. ⌜ a ≡ newBill r tracking ⌝ }
-{
-    let code = r.code;
-    let id = r.identity;
-    let latest = latest_of(r, tracking);
-    Bill::first(id, causes::code_of(code), product_of(r.product), latest)
-}
-
 // The bill at the place that a search found; a blank one where it found none.
 fn bill_found(l: Ledger, f: Found) -> Bill
     requires { ⌜ InPlace f ⌝ }

@@ -18,24 +18,6 @@ use ledger::Ledger;
 use units::Date;
 use verdict::Check;
 
-// Whether n is a next number that fresh takes.
-fn is_number(n: u64) -> bool
-    ensures { λ r. ⌜ r ≡ isNumber n ⌝ }
-{
-    (1 <= n) & (n <= 999999999)
-}
-
-// The cause against a fresh, if there is one.
-pub fn fresh_check(s: Start) -> Check
-    ensures { λ r. ⌜ r ≡ first (freshCauses s) ⌝ }
-{
-    let today = s.today;
-    if today.valid() & is_number(s.tracking) & is_number(s.confirmation) {
-        return Check::Clear;
-    }
-    Check::Stop(2)
-}
-
 // What a call that writes and posts nothing returns.
 fn quiet(closed: u64) -> Answer
     ensures { λ r. ⌜ r ≡ quietAnswer closed ⌝ }
@@ -63,31 +45,6 @@ pub fn fresh(l: Ledger, s: Start) -> Called
             ledger: Ledger::empty(s.today, s.tracking, s.confirmation),
             answer: quiet(0),
         },
-    }
-}
-
-// The cause against a close of day, if there is one.
-pub fn close_check(d: Date, today: Date) -> Check
-    ensures { λ r. ⌜ r ≡ first (closeCauses d today) ⌝ }
-{
-    if !d.valid() {
-        return Check::Stop(2);
-    }
-    if !today.before(d) {
-        return Check::Stop(10);
-    }
-    Check::Clear
-}
-
-// 1 for a bill that is open on the old date and not on the new one.
-fn one_closed(b: Bill, old: Date, new: Date) -> u64
-    ensures { λ r. ⌜ r ≡ cond (closes old new b) 1 0 ⌝ }
-{
-    let t = b.terms;
-    if t.is_open(old) & !t.is_open(new) {
-        1
-    } else {
-        0
     }
 }
 

@@ -14,30 +14,6 @@ use crate::Returned;
 use ledger::Ledger;
 use verdict::Check;
 
-// Causes 11, 1 and 12 of a file: room is the length of the output lent for its answers.
-pub fn file_check(s: &[u8], room: usize, tracking: u64, confirmation: u64) -> Check
-    requires { ⌜ (tracking ≤ 1000000000) × (confirmation ≤ 1000000000) ⌝ }
-    ensures { λ r. ⌜ r ≡ first (fileCauses (now (s .entry)) room tracking confirmation) ⌝ }
-{
-    if !file::good_file(s) {
-        return Check::Stop(11);
-    }
-    let len = s.len();
-    if room < len {
-        return Check::Stop(1);
-    }
-    let needs = file::count_groups(s, len / 321);
-    if crate::causes::lacks(
-        tracking,
-        confirmation,
-        needs.ids as u64,
-        needs.groups as u64,
-    ) {
-        return Check::Stop(12);
-    }
-    Check::Clear
-}
-
 // Takes a supplier file on a ledger that is known to be sound.
 pub fn file_on_sound(l: Ledger, out: &mut [u8], s: &[u8]) -> Called
     requires { ⌜ soundLedger l ≡ true ⌝ }

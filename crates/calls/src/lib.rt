@@ -1,41 +1,10 @@
-// The calls on a ledger by value: their arguments and what they answer.
+// The calls on a ledger by value, and what they answer.
 pub mod bills;
-pub mod causes;
 pub mod days;
 pub mod files;
 pub mod lookups;
 
-use ledger::Identity;
 use ledger::Ledger;
-use units::Ccf;
-use units::Date;
-
-// What fresh takes.
-pub struct Start {
-    pub today: Date,
-    pub tracking: u64,
-    pub confirmation: u64,
-}
-
-// Five bytes that may hold a rate code.
-pub struct CodeField {
-    pub first: u8,
-    pub second: u8,
-    pub third: u8,
-    pub tens: u8,
-    pub ones: u8,
-}
-
-// What a request takes: the rate code in five bytes, the product as B or P.
-pub struct Request {
-    pub code: CodeField,
-    pub identity: Identity,
-    pub product: u8,
-    pub billing: Date,
-    pub from: Date,
-    pub consumption: Ccf,
-    pub scheduled: Date,
-}
 
 // What a call that was carried out returns: the signed change in cents, how many bytes it wrote, of a file how many groups were
 // accepted and rejected, of a close how many bills it closed.

@@ -1,0 +1,4 @@
+-- Laws that belong to no one function.
+pub mod CauseLaws
+pub mod CodeLaws
+pub mod CheckLaws

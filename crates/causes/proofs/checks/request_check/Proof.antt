@@ -1,0 +1,67 @@
+-- `causes::checks::request_check` meets its contract, cause by cause.
+use borrow.Author.Needs.{needs}
+use mathlib.Core.Path.{sym, _∙_}
+use borrow.Author.Tests.{not-true, not-false, lt-ltb, le-ltb}
+use Rattle.verdict.proofs.VerdictLaws.{first-stop, first-clear}
+use Rattle.causes.specs.Causes.{requestCauses}
+use Rattle.causes.proofs.checks.request_check.Statement.{statement}
+use Rattle.causes.proofs.checks.request_check.Tie as tie
+
+good-request-requires : tie.Need-good-request-requires
+good-request-requires c κs = search needs
+
+returns : tie.Need-returns
+unfolding requestCauses
+returns c = rw (sym (c .before .good-request .ensures) ∙ not-true _ (c .if1 .taken))
+
+returns-2 : tie.Need-returns-2
+unfolding requestCauses
+returns-2 c = rw (sym (c .before .before .good-request .ensures) ∙ not-false _ (c .before .if1 .left), lt-ltb _ _ (c .if2 .taken))
+
+before-requires : tie.Need-before-requires
+before-requires c κs = search needs
+
+returns-3 : tie.Need-returns-3
+unfolding requestCauses
+returns-3 c = rw (sym (c .before .before .before .before .before .good-request .ensures) ∙ not-false _ (c .before .before .before .before .if1 .left), le-ltb _ _ (c .before .before .before .if2 .left), sym (c .before .before2 .ensures) ∙ c .if3 .taken)
+
+bill-check-requires : tie.Need-bill-check-requires
+bill-check-requires c κs = search needs
+
+enum-known-check : tie.Need-enum-known-check
+enum-known-check c = search needs
+
+returns-4 : tie.Need-returns-4
+unfolding requestCauses
+returns-4 c = rw (sym (c .before .before .before .before .before .before .before .before .before .good-request .ensures) ∙ not-false _ (c .before .before .before .before .before .before .before .before .if1 .left), le-ltb _ _ (c .before .before .before .before .before .before .before .if2 .left), sym (c .before .before .before .before .before .before2 .ensures) ∙ c .before .before .before .before .if3 .left, first-stop _ _ (sym (c .before .before .before .bill-check .ensures) ∙ c .before .check .given .1))
+
+enum-told : tie.Need-enum-told
+enum-told c = search needs
+
+lacks-requires : tie.Need-lacks-requires
+lacks-requires c κs = search needs
+
+returns-5 : tie.Need-returns-5
+unfolding requestCauses
+returns-5 c = rw (sym (c .before .before .before .before .before .before .before .before .before .before .good-request .ensures) ∙ not-false _ (c .before .before .before .before .before .before .before .before .before .if1 .left), le-ltb _ _ (c .before .before .before .before .before .before .before .before .if2 .left), sym (c .before .before .before .before .before .before .before2 .ensures) ∙ c .before .before .before .before .before .if3 .left, first-clear _ _ (sym (c .before .before .before .before .bill-check .ensures) ∙ c .before .before .enum-told .given .1), sym (c .before .lacks .ensures) ∙ c .if4 .taken)
+
+returns-6 : tie.Need-returns-6
+unfolding requestCauses
+returns-6 c = rw (sym (c .before .before .before .before .before .before .before .before .before .before .good-request .ensures) ∙ not-false _ (c .before .before .before .before .before .before .before .before .before .if1 .left), le-ltb _ _ (c .before .before .before .before .before .before .before .before .if2 .left), sym (c .before .before .before .before .before .before .before2 .ensures) ∙ c .before .before .before .before .before .if3 .left, first-clear _ _ (sym (c .before .before .before .before .bill-check .ensures) ∙ c .before .before .enum-told .given .1), sym (c .before .lacks .ensures) ∙ c .if4 .left)
+
+pub request-check-spec : {M : Type 1} → statement M
+request-check-spec =
+    tie.close
+    (tie.spec
+    good-request-requires
+    returns
+    returns-2
+    before-requires
+    returns-3
+    bill-check-requires
+    enum-known-check
+    returns-4
+    enum-told
+    lacks-requires
+    returns-5
+    returns-6)

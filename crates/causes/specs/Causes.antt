@@ -1,0 +1,117 @@
+-- "Causes": the calls with their arguments, and the causes of each in its order, without the ledger part of 2. Assumes nothing.
+use Prim.Native.Nat.{ℕ, _+_}
+use mathlib.Core.Bool.{Bool, not, _&&_, _||_}
+use mathlib.Core.List.{List, [], _∷_, _++_}
+use lib.Dec.{eqb, leb, ltb}
+use lib.ListN.{length}
+use Rattle.fields.specs.Digits.{fits}
+use Rattle.fields.specs.Put.{sameList}
+use Rattle.units.specs.declared.Date.{Date}
+use Rattle.units.specs.Units.{fitsCcf}
+use Rattle.units.specs.Calendar.{isDate}
+use Rattle.ledger.specs.declared.Identity.{Identity}
+use Rattle.ledger.specs.declared.Product.the-variants as product
+use Rattle.ledger.specs.Lists.{count, all}
+use Rattle.ledger.specs.Bills.{isRateCode, codeBytes, productByte}
+use Rattle.ledger.specs.Books.{View}
+use Rattle.file.specs.File.{goodFile, fileGroups, asksId}
+use Rattle.verdict.specs.declared.Sought.{Sought}
+use Rattle.verdict.specs.declared.Sought.the-variants.{Bill, Nothing}
+use Rattle.verdict.specs.Rules.{Rule, rule}
+use Rattle.verdict.specs.Lines.{isNothing, termsOf}
+use Rattle.group.specs.Groups.{soughtIn}
+use Rattle.causes.specs.declared.Start.{Start}
+use Rattle.causes.specs.declared.CodeField.{CodeField}
+use Rattle.causes.specs.declared.Request.{Request}
+
+-- "The list holds each call with its arguments, file bytes and the length of the output lent to it": room is that length
+pub data Call : Type 0 where
+  request : Request → ℕ → Call
+  file : List ℕ → ℕ → Call
+  cancel : Identity → ℕ → Call
+  close : Date → Call
+
+-- ---- 2: "a field too wide or not digits, no date, a bad rate code, a product neither B nor P, at fresh a next number 0 or over 999,999,999"
+abbrev pub isNumber : ℕ → Bool
+isNumber n = leb 1 n && leb n 999999999
+
+unfoldable pub startTests : Start → List Bool
+startTests s = isDate (s .today .0) ∷ isNumber (s .tracking) ∷ isNumber (s .confirmation) ∷ []
+
+abbrev pub goodIdentity : Identity → Bool
+goodIdentity id = fits 12 (id .account) && fits 4 (id .key)
+
+abbrev pub isProduct : ℕ → Bool
+isProduct x = eqb x (productByte product.BillReady) || eqb x (productByte product.Prepay)
+
+-- the five bytes of a rate code's field
+abbrev pub fiveOf : CodeField → List ℕ
+fiveOf x = x .first ∷ x .second ∷ x .third ∷ x .tens ∷ x .ones ∷ []
+
+unfoldable pub requestTests : Request → List Bool
+requestTests r =
+    isRateCode (fiveOf (r .code))
+    ∷ goodIdentity (r .identity)
+    ∷ isProduct (r .product)
+    ∷ isDate (r .billing .0)
+    ∷ isDate (r .from .0)
+    ∷ fitsCcf (r .consumption)
+    ∷ isDate (r .scheduled .0)
+    ∷ []
+
+-- ---- 12: "fewer numbers left than the request, cancel or file .. needs": t Tracking IDs and c Confirmation Numbers
+abbrev pub lacks : ℕ → ℕ → ℕ → ℕ → Bool
+lacks tracking confirmation t c = ltb 1000000000 (tracking + t) || ltb 1000000000 (confirmation + c)
+
+-- ---- the causes of each call in their order
+-- "Fresh: 2."
+unfoldable pub freshCauses : Start → List Rule
+freshCauses s = rule (not (all (startTests s))) 2 ∷ []
+
+-- "5, 6, 7, 8 for a known bill or 3 for a new one", where so many bills are held
+unfoldable pub billCauses : Request → ℕ → Sought → List Rule
+billCauses r held (Bill t) =
+    rule (t .cancelled) 5
+    ∷ rule (not (sameList (fiveOf (r .code)) (codeBytes (t .code)) && eqb (r .product) (productByte (t .product)))) 6
+    ∷ rule (eqb (r .consumption .0) (t .latest .consumption .0)) 7
+    ∷ rule (eqb (t .sequence) 999) 8
+    ∷ []
+billCauses r held Nothing = rule (leb 128 held) 3 ∷ []
+
+-- "Request: 2, 1, 9, then 5, 6, 7, 8 for a known bill or 3 for a new one, 12."
+unfoldable pub requestCauses : Request → ℕ → Date → ℕ → ℕ → ℕ → Sought → List Rule
+requestCauses r room today tracking confirmation held b =
+    rule (not (all (requestTests r))) 2
+    ∷ rule (ltb room 642) 1
+    ∷ rule (ltb (r .scheduled .0) (today .0)) 9
+    ∷ (billCauses r held b ++ (rule (lacks tracking confirmation 1 1) 12 ∷ []))
+
+-- "File: 2, 11, 1, 12.": "each group a Confirmation, each SUP header a Tracking"
+unfoldable pub fileCauses : List ℕ → ℕ → ℕ → ℕ → List Rule
+fileCauses s room tracking confirmation =
+    rule (not (goodFile s)) 11
+    ∷ rule (ltb room (length s)) 1
+    ∷ rule (lacks tracking confirmation (count asksId (fileGroups s)) (length (fileGroups s))) 12
+    ∷ []
+
+-- "Cancel: 2, 1, 4, 5, 12."
+unfoldable pub cancelCauses : Identity → ℕ → ℕ → ℕ → Sought → List Rule
+cancelCauses id room tracking confirmation b =
+    rule (not (goodIdentity id)) 2
+    ∷ rule (ltb room 642) 1
+    ∷ rule (isNothing b) 4
+    ∷ rule (termsOf b .cancelled) 5
+    ∷ rule (lacks tracking confirmation 1 1) 12
+    ∷ []
+
+-- "Close: 2, 10.": "date not after today"
+unfoldable pub closeCauses : Date → Date → List Rule
+closeCauses d today = rule (not (isDate (d .0))) 2 ∷ rule (not (ltb (today .0) (d .0))) 10 ∷ []
+
+-- the causes of a call, read on a view
+unfoldable pub causes : View → Call → List Rule
+causes v (request r room) =
+    requestCauses r room (v .today) (v .tracking) (v .confirmation) (length (v .bills)) (soughtIn (r .identity) (v .bills))
+causes v (file s room) = fileCauses s room (v .tracking) (v .confirmation)
+causes v (cancel id room) = cancelCauses id room (v .tracking) (v .confirmation) (soughtIn id (v .bills))
+causes v (close d) = closeCauses d (v .today)

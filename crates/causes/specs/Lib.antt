@@ -1,0 +1,3 @@
+-- The causes of each call, and what requests and cancels come to on small values.
+pub mod Causes
+pub mod Requests

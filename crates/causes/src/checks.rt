@@ -1,0 +1,243 @@
+// The first cause against each call, on small values. (That the ledger is sound is asked by who holds it.)
+ghost use mathlib.Core.Path.{_≡_};
+ghost use mathlib.Core.Bool.{cond};
+ghost use Prim.Native.Nat.{_≤_};
+ghost use Rattle.fields.specs.Put.{sameList};
+ghost use Rattle.ledger.specs.Lists.{all};
+ghost use Rattle.ledger.specs.Bills.{isRateCode, codeBytes};
+ghost use Rattle.verdict.specs.Rules.{first};
+ghost use Rattle.causes.specs.Causes.{isNumber, goodIdentity, fiveOf, isProduct, requestTests, lacks, freshCauses, billCauses, requestCauses, fileCauses, cancelCauses, closeCauses};
+ghost use Rattle.causes.specs.Requests.{codeOf, closes};
+use crate::CodeField;
+use crate::Request;
+use crate::Start;
+use ledger::Bill;
+use ledger::Identity;
+use ledger::RateCode;
+use units::Date;
+use verdict::Check;
+use verdict::Sought;
+
+// Whether t Tracking IDs and c Confirmation Numbers are more than are left.
+pub fn lacks(tracking: u64, confirmation: u64, t: u64, c: u64) -> bool
+    requires { ⌜ (tracking ≤ 1000000000) × (confirmation ≤ 1000000000) × (t ≤ 200) × (c ≤ 200) ⌝ }
+    ensures { λ r. ⌜ r ≡ lacks tracking confirmation t c ⌝ }
+{
+    (1000000000 < tracking + t) | (1000000000 < confirmation + c)
+}
+
+// Whether account and Bill Key are in their widths.
+pub fn good_identity(id: Identity) -> bool
+    ensures { λ r. ⌜ r ≡ goodIdentity id ⌝ }
+{
+    (id.account < 1000000000000) & (id.key < 10000)
+}
+
+// The rate code that five bytes hold.
+pub fn code_of(x: CodeField) -> RateCode
+    ensures { λ r. ⌜ r ≡ codeOf x ⌝ }
+{
+    RateCode {
+        first: x.first,
+        second: x.second,
+        tens: x.tens,
+        ones: x.ones,
+    }
+}
+
+// Whether five bytes hold a rate code.
+fn good_code(x: CodeField) -> bool
+    ensures { λ r. ⌜ r ≡ isRateCode (fiveOf x) ⌝ }
+{
+    code_of(x).valid() & (x.third == 67)
+}
+
+// Whether five bytes hold this rate code.
+fn same_code(x: CodeField, c: RateCode) -> bool
+    ensures { λ r. ⌜ r ≡ sameList (fiveOf x) (codeBytes c) ⌝ }
+{
+    (x.first == c.first)
+        & (x.second == c.second)
+        & (x.third == 67)
+        & (x.tens == c.tens)
+        & (x.ones == c.ones)
+}
+
+fn good_product(x: u8) -> bool
+    ensures { λ r. ⌜ r ≡ isProduct x ⌝ }
+{
+    (x == 66) | (x == 80)
+}
+
+// Whether every argument is in its width and range.
+pub fn good_request(r: Request) -> bool
+    ensures { λ a. ⌜ a ≡ all (requestTests r) ⌝ }
+{
+    let code = r.code;
+    let id = r.identity;
+    let billing = r.billing;
+    let from = r.from;
+    let consumption = r.consumption;
+    let scheduled = r.scheduled;
+    good_code(code)
+        & good_identity(id)
+        & good_product(r.product)
+        & billing.valid()
+        & from.valid()
+        & consumption.fits()
+        & scheduled.valid()
+}
+
+// The causes against a request for a known bill, or for a new one where so many bills are held.
+fn bill_check(r: Request, held: usize, b: Sought) -> Check
+    ensures { λ a. ⌜ a ≡ first (billCauses r held b) ⌝ }
+{
+    let Sought::Bill(t) = b else {
+        if 128 <= held {
+            return Check::Stop(3);
+        }
+        return Check::Clear;
+    };
+    let cancelled = t.cancelled;
+    if cancelled {
+        return Check::Stop(5);
+    }
+    let code = r.code;
+    let product = t.product;
+    if !(same_code(code, t.code) & (r.product == product.byte())) {
+        return Check::Stop(6);
+    }
+    let consumption = r.consumption;
+    if consumption.same(t.latest.consumption) {
+        return Check::Stop(7);
+    }
+    if t.sequence == 999 {
+        return Check::Stop(8);
+    }
+    Check::Clear
+}
+
+// The first cause against a request of a sound ledger.
+pub fn request_check(
+    r: Request,
+    room: usize,
+    today: Date,
+    tracking: u64,
+    confirmation: u64,
+    held: usize,
+    b: Sought,
+) -> Check
+    requires { ⌜ (tracking ≤ 1000000000) × (confirmation ≤ 1000000000) ⌝ }
+    ensures { λ a. ⌜ a ≡ first (requestCauses r room today tracking confirmation held b) ⌝ }
+{
+    if !good_request(r) {
+        return Check::Stop(2);
+    }
+    if room < 642 {
+        return Check::Stop(1);
+    }
+    let scheduled = r.scheduled;
+    if scheduled.before(today) {
+        return Check::Stop(9);
+    }
+    let check = bill_check(r, held, b);
+    if let Check::Stop(n) = check {
+        return Check::Stop(n);
+    }
+    if lacks(tracking, confirmation, 1, 1) {
+        return Check::Stop(12);
+    }
+    Check::Clear
+}
+
+// The first cause against a cancel of a sound ledger.
+pub fn cancel_check(id: Identity, room: usize, tracking: u64, confirmation: u64, b: Sought) -> Check
+    requires { ⌜ (tracking ≤ 1000000000) × (confirmation ≤ 1000000000) ⌝ }
+    ensures { λ a. ⌜ a ≡ first (cancelCauses id room tracking confirmation b) ⌝ }
+{
+    if !good_identity(id) {
+        return Check::Stop(2);
+    }
+    if room < 642 {
+        return Check::Stop(1);
+    }
+    let Sought::Bill(t) = b else {
+        return Check::Stop(4);
+    };
+    let cancelled = t.cancelled;
+    if cancelled {
+        return Check::Stop(5);
+    }
+    if lacks(tracking, confirmation, 1, 1) {
+        return Check::Stop(12);
+    }
+    Check::Clear
+}
+
+// Causes 11, 1 and 12 of a file: room is the length of the output lent for its answers.
+pub fn file_check(s: &[u8], room: usize, tracking: u64, confirmation: u64) -> Check
+    requires { ⌜ (tracking ≤ 1000000000) × (confirmation ≤ 1000000000) ⌝ }
+    ensures { λ r. ⌜ r ≡ first (fileCauses (now (s .entry)) room tracking confirmation) ⌝ }
+{
+    if !file::good_file(s) {
+        return Check::Stop(11);
+    }
+    let len = s.len();
+    if room < len {
+        return Check::Stop(1);
+    }
+    let needs = file::count_groups(s, len / 321);
+    if lacks(
+        tracking,
+        confirmation,
+        needs.ids as u64,
+        needs.groups as u64,
+    ) {
+        return Check::Stop(12);
+    }
+    Check::Clear
+}
+
+// Whether n is a next number that fresh takes.
+fn is_number(n: u64) -> bool
+    ensures { λ r. ⌜ r ≡ isNumber n ⌝ }
+{
+    (1 <= n) & (n <= 999999999)
+}
+
+// The cause against a fresh, if there is one.
+pub fn fresh_check(s: Start) -> Check
+    ensures { λ r. ⌜ r ≡ first (freshCauses s) ⌝ }
+{
+    let today = s.today;
+    if today.valid() & is_number(s.tracking) & is_number(s.confirmation) {
+        return Check::Clear;
+    }
+    Check::Stop(2)
+}
+
+// The cause against a close of day, if there is one.
+pub fn close_check(d: Date, today: Date) -> Check
+    ensures { λ r. ⌜ r ≡ first (closeCauses d today) ⌝ }
+{
+    if !d.valid() {
+        return Check::Stop(2);
+    }
+    if !today.before(d) {
+        return Check::Stop(10);
+    }
+    Check::Clear
+}
+
+// 1 for a bill that is open on the old date and not on the new one.
+pub fn one_closed(b: Bill, old: Date, new: Date) -> u64
+    ensures { λ r. ⌜ r ≡ cond (closes old new b) 1 0 ⌝ }
+{
+    let t = b.terms;
+    if t.is_open(old) & !t.is_open(new) {
+        1
+    } else {
+        0
+    }
+}
+

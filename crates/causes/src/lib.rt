@@ -1,0 +1,44 @@
+// What decides on a call, on small values: its arguments, the first cause against it, what a request or a cancel leaves of the bill at its place, and its notice.
+// Who holds the ledger finds the bill and stores what is left: calls by value, engine in words.
+pub mod checks;
+pub mod notice;
+pub mod requests;
+
+use ledger::Identity;
+use ledger::Update;
+use units::Ccf;
+use units::Date;
+use verdict::Check;
+
+// What fresh takes.
+pub struct Start {
+    pub today: Date,
+    pub tracking: u64,
+    pub confirmation: u64,
+}
+
+// Five bytes that may hold a rate code.
+pub struct CodeField {
+    pub first: u8,
+    pub second: u8,
+    pub third: u8,
+    pub tens: u8,
+    pub ones: u8,
+}
+
+// What a request takes: the rate code in five bytes, the product as B or P.
+pub struct Request {
+    pub code: CodeField,
+    pub identity: Identity,
+    pub product: u8,
+    pub billing: Date,
+    pub from: Date,
+    pub consumption: Ccf,
+    pub scheduled: Date,
+}
+
+// What a request or a cancel comes to: the first cause against it, and the header and the bill that it leaves.
+pub struct Decision {
+    pub check: Check,
+    pub update: Update,
+}
