@@ -1,48 +1,46 @@
--- What a request and a cancel do to the struct is what the machine says of the book. Assumes nothing.
+-- What a request and a cancel do to the struct is what the machine says of the book, by value and in words. Assumes nothing.
 use Prim.Native.Nat.{ℕ, _+_, _≤_, _<_, _^_}
-use mathlib.Core.Path.{_≡_, refl, sym, ap, _∙_, subst}
+use mathlib.Core.Path.{_≡_, refl, sym, ap, ap₂, _∙_, subst}
 use mathlib.Core.Bool.{true, false, true≢false}
 use mathlib.Core.List.{List, [], _∷_, _++_, map}
 use native.Mathlib.Omega.{arith}
 use lib.ListN.{length, set, drop, take-append-drop, length-set, length-map}
 use lib.Seq.{drop-set-lt}
-use lib.IntN.{ℤ, pos, _-ℤ_}
-use borrow.Author.Tests.{ltb-true}
+use lib.IntN.{pos, _-ℤ_}
+use borrow.Author.Tests.{ltb-true, lt-ltb}
 use Rattle.fields.proofs.BoolLaws.{cases}
-use Rattle.units.specs.declared.Cents.{Cents}
 use Rattle.ledger.specs.declared.Identity.{Identity}
 use Rattle.ledger.specs.declared.Bill.{Bill}
 use Rattle.ledger.specs.declared.Ledger.{Ledger}
+use Rattle.ledger.specs.declared.LedgerHeader.{LedgerHeader}
 use Rattle.ledger.specs.declared.Found.{Found}
 use Rattle.ledger.specs.declared.Found.the-variants.{At, Nothing}
 use Rattle.ledger.specs.Lists.{update}
-use Rattle.ledger.specs.Bills.{chargeOf, renewed, cancelledBill, blankBill}
-use Rattle.ledger.specs.Books.{Book, book, live, stored, ofId, placeOf, termsIn, billCharge, totalOf, appended, replaced}
+use Rattle.ledger.specs.Bills.{renewed, cancelledBill, blankBill}
+use Rattle.ledger.specs.Books.{Book, book, live, stored, ofId, placeOf, billAt, headerOf, updated, slotOf, termsIn, billCharge, totalOf}
 use Rattle.ledger.specs.Sound.{holdsId, soundBill, soundLedger}
 use Rattle.ledger.proofs.BookLaws.{live-appended, live-replaced, length-live, difference}
 use Rattle.ledger.proofs.ListLaws.{sum-append}
 use Rattle.ledger.proofs.SoundLaws.{TermsFacts, terms-facts, bill-terms, bill-small, book-facts, ledger-book, ledger-count}
 use Rattle.verdict.specs.declared.Check.{Check}
-use Rattle.verdict.specs.declared.Check.the-variants.{Clear}
+use Rattle.verdict.specs.declared.Check.the-variants.{Clear, Stop}
 use Rattle.verdict.specs.declared.Sought.{Sought}
 use Rattle.verdict.specs.declared.Sought.the-variants as sought
 use Rattle.verdict.specs.Rules.{first}
-use Rattle.notices.specs.Notices.{bil, cxl}
-use Rattle.notices.proofs.NoticeLaws.{length-bil, length-cxl}
-use Rattle.groups.specs.Groups.{soughtIn}
-use Rattle.groups.specs.Steps.{billAt, soughtAt}
-use Rattle.groups.proofs.PlaceLaws.{Held, nowhere, somewhere, held, sought-is}
-use Rattle.groups.proofs.TurnLaws.{every-held}
-use Rattle.groups.proofs.ReadyLaws.{sound-ready}
-use Rattle.calls.specs.declared.Request.{Request}
-use Rattle.calls.specs.declared.Answer.{Answer}
-use Rattle.calls.specs.Causes.{request, cancel, requestCauses, cancelCauses, causes}
-use Rattle.calls.specs.Machine.{latestOf, newBill, billOf, asked, numbered, next, nextWritten, nextVerdicts, nextClosed, total, outcome, answerBy, causeIn, stepIn, called}
-use Rattle.calls.specs.BillSteps.{billFound, askedAt, storedAt, counted, noticed, HasPlace, CanRenew}
 use Rattle.verdict.specs.Lines.{isNothing}
-use Rattle.calls.proofs.CauseLaws.{Asks, asks, Cancels, cancels}
+use Rattle.notices.proofs.NoticeLaws.{length-bil, length-cxl}
+use Rattle.group.specs.Groups.{soughtIn}
+use Rattle.group.specs.Turns.{soughtBy}
+use Rattle.group.proofs.PlaceLaws.{Held, nowhere, somewhere, held, sought-is, every-held}
+use Rattle.causes.specs.declared.Request.{Request}
+use Rattle.causes.specs.declared.Decision.{Decision}
+use Rattle.causes.specs.Causes.{Call, request, cancel, requestCauses, cancelCauses, causes}
+use Rattle.causes.specs.Requests.{latestOf, newBill, SoundAt, askedBy, requestBy, cancelBy, bilBy, cxlBy}
+use Rattle.causes.proofs.CauseLaws.{asks, cancels}
+use Rattle.calls.specs.declared.Answer.the-variants.{Refused}
+use Rattle.calls.specs.Machine.{billOf, asked, numbered, next, nextWritten, nextVerdicts, nextClosed, total, outcome, answerBy, causeIn, stepIn, called, noticed}
 use Rattle.calls.proofs.PlaceOfLaws.{first-of, spot, spot-none}
-use Rattle.calls.proofs.CallLaws.{cause-sound, clear-sound, clear-first, written-clear, called-clear}
+use Rattle.calls.proofs.CallLaws.{Carried, Stopped, carried, stopped, cause-sound, written-clear}
 
 -- ---- where a bill is
 -- all that is known of a bill by its place in the struct
@@ -60,36 +58,28 @@ placed l id = go (held l id)
     go (nowhere x y) = let n = spot-none (ofId id) l x in new x (n .0) (first-of id (live l) ∙ n .1) y
     go (somewhere p h x y z) = let s = spot (ofId id) l p x in old p h x (s .some) (first-of id (live l) ∙ s .bill) y z
 
--- the bill that was found is the bill of the identity
-pub found-is : (l : Ledger) (id : Identity) → billFound l (placeOf id (live l)) ≡ billOf id (live l)
-found-is l id = go (placed l id)
-  where
-    go : Placed l id → billFound l (placeOf id (live l)) ≡ billOf id (live l)
-    go (new x b c y) = rw (x, c)
-    go (old p h x b c y z) = rw (x, c)
-
--- the bill as the code leaves it is the bill as the request does
-pub asked-is : (l : Ledger) (r : Request) → askedAt r l (placeOf (r .identity) (live l)) ≡ asked r (book l)
-asked-is l r = go (placed l (r .identity))
-  where
-    go : Placed l (r .identity) → askedAt r l (placeOf (r .identity) (live l)) ≡ asked r (book l)
-    go (new x b c y) = rw (x, b)
-    go (old p h x b c y z) = rw (x, b, c)
-
 -- ---- the struct after a change holds the changed book, and past it what it held
 stored-same : (l k : Ledger) → k .count ≤ length (k .bills) → drop (k .count) (k .bills) ≡ drop (k .count) (l .bills) → stored l (book k) ≡ k
 stored-same l k h e = rw (length-live k h, sym e, take-append-drop (k .count) (k .bills))
 
-pub stored-new : (l : Ledger) (b : Bill) → l .count < length (l .bills)
-    → counted (appended l b) ≡ stored l (numbered (book l) (live l ++ (b ∷ [])))
+-- "uses one of each number"
+abbrev counted : LedgerHeader → ℕ → LedgerHeader
+counted h n = record { today = h .today; tracking = h .tracking + 1; confirmation = h .confirmation + 1; count = n }
+
+abbrev grownBy : Ledger → Bill → Ledger
+grownBy l b = updated l (l .count) (record { header = counted (headerOf l) (l .count + 1); bill = b })
+
+abbrev changedBy : Ledger → ℕ → Bill → Ledger
+changedBy l p b = updated l p (record { header = counted (headerOf l) (l .count); bill = b })
+
+stored-new : (l : Ledger) (b : Bill) → l .count < length (l .bills) → grownBy l b ≡ stored l (numbered (book l) (live l ++ (b ∷ [])))
 stored-new l b h =
-    sym (stored-same l (counted (appended l b)) (omega (arith, length-set (l .bills) (l .count) b)) (drop-set-lt (l .count + 1) (l .bills) (l .count) b (omega arith)))
+    sym (stored-same l (grownBy l b) (omega (arith, length-set (l .bills) (l .count) b)) (drop-set-lt (l .count + 1) (l .bills) (l .count) b (omega arith)))
     ∙ ap (λ (bs : List Bill). stored l (numbered (book l) bs)) (live-appended l b h)
 
-pub stored-old : (l : Ledger) (p : ℕ) (b : Bill) → p < l .count → l .count ≤ length (l .bills)
-    → counted (replaced l p b) ≡ stored l (numbered (book l) (set (live l) p b))
+stored-old : (l : Ledger) (p : ℕ) (b : Bill) → p < l .count → l .count ≤ length (l .bills) → changedBy l p b ≡ stored l (numbered (book l) (set (live l) p b))
 stored-old l p b h k =
-    sym (stored-same l (counted (replaced l p b)) (omega (arith, length-set (l .bills) p b)) (drop-set-lt (l .count) (l .bills) p b h))
+    sym (stored-same l (changedBy l p b) (omega (arith, length-set (l .bills) p b)) (drop-set-lt (l .count) (l .bills) p b h))
     ∙ ap (λ (bs : List Bill). stored l (numbered (book l) bs)) (live-replaced l p b h)
 
 -- ---- the total
@@ -131,96 +121,6 @@ module _ (l : Ledger) (long : length (l .bills) ≡ 128) (s : soundLedger l ≡ 
   pub held-length : length (map termsIn (live l)) ≡ l .count
   held-length = length-map (live l) termsIn ∙ length-live l within
 
--- ---- a request with no cause against it
-module _ (l : Ledger) (long : length (l .bills) ≡ 128) (r : Request) (room : ℕ) (z : causeIn l (request r room) ≡ Clear) where
-  asks-sound : soundLedger l ≡ true
-  asks-sound = clear-sound l (request r room) z
-
-  abbrev wanted : Sought
-  wanted = soughtIn (r .identity) (map termsIn (live l))
-
-  asks-facts : Asks r room (l .today) (l .«next_tracking») (l .«next_confirmation») (length (map termsIn (live l))) wanted
-  unfolding causes
-  asks-facts = asks r room (l .today) (l .«next_tracking») (l .«next_confirmation») _ wanted (clear-first l (request r room) z)
-
-  pub request-room : 642 ≤ room
-  request-room = asks-facts .wide
-
-  -- a new bill has room
-  asks-new : wanted ≡ sought.Nothing → l .count < 128
-  asks-new y = omega (arith, held-length l long asks-sound, asks-facts .new y)
-
-  -- the sequence of a known one has room
-  asks-old : (p : ℕ) → p < l .count → wanted ≡ sought.Bill (billAt l p .terms) → billAt l p .terms .sequence < 999
-  asks-old p h y = omega (arith, asks-facts .known (billAt l p .terms) y .1, facts-at l long asks-sound p h .sequence)
-
-  pub request-place : HasPlace l (placeOf (r .identity) (live l))
-  request-place = go (placed l (r .identity))
-    where
-      go : Placed l (r .identity) → HasPlace l (placeOf (r .identity) (live l))
-      go (new x b c y) = rw x (asks-new y)
-      go (old p h x b c y u) = rw x (omega (arith, ledger-count l asks-sound))
-
-  pub request-renews : CanRenew l (placeOf (r .identity) (live l))
-  request-renews = go (placed l (r .identity))
-    where
-      go : Placed l (r .identity) → CanRenew l (placeOf (r .identity) (live l))
-      go (new x b c y) = rw x tt
-      go (old p h x b c y u) = rw x (omega (arith, ledger-count l asks-sound), (facts-at l long asks-sound p h .requests, asks-old p h y))
-
-  -- the struct that it leaves
-  pub request-left : counted (storedAt l (placeOf (r .identity) (live l)) (askedAt r l (placeOf (r .identity) (live l)))) ≡ stored l (next (book l) (request r room))
-  unfolding next
-  request-left = go (placed l (r .identity))
-    where
-      go : Placed l (r .identity)
-          → counted (storedAt l (placeOf (r .identity) (live l)) (askedAt r l (placeOf (r .identity) (live l)))) ≡ stored l (next (book l) (request r room))
-      go (new x b c y) = rw (x, b) (stored-new l (newBill r (l .«next_tracking»)) (omega (arith, asks-new y)))
-      go (old p h x b c y u) =
-          rw (x, b, u (renewed (latestOf r (l .«next_tracking»)))) (stored-old l p (renewed (latestOf r (l .«next_tracking»)) (billAt l p)) h (within l long asks-sound))
-
--- ---- a cancel with no cause against it
-module _ (l : Ledger) (long : length (l .bills) ≡ 128) (id : Identity) (room : ℕ) (z : causeIn l (cancel id room) ≡ Clear) where
-  ends-sound : soundLedger l ≡ true
-  ends-sound = clear-sound l (cancel id room) z
-
-  ends-facts : Cancels id room (l .«next_tracking») (l .«next_confirmation») (soughtIn id (map termsIn (live l)))
-  unfolding causes
-  ends-facts = cancels id room (l .«next_tracking») (l .«next_confirmation») _ (clear-first l (cancel id room) z)
-
-  pub cancel-room : 642 ≤ room
-  cancel-room = ends-facts .wide
-
-  -- there is a bill
-  ends-none : soughtIn id (map termsIn (live l)) ≡ sought.Nothing → ⊥
-  ends-none y = true≢false (subst (λ (b : Sought). isNothing b ≡ false) y (ends-facts .known))
-
-  pub cancel-place : HasPlace l (placeOf id (live l))
-  cancel-place = go (placed l id)
-    where
-      go : Placed l id → HasPlace l (placeOf id (live l))
-      go (new x b c y) = absurd (ends-none y)
-      go (old p h x b c y u) = rw x (omega (arith, ledger-count l ends-sound))
-
-  -- what it takes away can be told with a sign
-  pub cancel-small : billCharge (billFound l (placeOf id (live l))) < 2 ^ 63
-  cancel-small = go (placed l id)
-    where
-      go : Placed l id → billCharge (billFound l (placeOf id (live l))) < 2 ^ 63
-      go (new x b c y) = absurd (ends-none y)
-      go (old p h x b c y u) =
-          let m : billCharge (billAt l p) < 10 ^ 13 = ltb-true _ _ (bill-small (billAt l p) (sound-at l long ends-sound p h)) in
-          rw x (omega arith)
-
-  -- the struct that it leaves
-  pub cancel-left : counted (storedAt l (placeOf id (live l)) (cancelledBill (billFound l (placeOf id (live l))))) ≡ stored l (next (book l) (cancel id room))
-  unfolding next
-  cancel-left = go (placed l id)
-    where
-      go : Placed l id → counted (storedAt l (placeOf id (live l)) (cancelledBill (billFound l (placeOf id (live l))))) ≡ stored l (next (book l) (cancel id room))
-      go (new x b c y) = absurd (ends-none y)
-      go (old p h x b c y u) = rw (x, u cancelledBill) (stored-old l p (cancelledBill (billAt l p)) h (within l long ends-sound))
-
 -- ---- what they answer
 pub request-answer : (k : Book) (r : Request) (room : ℕ) → noticed (pos 0) ≡ answerBy (outcome k (request r room) Clear) Clear
 unfolding outcome answerBy nextWritten nextVerdicts nextClosed
@@ -231,56 +131,158 @@ pub cancel-answer : (k : Book) (id : Identity) (room : ℕ)
 unfolding outcome answerBy nextWritten nextVerdicts nextClosed
 cancel-answer k id room = rw (change-cancel k id room, length-cxl)
 
--- ---- the parts of a request and of a cancel, joined
--- storing a bill uses no number
-stored-numbers : (l : Ledger) (f : Found) (b : Bill)
-    → (storedAt l f b .«next_tracking» ≡ l .«next_tracking») × (storedAt l f b .«next_confirmation» ≡ l .«next_confirmation»)
-stored-numbers l Nothing b = (refl, refl)
-stored-numbers l (At p) b = (refl, refl)
+-- ---- a call on a struct that is known to be sound: b stands at the place p, of what a search for id found
+module _ (l : Ledger) (long : length (l .bills) ≡ 128) (sure : soundLedger l ≡ true) (id : Identity) (f : Found) (fe : f ≡ placeOf id (live l)) (p : ℕ)
+    (pe : p ≡ slotOf f (l .count)) where
+  few : l .count ≤ 128
+  few = ledger-count l sure
 
-pub numbers-left : (l k : Ledger) (f : Found) (b : Bill) → k ≡ storedAt l f b → soundLedger l ≡ true
-    → (k .«next_tracking» ≤ 1000000000) × (k .«next_confirmation» ≤ 1000000000)
-numbers-left l k f b e s =
-    let q = sound-ready l s in
-    rw e (rw (stored-numbers l f b .0) (q .tracking), rw (stored-numbers l f b .1) (q .confirmation))
+  known-at : (i : ℕ) → i < l .count → placeOf id (live l) ≡ At i → p ≡ i
+  known-at i h x = pe ∙ rw (fe ∙ x, lt-ltb i 128 (omega (arith, few)))
 
-module _ (l : Ledger) (long : length (l .bills) ≡ 128) (r : Request) (room : ℕ) (z : causeIn l (request r room) ≡ Clear)
-    (f : Found) (e : f ≡ placeOf (r .identity) (live l)) where
-  pub request-called : {b : Bill} {k n : Ledger} {a : Answer} → b ≡ askedAt r l f → k ≡ storedAt l f b → n ≡ counted k → a ≡ noticed (pos 0)
-      → record { ledger = n; answer = a } ≡ called l (request r room)
-  request-called {b} {k} {n} {a} p q u v =
-      called-clear l (request r room) z n a (rw (u, q, p, e) (request-left l long r room z)) (v ∙ request-answer (book l) r room)
+  pub sound-here : SoundAt f (billAt l p)
+  sound-here = go (placed l id)
+    where
+      go : Placed l id → SoundAt f (billAt l p)
+      go (new x b c y) = rw (fe ∙ x) tt
+      go (old i h x b c y u) = rw (fe ∙ x, known-at i h x) (facts-at l long sure i h .requests, facts-at l long sure i h .sequence)
 
-  pub request-bytes : {b o : Bill} → b ≡ askedAt r l f → o ≡ billFound l f
-      → bil (record { bill = b; former = o .terms .latest .consumption; today = l .today; confirmation = l .«next_confirmation» })
-      ≡ stepIn l (request r room) .written
-  unfolding nextWritten
-  request-bytes {b} {o} p q = rw (written-clear l (request r room) z, p, q, e, asked-is l r, found-is l (r .identity))
+-- a request
+module _ (l : Ledger) (long : length (l .bills) ≡ 128) (sure : soundLedger l ≡ true) (r : Request) (room : ℕ) (f : Found) (fe : f ≡ placeOf (r .identity) (live l))
+    (p : ℕ) (pe : p ≡ slotOf f (l .count)) (h : LedgerHeader) (he : h ≡ headerOf l) (b : Bill) (be : b ≡ billAt l p) (d : Decision)
+    (de : d ≡ requestBy (first (requestCauses r room (h .today) (h .tracking) (h .confirmation) (h .count) (soughtBy f b))) r h f b) where
+  abbrev checkBy : LedgerHeader → Bill → Check
+  checkBy t x = first (requestCauses r room (t .today) (t .tracking) (t .confirmation) (t .count) (soughtBy f x))
 
-module _ (l : Ledger) (long : length (l .bills) ≡ 128) (id : Identity) (room : ℕ) (z : causeIn l (cancel id room) ≡ Clear)
-    (f : Found) (e : f ≡ placeOf id (live l)) where
-  pub cancel-called : {o b : Bill} {k n : Ledger} {m : Cents} {d : ℤ} {a : Answer} → o ≡ billFound l f → b ≡ cancelledBill o → k ≡ storedAt l f b → n ≡ counted k
-      → m ≡ chargeOf (o .posted) → d ≡ pos 0 -ℤ pos (m .0) → a ≡ noticed d
-      → record { ledger = n; answer = a } ≡ called l (cancel id room)
-  cancel-called {o} {b} {k} {n} {m} {d} {a} g p q u w x v =
-      called-clear l (cancel id room) z n a (rw (u, q, p, g, e) (cancel-left l long id room z))
-      (rw (v, x, w, g, e, found-is l id) (cancel-answer (book l) id room))
+  abbrev now : Check
+  now = checkBy (headerOf l) (billAt l p)
 
-  pub cancel-bytes : {o : Bill} → o ≡ billFound l f
-      → cxl (record { terms = o .terms; tracking = l .«next_tracking»; today = l .today; confirmation = l .«next_confirmation» })
-      ≡ stepIn l (cancel id room) .written
-  unfolding nextWritten
-  cancel-bytes {o} q = rw (written-clear l (cancel id room) z, q, e, found-is l id)
+  decision-now : d ≡ requestBy now r (headerOf l) f (billAt l p)
+  decision-now = de ∙ ap₂ (λ (t : LedgerHeader) (x : Bill). requestBy (checkBy t x) r t f x) he be
 
--- ---- what the checks decide is the cause
-module _ (l : Ledger) (long : length (l .bills) ≡ 128) (s : soundLedger l ≡ true) {f : Found} {b : Sought} {k : Check} where
-  pub request-cause : (r : Request) (room : ℕ) → f ≡ placeOf (r .identity) (live l) → b ≡ soughtAt l f
-      → k ≡ first (requestCauses r room (l .today) (l .«next_tracking») (l .«next_confirmation») (l .count) b)
-      → causeIn l (request r room) ≡ k
+  check-by : (k : Check) → requestBy k r (headerOf l) f (billAt l p) .check ≡ k
+  check-by Clear = refl
+  check-by (Stop n) = refl
+
+  check-now : d .check ≡ now
+  check-now = ap (λ (z : Decision). z .check) decision-now ∙ check-by now
+
+  -- what the check decides is the cause
+  request-cause : causeIn l (request r room) ≡ d .check
   unfolding causes
-  request-cause r room e q p = cause-sound l (request r room) s ∙ rw (p, q, e, sought-is l (r .identity), held-length l long s)
+  request-cause =
+      cause-sound l (request r room) sure
+      ∙ rw (held-length l long sure, ← sought-is l (ledger-count l sure) (r .identity) f p fe pe) (sym check-now)
 
-  pub cancel-cause : (id : Identity) (room : ℕ) → f ≡ placeOf id (live l) → b ≡ soughtAt l f
-      → k ≡ first (cancelCauses id room (l .«next_tracking») (l .«next_confirmation») b) → causeIn l (cancel id room) ≡ k
+  pub request-stops : (n : ℕ) → d .check ≡ Stop n → Stopped l (request r room) n
+  request-stops n e = stopped l (request r room) n (request-cause ∙ e)
+
+  module _ (e : d .check ≡ Clear) where
+    facts : (642 ≤ room) × (soughtBy f (billAt l p) ≡ sought.Nothing → l .count < 128)
+    facts =
+        let x = asks r room (l .today) (l .«next_tracking») (l .«next_confirmation») (l .count) (soughtBy f (billAt l p)) (sym check-now ∙ e) in
+        (x .wide, x .new)
+
+    pub request-room : 642 ≤ room
+    request-room = facts .0
+
+    clear-now : d ≡ requestBy Clear r (headerOf l) f (billAt l p)
+    clear-now = decision-now ∙ ap (λ (k : Check). requestBy k r (headerOf l) f (billAt l p)) (sym check-now ∙ e)
+
+    left-by : Placed l (r .identity) → updated l p (requestBy Clear r (headerOf l) f (billAt l p) .update) ≡ stored l (next (book l) (request r room))
+    unfolding next
+    left-by (new x b c y) =
+        let z : f ≡ Nothing = fe ∙ x in
+        let m : l .count < 128 = facts .1 (rw z) in
+        let k : p ≡ l .count = pe ∙ rw (z, lt-ltb (l .count) 128 m) in
+        rw (z, k, b) (stored-new l (newBill r (l .«next_tracking»)) (omega arith))
+    left-by (old i m x b c y u) =
+        rw (fe ∙ x, known-at l long sure (r .identity) f fe p pe i m x, b, u (renewed (latestOf r (l .«next_tracking»))))
+        (stored-old l i (renewed (latestOf r (l .«next_tracking»)) (billAt l i)) m (within l long sure))
+
+    bytes-by : Placed l (r .identity)
+        → bilBy (headerOf l) f (billAt l p) (askedBy r (l .«next_tracking») f (billAt l p)) ≡ nextWritten (book l) (request r room)
+    unfolding nextWritten
+    bytes-by (new x b c y) = rw (fe ∙ x, b, c)
+    bytes-by (old i m x b c y u) = rw (fe ∙ x, known-at l long sure (r .identity) f fe p pe i m x, b, c)
+
+    pub request-done : Carried l (request r room) (updated l p (d .update)) (noticed (pos 0)) (bilBy h f b (d .update .bill))
+    request-done =
+        carried l (request r room) (request-cause ∙ e) _ _ _
+        (ap (λ (z : Decision). updated l p (z .update)) clear-now ∙ left-by (placed l (r .identity)))
+        (request-answer (book l) r room)
+        (ap₂ (λ (t : LedgerHeader) (x : Bill). bilBy t f x (d .update .bill)) he be
+        ∙ ap (λ (z : Decision). bilBy (headerOf l) f (billAt l p) (z .update .bill)) clear-now
+        ∙ bytes-by (placed l (r .identity)))
+
+-- a cancel
+module _ (l : Ledger) (long : length (l .bills) ≡ 128) (sure : soundLedger l ≡ true) (id : Identity) (room : ℕ) (f : Found) (fe : f ≡ placeOf id (live l))
+    (p : ℕ) (pe : p ≡ slotOf f (l .count)) (h : LedgerHeader) (he : h ≡ headerOf l) (b : Bill) (be : b ≡ billAt l p) (d : Decision)
+    (de : d ≡ cancelBy (first (cancelCauses id room (h .tracking) (h .confirmation) (soughtBy f b))) h b) where
+  abbrev checkOf : LedgerHeader → Bill → Check
+  checkOf t x = first (cancelCauses id room (t .tracking) (t .confirmation) (soughtBy f x))
+
+  abbrev nowc : Check
+  nowc = checkOf (headerOf l) (billAt l p)
+
+  decision-c : d ≡ cancelBy nowc (headerOf l) (billAt l p)
+  decision-c = de ∙ ap₂ (λ (t : LedgerHeader) (x : Bill). cancelBy (checkOf t x) t x) he be
+
+  check-of : (k : Check) → cancelBy k (headerOf l) (billAt l p) .check ≡ k
+  check-of Clear = refl
+  check-of (Stop n) = refl
+
+  check-c : d .check ≡ nowc
+  check-c = ap (λ (z : Decision). z .check) decision-c ∙ check-of nowc
+
+  cancel-cause : causeIn l (cancel id room) ≡ d .check
   unfolding causes
-  cancel-cause id room e q p = cause-sound l (cancel id room) s ∙ rw (p, q, e, sought-is l id)
+  cancel-cause = cause-sound l (cancel id room) sure ∙ rw (← sought-is l (ledger-count l sure) id f p fe pe) (sym check-c)
+
+  pub cancel-stops : (n : ℕ) → d .check ≡ Stop n → Stopped l (cancel id room) n
+  cancel-stops n e = stopped l (cancel id room) n (cancel-cause ∙ e)
+
+  module _ (e : d .check ≡ Clear) where
+    facts-c : (642 ≤ room) × (isNothing (soughtBy f (billAt l p)) ≡ false)
+    facts-c =
+        let x = cancels id room (l .«next_tracking») (l .«next_confirmation») (soughtBy f (billAt l p)) (sym check-c ∙ e) in (x .wide, x .known)
+
+    pub cancel-room : 642 ≤ room
+    cancel-room = facts-c .0
+
+    none-c : f ≡ Nothing → ⊥
+    none-c z = true≢false (subst (λ (i : Found). isNothing (soughtBy i (billAt l p)) ≡ false) z (facts-c .1))
+
+    -- what it takes away can be told with a sign
+    small-by : Placed l id → billCharge (billAt l p) < 2 ^ 63
+    small-by (new x y z w) = absurd (none-c (fe ∙ x))
+    small-by (old i m x y z w u) =
+        let k : billCharge (billAt l i) < 10 ^ 13 = ltb-true _ _ (bill-small (billAt l i) (sound-at l long sure i m)) in
+        rw (known-at l long sure id f fe p pe i m x) (omega arith)
+
+    pub cancel-small : billCharge b < 2 ^ 63
+    cancel-small = rw be (small-by (placed l id))
+
+    clear-c : d ≡ cancelBy Clear (headerOf l) (billAt l p)
+    clear-c = decision-c ∙ ap (λ (k : Check). cancelBy k (headerOf l) (billAt l p)) (sym check-c ∙ e)
+
+    left-c : Placed l id → updated l p (cancelBy Clear (headerOf l) (billAt l p) .update) ≡ stored l (next (book l) (cancel id room))
+    unfolding next
+    left-c (new x y z w) = absurd (none-c (fe ∙ x))
+    left-c (old i m x y z w u) =
+        rw (known-at l long sure id f fe p pe i m x, u cancelledBill) (stored-old l i (cancelledBill (billAt l i)) m (within l long sure))
+
+    bill-c : Placed l id → billAt l p ≡ billOf id (live l)
+    bill-c (new x y z w) = absurd (none-c (fe ∙ x))
+    bill-c (old i m x y z w u) = ap (billAt l) (known-at l long sure id f fe p pe i m x) ∙ sym z
+
+    bytes-c : cxlBy (headerOf l) (billAt l p) ≡ nextWritten (book l) (cancel id room)
+    unfolding nextWritten
+    bytes-c = rw (bill-c (placed l id))
+
+    pub cancel-done : Carried l (cancel id room) (updated l p (d .update)) (noticed (pos 0 -ℤ pos (billCharge b))) (cxlBy h b)
+    cancel-done =
+        carried l (cancel id room) (cancel-cause ∙ e) _ _ _
+        (ap (λ (z : Decision). updated l p (z .update)) clear-c ∙ left-c (placed l id))
+        (ap (λ (x : Bill). noticed (pos 0 -ℤ pos (billCharge x))) (be ∙ bill-c (placed l id)) ∙ cancel-answer (book l) id room)
+        (ap₂ (λ (t : LedgerHeader) (x : Bill). cxlBy t x) he be ∙ bytes-c)

@@ -20,11 +20,12 @@ use Rattle.ledger.proofs.ListLaws.{all-on, all-joined, slice-step}
 use Rattle.ledger.proofs.SoundLaws.{facts-sound}
 use Rattle.verdict.specs.declared.Check.the-variants.{Clear, Stop}
 use Rattle.verdict.specs.Rules.{first}
-use Rattle.groups.proofs.TurnLaws.{clear-off}
+use Rattle.group.proofs.VerdictLaws.{clear-off}
 use Rattle.groups.proofs.FileSound.{count-step}
-use Rattle.calls.specs.declared.Start.{Start}
-use Rattle.calls.specs.Causes.{close, isNumber, startTests, freshCauses}
-use Rattle.calls.specs.Machine.{fresh, next, nextWritten, nextVerdicts, nextClosed, closes, outcome, causeIn, stepIn, leftBy, answerBy, called}
+use Rattle.causes.specs.declared.Start.{Start}
+use Rattle.causes.specs.Causes.{close, isNumber, startTests, freshCauses}
+use Rattle.calls.specs.Machine.{fresh, next, nextWritten, nextVerdicts, nextClosed, outcome, causeIn, stepIn, leftBy, answerBy, called}
+use Rattle.causes.specs.Requests.{closes}
 use Rattle.calls.specs.Days.{freshLedger, quietAnswer}
 
 -- ---- fresh

@@ -5,13 +5,16 @@ use mathlib.Core.Bool.{Bool, true, false, cond, _&&_}
 use mathlib.Core.List.{List, [], _∷_, _++_}
 use native.Mathlib.Omega.{arith}
 use lib.Dec.{eqb, leb, ltb}
+use lib.IntN.{pos, _-ℤ_}
 use lib.ListN.{length, take, length-append, length-take}
 use borrow.Author.Tests.{leb-true}
 use Rattle.fields.specs.Put.{put}
 use Rattle.fields.proofs.BoolLaws.{and-left, and-right}
 use Rattle.ledger.specs.declared.Ledger.{Ledger}
 use Rattle.ledger.specs.Lists.{every, count}
-use Rattle.ledger.specs.Books.{Book, View, view}
+use Rattle.ledger.specs.Books.{Book, View, view, book, live, totalOf}
+use Rattle.ledger.specs.declared.Bill.{Bill}
+use Rattle.ledger.proofs.BookLaws.{difference}
 use Rattle.ledger.specs.Sound.{sound, soundLedger}
 use Rattle.notices.specs.declared.bil.Bil.{Bil}
 use Rattle.notices.specs.declared.cxl.Cxl.{Cxl}
@@ -29,14 +32,15 @@ use Rattle.verdict.specs.declared.Check.the-variants.{Clear, Stop}
 use Rattle.verdict.specs.declared.Verdict.{Verdict}
 use Rattle.verdict.specs.declared.Verdict.the-variants.{Accepted, Rejected}
 use Rattle.verdict.specs.Rules.{first}
-use Rattle.groups.specs.declared.Clearing.{Clearing}
-use Rattle.groups.specs.Groups.{verdictHere, settled, answer, answers}
-use Rattle.groups.specs.Steps.{Cleared}
-use Rattle.calls.specs.declared.Called.{Called}
-use Rattle.calls.specs.declared.Answer.the-variants.{Done}
-use Rattle.calls.specs.Causes.{Call, request, file, cancel, close, lacks, fileCauses, causes}
-use Rattle.calls.proofs.CauseLaws.{asks, sends, cancels}
-use Rattle.calls.specs.Machine.{cause, roomOf, causeIn, outcome, stepIn, leftBy, answerBy, called, next, nextWritten, nextVerdicts, nextClosed}
+use Rattle.group.specs.declared.Tally.{Tally}
+use Rattle.group.specs.Groups.{verdictHere, settled, answer, taken, answers}
+use Rattle.group.specs.Turns.{TookBy}
+use Rattle.group.proofs.GroupWalk.{book-stored}
+use Rattle.causes.proofs.CheckLaws.{good-short}
+use Rattle.calls.proofs.CallLaws.{Carried, Stopped, carried, stopped}
+use Rattle.causes.specs.Causes.{Call, request, file, cancel, close, lacks, fileCauses, causes}
+use Rattle.causes.proofs.CauseLaws.{asks, sends, cancels}
+use Rattle.calls.specs.Machine.{cause, roomOf, causeIn, outcome, stepIn, leftBy, answerBy, called, cleared, next, nextWritten, nextVerdicts, nextClosed}
 
 -- ---- the call
 pub cause-file : (l : Ledger) (s : List ℕ) (room : ℕ) (v : Check) → soundLedger l ≡ true
@@ -44,21 +48,26 @@ pub cause-file : (l : Ledger) (s : List ℕ) (room : ℕ) (v : Check) → soundL
 unfolding causeIn causes
 cause-file l s room v h e = rw h (sym e)
 
--- what a file that was taken leaves and returns
-pub passed : (l : Ledger) (s out out′ : List ℕ) (r : Clearing) → causeIn l (file s (length out)) ≡ Clear
-    → Cleared l (groups (recordsFrom s 0 (length s / 321))) out out′ r
-    → (_≡_ {A = Called}
-    (record {
-      ledger = r .ledger;
-      answer =
-          Done
-          (record { change = r .change; written = r .written; accepted = r .accepted; rejected = r .rejected; closed = 0 });
-    })
-    (called l (file s (length out))))
-    × (out′ ≡ put out 0 (stepIn l (file s (length out)) .written))
-unfolding called leftBy answerBy stepIn outcome next nextWritten nextVerdicts nextClosed fileGroups records
-passed l s out out′ r e k =
-    rw e (rw (k .took .ledger, k .change, k .took .written, k .took .accepted, k .took .rejected), k .took .bytes)
+module _ (l : Ledger) (sure : soundLedger l ≡ true) (s : List ℕ) (room : ℕ) (k : Check)
+    (ke : k ≡ first (fileCauses s room (l .«next_tracking») (l .«next_confirmation»))) where
+  pub file-stops : (n : ℕ) → k ≡ Stop n → Stopped l (file s room) n
+  file-stops n e = stopped l (file s room) n (cause-file l s room k sure ke ∙ e)
+
+  pub file-short : k ≡ Clear → (length s ≤ 64200) × (length s ≤ room)
+  file-short e =
+      let x = sends s room (l .«next_tracking») (l .«next_confirmation») (sym ke ∙ e) in (good-short s (x .good), x .wide)
+
+  -- what a file that was taken leaves, returns and writes
+  pub file-done : k ≡ Clear → (writes : Bool) (out₀ : List ℕ) (led : Ledger) (out : List ℕ) (c : Tally)
+      → TookBy l (groups (recordsFrom s 0 (length s / 321))) writes out₀ led out c
+      → Carried l (file s room) led (cleared c) (answers [] (book l) (groups (recordsFrom s 0 (length s / 321))))
+  unfolding answerBy outcome next nextWritten nextVerdicts nextClosed fileGroups records
+  file-done e writes out₀ led out c t =
+      let now : Book = taken [] (book l) (groups (recordsFrom s 0 (length s / 321))) in
+      let x : live led ≡ now .bills = ap (λ (y : Ledger). live y) (t .ledger) ∙ ap (λ (y : Book). y .bills) (book-stored l now) in
+      let d : pos (c .came) -ℤ pos (c .went) ≡ pos (totalOf (now .bills)) -ℤ pos (totalOf (live l)) =
+      sym (difference (totalOf (now .bills)) (totalOf (live l)) (c .came) (c .went) (ap (λ (bs : List Bill). totalOf bs + c .went) (sym x) ∙ t .sums)) in
+      carried l (file s room) (cause-file l s room k sure ke ∙ e) _ _ _ (t .ledger) (rw (d, t .written, t .accepted, t .rejected)) refl
 
 -- ---- the answers to a file are at most as long as the file
 abbrev Long : List (List ℕ) → Type 0

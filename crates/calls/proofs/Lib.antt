@@ -1,6 +1,4 @@
 -- Laws that belong to no one function.
-pub mod CauseLaws
-pub mod CodeLaws
 pub mod CallLaws
 pub mod NextSound
 pub mod RunLaws

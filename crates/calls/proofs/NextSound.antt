@@ -25,15 +25,16 @@ use Rattle.file.proofs.WalkLaws.{has-append}
 use Rattle.verdict.specs.declared.Sought.the-variants.{Bill, Nothing}
 use Rattle.verdict.specs.declared.Check.the-variants.{Clear}
 use Rattle.verdict.specs.Rules.{first}
-use Rattle.groups.specs.Groups.{soughtIn}
-use Rattle.groups.proofs.GroupWalk.{length-update}
+use Rattle.group.specs.Groups.{soughtIn}
+use Rattle.group.proofs.GroupWalk.{length-update}
 use Rattle.groups.proofs.FileSound.{bills-kept, distinct-kept, next-up, file-sound}
-use Rattle.calls.specs.declared.CodeField.{CodeField}
-use Rattle.calls.specs.declared.Request.{Request}
-use Rattle.calls.specs.Causes.{fiveOf, Call, request, file, cancel, close, requestTests, causes}
-use Rattle.calls.specs.Machine.{codeOf, latestOf, newBill, numbered, next}
-use Rattle.calls.proofs.CodeLaws.{good-five}
-use Rattle.calls.proofs.CauseLaws.{asks, sends, cancels, closes-on}
+use Rattle.causes.specs.declared.CodeField.{CodeField}
+use Rattle.causes.specs.declared.Request.{Request}
+use Rattle.causes.specs.Causes.{fiveOf, Call, request, file, cancel, close, requestTests, causes}
+use Rattle.causes.specs.Requests.{codeOf, latestOf, newBill}
+use Rattle.calls.specs.Machine.{numbered, next}
+use Rattle.causes.proofs.CodeLaws.{good-five}
+use Rattle.causes.proofs.CauseLaws.{asks, sends, cancels, closes-on}
 
 -- ---- a bill
 -- what soundness asks of the amounts reads the mark and the product alone

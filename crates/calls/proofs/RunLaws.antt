@@ -10,8 +10,8 @@ use Rattle.ledger.proofs.SoundLaws.{book-facts, facts-sound, ledger-book}
 use Rattle.verdict.specs.declared.Check.{Check}
 use Rattle.verdict.specs.declared.Check.the-variants.{Clear, Stop}
 use Rattle.verdict.specs.Rules.{first}
-use Rattle.groups.proofs.GroupWalk.{book-stored}
-use Rattle.calls.specs.Causes.{Call, causes}
+use Rattle.group.proofs.GroupWalk.{book-stored}
+use Rattle.causes.specs.Causes.{Call, causes}
 use Rattle.calls.specs.Machine.{cause, next, Outcome, outcome, step, after, outcomes, causeIn, stepIn, leftBy, answerBy, called, ran, eachCalled, Runs}
 use Rattle.calls.proofs.NextSound.{next-facts}
 

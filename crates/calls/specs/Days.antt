@@ -6,11 +6,11 @@ use Rattle.ledger.specs.Books.{emptyLedger}
 use Rattle.verdict.specs.declared.Check.{Check}
 use Rattle.verdict.specs.declared.Check.the-variants.{Clear, Stop}
 use Rattle.verdict.specs.Rules.{first}
-use Rattle.calls.specs.declared.Start.{Start}
+use Rattle.causes.specs.declared.Start.{Start}
 use Rattle.calls.specs.declared.Called.{Called}
 use Rattle.calls.specs.declared.Answer.{Answer}
 use Rattle.calls.specs.declared.Answer.the-variants.{Done, Refused}
-use Rattle.calls.specs.Causes.{freshCauses}
+use Rattle.causes.specs.Causes.{freshCauses}
 
 -- the struct that a fresh which succeeds leaves
 abbrev pub freshLedger : Start → Ledger

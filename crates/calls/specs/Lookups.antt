@@ -22,7 +22,7 @@ use Rattle.calls.specs.declared.lookups.Place.{Place}
 use Rattle.calls.specs.declared.lookups.Place.the-variants as place
 use Rattle.calls.specs.declared.lookups.Amounts.{Amounts}
 use Rattle.calls.specs.declared.lookups.Amounts.the-variants as amounts
-use Rattle.calls.specs.Causes.{goodIdentity}
+use Rattle.causes.specs.Causes.{goodIdentity}
 use Rattle.calls.specs.Machine.{billOf}
 
 -- ---- "Open bill of an account: returns the place (from 0) of an open bill of it; where there are several, which one is free; 4 if there is none."

@@ -5,21 +5,21 @@ ghost use Prim.Native.Nat.{_≤_};
 ghost use Rattle.ledger.specs.Lists.{count};
 ghost use Rattle.ledger.specs.Books.{live};
 ghost use Rattle.ledger.specs.Sound.{soundLedger};
-ghost use Rattle.verdict.specs.Rules.{first};
-ghost use Rattle.calls.specs.Causes.{isNumber, freshCauses, closeCauses, close};
-ghost use Rattle.calls.specs.Machine.{closes, called};
+ghost use Rattle.causes.specs.Causes.{close};
+ghost use Rattle.causes.specs.Requests.{closes};
+ghost use Rattle.calls.specs.Machine.{called};
 ghost use Rattle.calls.specs.Days.{quietAnswer, freshCalled};
 use crate::Answer;
 use crate::Called;
 use crate::Returned;
-use crate::Start;
-use ledger::Bill;
+use causes::Start;
+use causes::checks;
 use ledger::Ledger;
 use units::Date;
 use verdict::Check;
 
 // What a call that writes and posts nothing returns.
-fn quiet(closed: u64) -> Answer
+pub fn quiet(closed: u64) -> Answer
     ensures { λ r. ⌜ r ≡ quietAnswer closed ⌝ }
 {
     Answer::Done(Returned {
@@ -35,7 +35,7 @@ fn quiet(closed: u64) -> Answer
 pub fn fresh(l: Ledger, s: Start) -> Called
     ensures { λ a. ⌜ a ≡ freshCalled l s ⌝ }
 {
-    let check = fresh_check(s);
+    let check = checks::fresh_check(s);
     match check {
         Check::Stop(n) => Called {
             ledger: l,
@@ -59,19 +59,19 @@ fn closed_by(l: Ledger, d: Date) -> u64
     let mut i = 0;
     while i < n {
         let b = l.bills[i];
-        closed = closed + one_closed(b, today, d);
+        closed = closed + checks::one_closed(b, today, d);
         i += 1;
     }
     closed
 }
 
 // Sets today to a later date on a ledger that is known to be sound.
-pub fn close_on_sound(l: Ledger, d: Date) -> Called
+fn close_on_sound(l: Ledger, d: Date) -> Called
     requires { ⌜ soundLedger l ≡ true ⌝ }
     ensures { λ a. ⌜ a ≡ called l (close d) ⌝ }
 {
     let today = l.today;
-    let check = close_check(d, today);
+    let check = checks::close_check(d, today);
     match check {
         Check::Stop(n) => Called {
             ledger: l,

@@ -4,7 +4,7 @@ ghost use Prim.Native.Nat.{_≤_};
 ghost use Rattle.ledger.specs.Lists.{find};
 ghost use Rattle.ledger.specs.Books.{live};
 ghost use Rattle.calls.specs.Lookups.{isOpenOf, OpenBill, countedBy, amountsIn};
-use crate::causes;
+use causes::checks;
 use ledger::Bill;
 use ledger::Found;
 use ledger::Identity;
@@ -89,7 +89,7 @@ pub fn amounts_of(l: Ledger, id: Identity) -> Amounts
     if !l.sound() {
         return Amounts::Refused(2);
     }
-    if !causes::good_identity(id) {
+    if !checks::good_identity(id) {
         return Amounts::Refused(2);
     }
     let f = l.find(id);

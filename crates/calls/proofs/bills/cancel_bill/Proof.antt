@@ -2,9 +2,7 @@
 use borrow.Author.Needs.{needs}
 use mathlib.Core.Path.{sym, _∙_}
 use borrow.Author.Tests.{not-true, not-false}
-use lib.ListN.{length}
-use Rattle.calls.specs.Causes.{cancel}
-use Rattle.calls.proofs.CallLaws.{cause-unsound, stopped}
+use Rattle.calls.proofs.CallLaws.{cause-unsound, stopped, stopped-called}
 use Rattle.calls.proofs.bills.cancel_bill.Statement.{statement}
 use Rattle.calls.proofs.bills.cancel_bill.Tie as tie
 
@@ -14,8 +12,7 @@ sound-requires c κs = search needs
 returns : tie.Need-returns
 returns c =
     let a = c .before .before .before .args in
-    let e = cause-unsound (a .l) (cancel (a .id) (length (a .out .now))) (sym (c .before .sound .ensures) ∙ not-true _ (c .if1 .taken)) in
-    stopped (a .l) (cancel (a .id) (length (a .out .now))) 2 e (a .out .now)
+    stopped-called (stopped (a .l) _ 2 (cause-unsound (a .l) _ (sym (c .before .sound .ensures) ∙ not-true _ (c .if1 .taken)))) _
 
 cancel-on-sound-requires : tie.Need-cancel-on-sound-requires
 cancel-on-sound-requires c κs = sym (c .before .before .sound .ensures) ∙ not-false _ (c .before .if1 .left)

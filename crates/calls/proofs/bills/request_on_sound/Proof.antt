@@ -1,67 +1,68 @@
--- `calls::bills::request_on_sound` meets its contract: the check decides the cause.
-use borrow.Author.Needs.{needs}
-use mathlib.Core.Path.{sym, _∙_, subst}
-use lib.ListN.{length}
+-- `calls::bills::request_on_sound` meets its contract, by the cause that was told.
+use mathlib.Core.Path.{refl, sym, ap, _∙_}
+use native.Mathlib.Omega.{arith}
 use Rattle.ledger.proofs.BookLaws.{places}
-use Rattle.ledger.proofs.SoundLaws.{ledger-count}
-use Rattle.groups.specs.Steps.{InPlace}
-use Rattle.groups.proofs.PlaceLaws.{in-place}
-use Rattle.groups.proofs.ReadyLaws.{sound-ready}
-use Rattle.calls.specs.Causes.{request}
-use Rattle.calls.proofs.CallLaws.{stopped}
-use Rattle.calls.proofs.BillLaws.{request-cause}
+use Rattle.group.proofs.ReadyLaws.{sound-ready}
+use Rattle.calls.proofs.CallLaws.{stopped-called, carried-called}
+use Rattle.calls.proofs.BillLaws.{sound-here, request-stops, request-room, request-done}
+use borrow.Author.Needs.{needs}
 use Rattle.calls.proofs.bills.request_on_sound.Statement.{statement}
 use Rattle.calls.proofs.bills.request_on_sound.Tie as tie
 
 find-requires : tie.Need-find-requires
-find-requires c κs = ledger-count (c .before .before .before .args .l) (c .before .before .before .pre)
+find-requires c κs = sound-ready (c .before .before .args .t1) (c .before .before .pre) .count
 
-sought-at-requires : tie.Need-sought-at-requires
-sought-at-requires c κs =
-    let m = c .before .before .before .before in
-    let a = m .args in
-    subst InPlace (sym (c .find .ensures)) (in-place (a .l) (a .r .identity) (ledger-count (a .l) (m .pre)))
+slot-requires : tie.Need-slot-requires
+slot-requires c κs = search needs
 
-request-check-requires : tie.Need-request-check-requires
-request-check-requires c κs =
-    let q = sound-ready (c .before .before .before .before .before .args .l) (c .before .before .before .before .before .pre) in
-    (q .tracking, q .confirmation)
+mul-b : tie.Need-mul-b
+mul-b c = search needs
+
+element-copy-out-b : tie.Need-element-copy-out-b
+element-copy-out-b c = search needs
+
+request-requires : tie.Need-request-requires
+request-requires c κs = let q = sound-ready (c .before .before .before .before .before .args .t1) (c .before .before .before .before .before .pre) in
+    ((q .tracking, q .confirmation, q .count), sound-here (c .before .before .before .before .before .args .t1) (places (c .before .before .before .before .before .args .t1) _ (c .before .before .before .before .before .good .0)) (c .before .before .before .before .before .pre) (c .before .before .before .before .before .args .r .identity) _ (c .before .before .find .ensures) _ (c .before .slot .ensures .0))
 
 enum-known-check : tie.Need-enum-known-check
 enum-known-check c = search needs
 
+returns : tie.Need-returns
+returns c = stopped-called (request-stops (c .before .before .before .before .before .before .before .before .before .args .t1) (places (c .before .before .before .before .before .before .before .before .before .args .t1) _ (c .before .before .before .before .before .before .before .before .before .good .0)) (c .before .before .before .before .before .before .before .before .before .pre) (c .before .before .before .before .before .before .before .before .before .args .r) _ _ (c .before .before .before .before .before .before .find .ensures) _ (c .before .before .before .before .before .slot .ensures .0) _ refl _ refl _ (c .before .before .before .request .ensures) _ (c .before .check .given .1)) _
+
 enum-told : tie.Need-enum-told
 enum-told c = search needs
 
-take-request-requires : tie.Need-take-request-requires
-take-request-requires c κs =
-    let m = c .before .before .before .before .before .before .before .before .before in
-    let a = m .args in
-    (request-cause (a .l) (places (a .l) _ (m .good .0)) (m .pre) (a .r) (length (a .out .now)) (c .before .before .before .before .before .find .ensures) (c .before .before .before .before .sought-at .ensures) (sym (c .before .enum-told .given .1) ∙ c .before .before .before .request-check .ensures), c .before .before .before .before .before .find .ensures)
+put-bil-requires : tie.Need-put-bil-requires
+put-bil-requires c κs = λ z. request-room (c .before .before .before .before .before .before .before .before .before .before .before .args .t1) (places (c .before .before .before .before .before .before .before .before .before .before .before .args .t1) _ (c .before .before .before .before .before .before .before .before .before .before .before .good .0)) (c .before .before .before .before .before .before .before .before .before .before .before .pre) (c .before .before .before .before .before .before .before .before .before .before .before .args .r) _ _ (c .before .before .before .before .before .before .before .before .find .ensures) _ (c .before .before .before .before .before .before .before .slot .ensures .0) _ refl _ refl _ (c .before .before .before .before .before .request .ensures) (c .before .before .before .enum-told .given .1)
 
-returns : tie.Need-returns
-returns c =
-    let m = c .before .before .before .before .before .before .before .before .before in
-    let a = m .args in
-    let e = request-cause (a .l) (places (a .l) _ (m .good .0)) (m .pre) (a .r) (length (a .out .now)) (c .before .before .before .before .before .find .ensures) (c .before .before .before .before .sought-at .ensures) (sym (c .before .check .given .1) ∙ c .before .before .before .request-check .ensures) in
-    stopped (a .l) (request (a .r) (length (a .out .now))) _ e (a .out .now)
+updated-requires : tie.Need-updated-requires
+updated-requires c κs = search needs
+
+noticed-requires : tie.Need-noticed-requires
+noticed-requires c κs = search needs
 
 same-length : tie.Need-same-length
 same-length c = search needs
 
 returns-2 : tie.Need-returns-2
-returns-2 c = search needs
+returns-2 c = rw (c .noticed .ensures, c .before .updated .ensures) (carried-called (request-done (c .before .before .before .before .before .before .before .before .before .before .before .before .before .before .before .before .args .t1) (places (c .before .before .before .before .before .before .before .before .before .before .before .before .before .before .before .before .args .t1) _ (c .before .before .before .before .before .before .before .before .before .before .before .before .before .before .before .before .good .0)) (c .before .before .before .before .before .before .before .before .before .before .before .before .before .before .before .before .pre) (c .before .before .before .before .before .before .before .before .before .before .before .before .before .before .before .before .args .r) _ _ (c .before .before .before .before .before .before .before .before .before .before .before .before .before .find .ensures) _ (c .before .before .before .before .before .before .before .before .before .before .before .before .slot .ensures .0) _ refl _ refl _ (c .before .before .before .before .before .before .before .before .before .before .request .ensures) (c .before .before .before .before .before .before .before .before .enum-told .given .1)) _ _ (c .before .before .before .before .put-bil .ensures))
 
 pub request-on-sound-spec : {M : Type 1} → statement M
 request-on-sound-spec =
     tie.close
     (tie.spec
     find-requires
-    sought-at-requires
-    request-check-requires
+    slot-requires
+    mul-b
+    element-copy-out-b
+    request-requires
     enum-known-check
-    enum-told
-    take-request-requires
     returns
+    enum-told
+    put-bil-requires
+    updated-requires
+    noticed-requires
     same-length
     returns-2)

@@ -2,7 +2,7 @@
 use borrow.Author.Needs.{needs}
 use mathlib.Core.Path.{sym, _∙_}
 use borrow.Author.Tests.{not-true, not-false}
-use Rattle.calls.specs.Causes.{close}
+use Rattle.causes.specs.Causes.{close}
 use Rattle.calls.proofs.CallLaws.{cause-unsound, called-stop}
 use Rattle.calls.proofs.days.close_day.Statement.{statement}
 use Rattle.calls.proofs.days.close_day.Tie as tie

@@ -6,7 +6,7 @@ use Prim.Native.Nat.{_≤_}
 use lib.ListN.{length}
 use Rattle.ledger.proofs.BookLaws.{places}
 use Rattle.ledger.proofs.SoundLaws.{ledger-count}
-use Rattle.calls.specs.Causes.{close, causes}
+use Rattle.causes.specs.Causes.{close, causes}
 use Rattle.calls.proofs.CallLaws.{cause-sound, called-stop}
 use Rattle.calls.proofs.DayLaws.{close-done}
 use Rattle.calls.proofs.days.close_on_sound.Statement.{statement}

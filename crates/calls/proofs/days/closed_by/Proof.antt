@@ -13,7 +13,7 @@ use Rattle.ledger.specs.Bills.{blankBill}
 use Rattle.ledger.specs.Books.{live}
 use Rattle.ledger.proofs.BookLaws.{places}
 use Rattle.ledger.proofs.ListLaws.{slice-end}
-use Rattle.calls.specs.Machine.{closes}
+use Rattle.causes.specs.Requests.{closes}
 use Rattle.calls.proofs.DayLaws.{count-turn}
 use Rattle.calls.proofs.days.closed_by.Statement.{statement}
 use Rattle.calls.proofs.days.closed_by.Tie as tie

@@ -2,7 +2,7 @@
 use borrow.Author.Needs.{needs}
 use mathlib.Core.Path.{sym, _∙_}
 use borrow.Author.Tests.{not-true, not-false}
-use Rattle.calls.proofs.CallLaws.{cause-unsound, stopped}
+use Rattle.calls.proofs.CallLaws.{cause-unsound, stopped, stopped-called}
 use Rattle.calls.proofs.files.take_file.Statement.{statement}
 use Rattle.calls.proofs.files.take_file.Tie as tie
 
@@ -12,7 +12,7 @@ sound-requires c κs = search needs
 returns : tie.Need-returns
 returns c =
     let a = c .before .before .before .before .args in
-    stopped (a .l) _ 2 (cause-unsound (a .l) _ (sym (c .before .sound .ensures) ∙ not-true _ (c .if1 .taken))) _
+    stopped-called (stopped (a .l) _ 2 (cause-unsound (a .l) _ (sym (c .before .sound .ensures) ∙ not-true _ (c .if1 .taken)))) _
 
 file-on-sound-requires : tie.Need-file-on-sound-requires
 file-on-sound-requires c κs = sym (c .before .before .sound .ensures) ∙ not-false _ (c .before .if1 .left)

@@ -6,7 +6,7 @@ use native.Mathlib.Omega.{arith}
 use borrow.Author.Tests.{not-true, not-false}
 use Rattle.ledger.specs.Books.{ofId, live}
 use Rattle.ledger.proofs.SoundLaws.{ledger-count}
-use Rattle.calls.specs.Causes.{goodIdentity}
+use Rattle.causes.specs.Causes.{goodIdentity}
 use Rattle.calls.specs.Lookups.{amountCauses, amountsIn}
 use Rattle.calls.proofs.PlaceOfLaws.{spot, spot-none, first-of}
 use Rattle.calls.proofs.lookups.amounts_of.Statement.{statement}
