@@ -2,13 +2,13 @@
 ghost use mathlib.Core.Path.{_≡_};
 ghost use lib.ListN.{length};
 ghost use Rattle.fields.specs.Put.{put};
-ghost use Rattle.calls.specs.Causes.{request, file, cancel, close};
+ghost use Rattle.causes.specs.Causes.{request, file, cancel, close};
 ghost use Rattle.calls.specs.Machine.{stepIn, called};
 ghost use Rattle.calls.specs.Days.{freshCalled};
 ghost use Rattle.calls.specs.Lookups.{OpenBill, amountsIn};
 use calls::Answer;
-use calls::Request;
-use calls::Start;
+use causes::Request;
+use causes::Start;
 use calls::lookups::Amounts;
 use calls::lookups::Place;
 use ledger::Identity;

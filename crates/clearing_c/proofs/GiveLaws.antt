@@ -13,12 +13,12 @@ use Rattle.words.proofs.WordLaws.{no-ledger, words-long}
 use Rattle.verdict.specs.declared.Check.{Check}
 use Rattle.verdict.specs.declared.Check.the-variants.{Clear, Stop}
 use Rattle.verdict.specs.Rules.{first}
-use Rattle.calls.specs.declared.Start.{Start}
+use Rattle.causes.specs.declared.Start.{Start}
 use Rattle.calls.specs.declared.Called.{Called}
 use Rattle.calls.specs.declared.Returned.{Returned}
 use Rattle.calls.specs.declared.Answer.{Answer}
 use Rattle.calls.specs.declared.Answer.the-variants.{Done, Refused}
-use Rattle.calls.specs.Causes.{Call, freshCauses}
+use Rattle.causes.specs.Causes.{Call, freshCauses}
 use Rattle.calls.specs.Machine.{causeIn, stepIn, leftBy, answerBy, called}
 use Rattle.calls.specs.Days.{freshBy, freshCalled}
 use Rattle.calls.proofs.CallLaws.{clear-sound}

@@ -5,7 +5,7 @@ use mathlib.Core.List.{List, [], _∷_}
 use Rattle.ledger.specs.declared.Ledger.{Ledger}
 use Rattle.words.specs.Layout.{ledgerOf}
 use Rattle.calls.specs.declared.Called.{Called}
-use Rattle.calls.specs.Causes.{Call}
+use Rattle.causes.specs.Causes.{Call}
 use Rattle.calls.specs.Machine.{called, ran}
 use Rattle.history.specs.History.{begun}
 use Rattle.history.specs.Claim.{ByValue}

@@ -17,10 +17,10 @@ use Rattle.verdict.specs.declared.Check.the-variants.{Clear, Stop}
 use Rattle.verdict.specs.declared.Sought.{Sought}
 use Rattle.verdict.specs.declared.Sought.the-variants.{Bill, Nothing}
 use Rattle.verdict.specs.Rules.{Rule, rule, first}
-use Rattle.groups.specs.Groups.{soughtIn}
+use Rattle.group.specs.Groups.{soughtIn}
 use Rattle.calls.specs.declared.Answer.the-variants.{Refused}
-use Rattle.calls.specs.declared.Request.{Request}
-use Rattle.calls.specs.Causes.{Call, request, file, cancel, close, billCauses, requestCauses, fileCauses, cancelCauses, closeCauses, causes}
+use Rattle.causes.specs.declared.Request.{Request}
+use Rattle.causes.specs.Causes.{Call, request, file, cancel, close, billCauses, requestCauses, fileCauses, cancelCauses, closeCauses, causes}
 use Rattle.calls.specs.Machine.{causeIn, stepIn, answerBy, called}
 use Rattle.calls.proofs.CallLaws.{cause-sound, cause-unsound}
 

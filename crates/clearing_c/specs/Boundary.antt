@@ -11,9 +11,9 @@ use Rattle.units.specs.declared.Date.{Date}
 use Rattle.ledger.specs.declared.Identity.{Identity}
 use Rattle.ledger.specs.declared.Ledger.{Ledger}
 use Rattle.words.specs.Layout.{ledgerWords, ledgerOf}
-use Rattle.calls.specs.declared.Start.{Start}
-use Rattle.calls.specs.declared.CodeField.{CodeField}
-use Rattle.calls.specs.declared.Request.{Request}
+use Rattle.causes.specs.declared.Start.{Start}
+use Rattle.causes.specs.declared.CodeField.{CodeField}
+use Rattle.causes.specs.declared.Request.{Request}
 use Rattle.calls.specs.declared.Called.{Called}
 use Rattle.calls.specs.declared.Answer.{Answer}
 use Rattle.calls.specs.declared.Answer.the-variants as answer

@@ -6,8 +6,8 @@ use lib.ListN.{length}
 use Rattle.words.specs.Layout.{ledgerOf}
 use Rattle.verdict.specs.declared.Check.the-variants.{Clear}
 use Rattle.verdict.specs.Rules.{first}
-use Rattle.calls.specs.declared.Start.{Start}
-use Rattle.calls.specs.Causes.{Call, freshCauses}
+use Rattle.causes.specs.declared.Start.{Start}
+use Rattle.causes.specs.Causes.{Call, freshCauses}
 use Rattle.calls.specs.Machine.{called, ran}
 use Rattle.history.specs.History.{begun}
 use Rattle.history.specs.Claim.{ByValue}

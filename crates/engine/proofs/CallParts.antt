@@ -37,7 +37,8 @@ use Rattle.calls.specs.declared.Answer.{Answer}
 use Rattle.calls.specs.declared.Answer.the-variants.{Done, Refused}
 use Rattle.calls.specs.declared.Called.{Called}
 use Rattle.calls.specs.Causes.{Call, request, cancel, close, file, requestCauses, cancelCauses, fileCauses, closeCauses, causes}
-use Rattle.calls.specs.Machine.{called, stepIn, outcome, answerBy, causeIn, next, nextWritten, nextVerdicts, nextClosed, closes, ran}
+use Rattle.causes.specs.Requests.{closes}
+use Rattle.calls.specs.Machine.{called, stepIn, outcome, answerBy, causeIn, next, nextWritten, nextVerdicts, nextClosed, ran}
 use Rattle.calls.specs.BillSteps.{billFound, noticed}
 use Rattle.calls.proofs.CallLaws.{cause-sound, called-stop, called-clear}
 use Rattle.calls.proofs.CauseLaws.{sends, cancels}

@@ -19,8 +19,8 @@ use Rattle.verdict.specs.declared.Sought.{Sought}
 use Rattle.verdict.specs.declared.Verdict.the-variants.{Accepted}
 use Rattle.verdict.specs.Rules.{first}
 use Rattle.verdict.specs.Lines.{isNothing, termsOf, line4, line5, line6, sentCharge, amountsOf}
-use Rattle.groups.specs.Groups.{kindOf, sought, linesBy, verdictBy}
-use Rattle.groups.proofs.TurnLaws.{listFor, clear-off, accepted-clear}
+use Rattle.group.specs.Groups.{kindOf, sought, linesBy, verdictBy}
+use Rattle.group.proofs.VerdictLaws.{listFor, clear-off, accepted-clear}
 use Rattle.groups.proofs.SoundKept.{alive}
 
 -- there is such a bill

@@ -11,8 +11,8 @@ use Rattle.notices.specs.Notices.{lead, ending, header, keyed, asked, former, b
 use Rattle.answers.specs.Answers.{acfLead, acf, rejLead, rejHeader, isBlank, fromBack, rejDetail, rejDetails, rej}
 use Rattle.file.specs.File.{records, printable, isHeader, isDetail, goodRecord, headed, goodFile, leading, groups, fileGroups, unfit, line1, line2, passes, alike, line3}
 use Rattle.verdict.specs.Lines.{line4, line5, line6, line7, line8, tierConsumptions, tierCharges, line9, line10, amountsOf}
-use Rattle.groups.specs.Groups.{linesBy, verdictOn, verdictBy, settled, answer, taken, answers, verdicts}
-use Rattle.calls.specs.Causes.{requestTests, billCauses, requestCauses, fileCauses, cancelCauses, closeCauses, causes}
+use Rattle.group.specs.Groups.{linesBy, verdictOn, verdictBy, settled, answer, taken, answers, verdicts}
+use Rattle.causes.specs.Causes.{requestTests, billCauses, requestCauses, fileCauses, cancelCauses, closeCauses, causes}
 use Rattle.calls.specs.Machine.{cause, next, nextWritten, nextVerdicts, outcome, step, after, outcomes}
 use Rattle.history.specs.Written.{assigns, assignedIn}
 use Rattle.history.specs.Claim.{All, assigned}

@@ -13,9 +13,9 @@ use Rattle.verdict.specs.declared.Check.the-variants.{Clear, Stop}
 use Rattle.verdict.specs.declared.Verdict.{Verdict}
 use Rattle.verdict.specs.declared.Verdict.the-variants.{Accepted, Rejected}
 use Rattle.verdict.specs.Rules.{first}
-use Rattle.groups.specs.Groups.{settled, verdictBy, verdictHere, answers, verdicts, isAccepted}
-use Rattle.calls.specs.declared.Start.{Start}
-use Rattle.calls.specs.Causes.{Call, request, file, cancel, close, freshCauses}
+use Rattle.group.specs.Groups.{settled, verdictBy, verdictHere, answers, verdicts, isAccepted}
+use Rattle.causes.specs.declared.Start.{Start}
+use Rattle.causes.specs.Causes.{Call, request, file, cancel, close, freshCauses}
 use Rattle.calls.specs.Machine.{cause, nextWritten, nextVerdicts, Outcome, outcome, step, fresh, after, outcomes}
 use Rattle.calls.specs.Days.{freshLedger, freshBy, freshCalled}
 use Rattle.calls.proofs.DayLaws.{fresh-sound}

@@ -24,11 +24,12 @@ use Rattle.verdict.specs.declared.Verdict.{Verdict}
 use Rattle.verdict.specs.declared.Verdict.the-variants.{Accepted, Rejected}
 use Rattle.verdict.specs.Rules.{first}
 use Rattle.verdict.specs.Lines.{isNothing, sentCharge}
-use Rattle.groups.specs.Groups.{identityOf, soughtIn, sought, verdictBy, settled, verdictHere, taken}
+use Rattle.group.specs.Groups.{identityOf, soughtIn, sought, verdictBy, settled, verdictHere, taken}
 use Rattle.groups.proofs.FileSound.{holds-kept, settled-facts, confirmation-up, tracking-up, count-step}
-use Rattle.calls.specs.Causes.{Call, request, file, cancel, close, causes}
-use Rattle.calls.specs.Machine.{latestOf, newBill, next}
-use Rattle.calls.proofs.CauseLaws.{sends}
+use Rattle.causes.specs.Causes.{Call, request, file, cancel, close, causes}
+use Rattle.causes.specs.Requests.{latestOf, newBill}
+use Rattle.calls.specs.Machine.{next}
+use Rattle.causes.proofs.CauseLaws.{sends}
 use Rattle.calls.proofs.NextSound.{nowhere, next-facts}
 use Rattle.history.specs.History.{Posting, History, lastCharge, chargeIn, renews, marked, raised, onward, decided, verdictOn, decidedAll, hNext}
 use Rattle.history.specs.Claim.{All}

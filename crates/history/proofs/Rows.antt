@@ -22,11 +22,11 @@ use Rattle.verdict.specs.declared.Verdict.{Verdict}
 use Rattle.verdict.specs.declared.Verdict.the-variants.{Accepted, Rejected}
 use Rattle.verdict.specs.Rules.{first}
 use Rattle.verdict.specs.Lines.{isNothing, termsOf}
-use Rattle.groups.specs.Groups.{identityOf, soughtIn, sought, settled, answer, verdictBy, verdictHere, taken, answers, isAccepted}
+use Rattle.group.specs.Groups.{identityOf, soughtIn, sought, settled, answer, verdictBy, verdictHere, taken, answers, isAccepted}
 use Rattle.groups.proofs.FileSound.{confirmation-up, tracking-up, count-step}
-use Rattle.calls.specs.Causes.{Call, request, file, cancel, close, causes}
+use Rattle.causes.specs.Causes.{Call, request, file, cancel, close, causes}
 use Rattle.calls.specs.Machine.{next, nextWritten, outcome, step, after, outcomes}
-use Rattle.calls.proofs.CauseLaws.{asks, sends, cancels}
+use Rattle.causes.proofs.CauseLaws.{asks, sends, cancels}
 use Rattle.history.specs.History.{History, hStep, decided, verdictOn}
 use Rattle.history.specs.Written.{assignedIn}
 use Rattle.history.specs.Claim.{All, Once, assigned}

@@ -11,7 +11,7 @@ use Rattle.ledger.proofs.SoundLaws.{facts-sound}
 use Rattle.verdict.specs.declared.Check.{Check}
 use Rattle.verdict.specs.declared.Check.the-variants.{Clear, Stop}
 use Rattle.verdict.specs.Rules.{first}
-use Rattle.calls.specs.Causes.{Call, causes}
+use Rattle.causes.specs.Causes.{Call, causes}
 use Rattle.calls.specs.Machine.{cause, next, total, Outcome, outcome, step, after, outcomes}
 use Rattle.history.specs.History.{Posting, History, chargeIn, historySum, hCause, hMove, hStep, hAfter, hCauses, Decided, callDecisions, hDecisions}
 use Rattle.history.specs.Claim.{All, changes}

@@ -13,7 +13,7 @@ use Rattle.ledger.specs.Bills.{isOf}
 use Rattle.ledger.specs.Books.{ofId, termsIn}
 use Rattle.ledger.specs.Sound.{holdsId, distinct}
 use Rattle.verdict.specs.declared.Sought.the-variants as sought
-use Rattle.groups.specs.Groups.{soughtIn}
+use Rattle.group.specs.Groups.{soughtIn}
 use Rattle.history.specs.Claim.{All}
 
 pub identity-same : (id : Identity) (t : Terms) → isOf id t ≡ true → t .identity ≡ id

@@ -26,7 +26,7 @@ use Rattle.file.specs.File.{records, Group, asksId}
 use Rattle.verdict.specs.declared.Verdict.{Verdict}
 use Rattle.verdict.specs.declared.Verdict.the-variants.{Accepted, Rejected}
 use Rattle.verdict.specs.Lines.{termsOf}
-use Rattle.groups.specs.Groups.{sought, answer, isAccepted}
+use Rattle.group.specs.Groups.{sought, answer, isAccepted}
 use Rattle.history.specs.Claim.{All}
 use Rattle.history.specs.Written.{keep, isAcf, assigns, assignedIn, acfsIn}
 use Rattle.history.proofs.RecordLaws.{records-cons, records-none, Whole, Formed}

@@ -22,9 +22,10 @@ use Rattle.verdict.specs.declared.Check.{Check}
 use Rattle.verdict.specs.declared.Check.the-variants.{Clear, Stop}
 use Rattle.verdict.specs.declared.Verdict.{Verdict}
 use Rattle.verdict.specs.declared.Verdict.the-variants.{Accepted, Rejected}
-use Rattle.calls.specs.declared.Request.{Request}
-use Rattle.calls.specs.Causes.{Call, request, file, cancel, close}
-use Rattle.calls.specs.Machine.{newBill, Outcome, fresh, after, outcomes}
+use Rattle.causes.specs.declared.Request.{Request}
+use Rattle.causes.specs.Causes.{Call, request, file, cancel, close}
+use Rattle.causes.specs.Requests.{newBill}
+use Rattle.calls.specs.Machine.{Outcome, fresh, after, outcomes}
 use Rattle.history.specs.Claim.{assigned}
 
 -- ---- a supplier's file

@@ -13,9 +13,9 @@ use Rattle.notices.specs.Layout.{isRsp}
 use Rattle.verdict.specs.declared.Check.the-variants.{Clear}
 use Rattle.verdict.specs.Rules.{first}
 use Rattle.verdict.specs.Lines.{isNothing, termsOf}
-use Rattle.groups.specs.Groups.{sought, answer, isAccepted}
-use Rattle.calls.specs.declared.Start.{Start}
-use Rattle.calls.specs.Causes.{Call, freshCauses}
+use Rattle.group.specs.Groups.{sought, answer, isAccepted}
+use Rattle.causes.specs.declared.Start.{Start}
+use Rattle.causes.specs.Causes.{Call, freshCauses}
 use Rattle.calls.specs.Machine.{Outcome, total, fresh, after, outcomes, Runs}
 use Rattle.calls.specs.Days.{freshCalled}
 use Rattle.history.specs.History.{History, begun, historySum, hAfter, hCauses, Decided, hDecisions}

@@ -17,11 +17,11 @@ use Rattle.verdict.specs.declared.Verdict.{Verdict}
 use Rattle.verdict.specs.declared.Verdict.the-variants.{Accepted, Rejected}
 use Rattle.verdict.specs.Rules.{first}
 use Rattle.verdict.specs.Lines.{sentCharge}
-use Rattle.groups.specs.Groups.{identityOf, verdict}
-use Rattle.calls.specs.declared.Start.{Start}
-use Rattle.calls.specs.declared.Request.{Request}
-use Rattle.calls.specs.Causes.{Call, request, file, cancel, close, causes}
-use Rattle.calls.specs.Machine.{codeOf, productOf}
+use Rattle.group.specs.Groups.{identityOf, verdict}
+use Rattle.causes.specs.declared.Start.{Start}
+use Rattle.causes.specs.declared.Request.{Request}
+use Rattle.causes.specs.Causes.{Call, request, file, cancel, close, causes}
+use Rattle.causes.specs.Requests.{codeOf, productOf}
 
 -- "postings, each a bill and a charge"
 pub record Posting : Type 0 where

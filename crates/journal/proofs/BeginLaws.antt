@@ -15,9 +15,9 @@ use Rattle.verdict.specs.declared.Check.the-variants.{Clear, Stop}
 use Rattle.verdict.specs.Rules.{first}
 use Rattle.units.specs.declared.Date.{Date}
 use Rattle.ledger.specs.declared.Identity.{Identity}
-use Rattle.calls.specs.declared.Start.{Start}
-use Rattle.calls.specs.declared.Request.{Request}
-use Rattle.calls.specs.Causes.{Call, freshCauses}
+use Rattle.causes.specs.declared.Start.{Start}
+use Rattle.causes.specs.declared.Request.{Request}
+use Rattle.causes.specs.Causes.{Call, freshCauses}
 use Rattle.calls.specs.Machine.{step, fresh, after}
 use Rattle.journal.specs.declared.Body.{Body}
 use Rattle.journal.specs.declared.Body.the-variants as body

@@ -1,5 +1,4 @@
 -- Laws that belong to no one function.
-pub mod EntryLaws
 pub mod MadeLaws
 pub mod BodyLaws
 pub mod MoveLaws
@@ -8,4 +7,3 @@ pub mod JournalLaws
 pub mod BeginLaws
 pub mod ShortLaws
 pub mod NoticeLaws
-pub mod TurnLaws

@@ -10,7 +10,7 @@ use Rattle.ledger.specs.Sound.{soundLedger}
 use Rattle.verdict.specs.declared.Check.{Check}
 use Rattle.verdict.specs.declared.Check.the-variants.{Clear, Stop}
 use Rattle.verdict.specs.Rules.{first}
-use Rattle.calls.specs.Causes.{Call, request, file, cancel, close, freshCauses}
+use Rattle.causes.specs.Causes.{Call, request, file, cancel, close, freshCauses}
 use Rattle.calls.specs.Machine.{Outcome, cause, nextWritten, outcome, step, after, outcomes, stepIn, called, ran}
 use Rattle.calls.specs.Days.{freshBy, freshCalled}
 use Rattle.calls.proofs.DayLaws.{fresh-sound}
@@ -51,7 +51,7 @@ module _ (l : Ledger) (h : soundLedger l ≡ true) where
       go Clear = refl
       go (Stop n) = refl
 
-  pub made-book : (b : Body) (bytes : List ℕ) → Taken b → book (madeIn l b bytes .ledger) ≡ made b bytes (book l)
+  pub made-book : (b : Body) (bytes : List ℕ) → Taken b → book (madeIn 64200 l b bytes .ledger) ≡ made b bytes (book l)
   unfolding freshCalled freshBy
   made-book (body.Fresh s) bytes t = rw t
   made-book (body.Request r) bytes t = call-book (request r 64200)
@@ -60,16 +60,16 @@ module _ (l : Ledger) (h : soundLedger l ≡ true) where
   made-book (body.Close d) bytes t = call-book (close d)
   made-book body.Unread bytes t = refl
 
-  pub made-sound : (b : Body) (bytes : List ℕ) → Taken b → soundLedger (madeIn l b bytes .ledger) ≡ true
+  pub made-sound : (room : ℕ) (b : Body) (bytes : List ℕ) → Taken b → soundLedger (madeIn room l b bytes .ledger) ≡ true
   unfolding freshCalled freshBy
-  made-sound (body.Fresh s) bytes t = rw t (fresh-sound s t)
-  made-sound (body.Request r) bytes t = call-sound (request r 64200)
-  made-sound body.File bytes t = call-sound (file bytes 64200)
-  made-sound (body.Cancel id) bytes t = call-sound (cancel id 64200)
-  made-sound (body.Close d) bytes t = call-sound (close d)
-  made-sound body.Unread bytes t = h
+  made-sound room (body.Fresh s) bytes t = rw t (fresh-sound s t)
+  made-sound room (body.Request r) bytes t = call-sound (request r room)
+  made-sound room body.File bytes t = call-sound (file bytes room)
+  made-sound room (body.Cancel id) bytes t = call-sound (cancel id room)
+  made-sound room (body.Close d) bytes t = call-sound (close d)
+  made-sound room body.Unread bytes t = h
 
-  pub made-written : (b : Body) (bytes : List ℕ) → writtenIn l b bytes ≡ writtenBy (outcomes (book l) (callOf b bytes))
+  pub made-written : (b : Body) (bytes : List ℕ) → writtenIn 64200 l b bytes ≡ writtenBy (outcomes (book l) (callOf b bytes))
   unfolding outcomes
   made-written (body.Fresh s) bytes = refl
   made-written (body.Request r) bytes = call-written (request r 64200)

@@ -1,4 +1,4 @@
--- The notices of a journal, one entry after another: what `next_entry` writes at each turn makes up the BRN file. Assumes nothing.
+-- The notices of a journal, one entry after another: what each entry writes makes up the BRN file. Assumes nothing.
 use Prim.Native.Nat.{ℕ, _+_, _-_}
 use mathlib.Core.Path.{_≡_, sym, ap, _∙_}
 use mathlib.Core.Bool.{true}
@@ -35,13 +35,13 @@ module _ (l : Ledger) (h : soundLedger l ≡ true) (seen : ℕ) (s : List ℕ) w
     abbrev bytes : List ℕ
     bytes = part s 3 (n - 3)
 
-    pub notices-more : ahead ≡ writtenIn l b bytes ++ noticesOf (book (madeIn l b bytes .ledger)) (parse (seen + 1) (drop n s) .entries)
+    pub notices-more : ahead ≡ writtenIn 64200 l b bytes ++ noticesOf (book (madeIn 64200 l b bytes .ledger)) (parse (seen + 1) (drop n s) .entries)
     unfolding noticesOf
     notices-more =
         let rest = parse (seen + 1) (drop n s) .entries in
         ap (λ (p : Parsed). noticesOf (book l) (p .entries)) (parse-whole seen s b n e)
         ∙ ap (λ (w : List ℕ). w ++ noticesOf (made b bytes (book l)) rest) (sym (made-written l h b bytes))
-        ∙ ap (λ (k : Book). writtenIn l b bytes ++ noticesOf k rest) (sym (made-book l h b bytes (whole-taken seen s b n e)))
+        ∙ ap (λ (k : Book). writtenIn 64200 l b bytes ++ noticesOf k rest) (sym (made-book l h b bytes (whole-taken seen s b n e)))
 
-    pub still-sound : soundLedger (madeIn l b bytes .ledger) ≡ true
-    still-sound = made-sound l h b bytes (whole-taken seen s b n e)
+    pub still-sound : soundLedger (madeIn 64200 l b bytes .ledger) ≡ true
+    still-sound = made-sound l h 64200 b bytes (whole-taken seen s b n e)

@@ -10,9 +10,9 @@ use Rattle.units.specs.declared.Date.{Date}
 use Rattle.verdict.specs.declared.Check.{Check}
 use Rattle.verdict.specs.declared.Check.the-variants.{Clear, Stop}
 use Rattle.verdict.specs.Rules.{first}
-use Rattle.calls.specs.declared.CodeField.{CodeField}
-use Rattle.calls.specs.declared.Request.{Request}
-use Rattle.calls.specs.Causes.{freshCauses}
+use Rattle.causes.specs.declared.CodeField.{CodeField}
+use Rattle.causes.specs.declared.Request.{Request}
+use Rattle.causes.specs.Causes.{freshCauses}
 use Rattle.journal.specs.declared.Body.{Body}
 use Rattle.journal.specs.declared.Body.the-variants as body
 use Rattle.journal.specs.declared.Head.{Head}

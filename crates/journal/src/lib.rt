@@ -1,5 +1,4 @@
 // Journal entries: what stands at the start of some bytes.
-pub mod make;
 
 ghost use mathlib.Core.Path.{_≡_};
 ghost use mathlib.Core.Bool.{true};
@@ -8,9 +7,9 @@ ghost use lib.ListN.{length};
 ghost use Rattle.fields.specs.Put.{part, put};
 ghost use Rattle.journal.specs.Journal.{endsBad};
 ghost use Rattle.journal.specs.Entries.{codeIn, freshBody, requestBody, cancelBody, closeBody, bodyOf, goodLength, inTurn, wholeOf, headBy, headOf};
-use calls::CodeField;
-use calls::Request;
-use calls::Start;
+use causes::CodeField;
+use causes::Request;
+use causes::Start;
 use fields::Field;
 use ledger::Identity;
 use units::Ccf;
@@ -159,7 +158,7 @@ fn fresh_head(b: Body, end: usize) -> Head
     let Body::Fresh(start) = b else {
         return Head::Bad;
     };
-    let check = calls::days::fresh_check(start);
+    let check = causes::checks::fresh_check(start);
     match check {
         Check::Stop(_) => Head::Bad,
         Check::Clear => Head::Whole(b, end),

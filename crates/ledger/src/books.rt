@@ -108,7 +108,7 @@ pub fn bill_at(bills: &[Bill], i: usize) -> Bill
 }
 
 // A sum, and the charge of one bill more.
-fn add_charge(sum: Cents, b: Bill) -> Cents
+pub fn add_charge(sum: Cents, b: Bill) -> Cents
     requires { ⌜ sum .0 + billCharge b < 2 ^ 64 ⌝ }
     ensures { λ r. ⌜ r .0 ≡ sum .0 + billCharge b ⌝ }
 {

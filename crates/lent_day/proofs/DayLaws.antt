@@ -11,8 +11,8 @@ use Rattle.ledger.specs.Sound.{soundLedger}
 use Rattle.ledger.proofs.SoundLaws.{ledger-count, ledger-small}
 use Rattle.verdict.specs.declared.Check.the-variants.{Clear}
 use Rattle.verdict.specs.Rules.{first}
-use Rattle.calls.specs.declared.Start.{Start}
-use Rattle.calls.specs.Causes.{Call, startTests, freshCauses}
+use Rattle.causes.specs.declared.Start.{Start}
+use Rattle.causes.specs.Causes.{Call, startTests, freshCauses}
 use Rattle.calls.specs.Machine.{ran}
 use Rattle.calls.specs.Days.{freshLedger, freshBy, freshCalled}
 use Rattle.calls.proofs.DayLaws.{fresh-sound}

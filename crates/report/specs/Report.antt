@@ -9,8 +9,8 @@ use Rattle.fields.specs.Put.{put}
 use Rattle.table.specs.Table.{tableOf}
 use Rattle.verdict.specs.declared.Check.the-variants.{Clear}
 use Rattle.verdict.specs.Rules.{first}
-use Rattle.calls.specs.declared.Start.{Start}
-use Rattle.calls.specs.Causes.{freshCauses}
+use Rattle.causes.specs.declared.Start.{Start}
+use Rattle.causes.specs.Causes.{freshCauses}
 use Rattle.calls.specs.Machine.{fresh, after}
 use Rattle.history.specs.History.{begun}
 use Rattle.history.specs.Claim.{Claims}

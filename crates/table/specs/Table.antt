@@ -1,6 +1,8 @@
 -- The posted table, byte by byte. Assumes nothing.
 use Prim.Native.Nat.{ℕ}
 use mathlib.Core.Bool.{Bool, cond}
+use lib.Dec.{ltb}
+use lib.ListN.{length}
 use mathlib.Core.List.{List, [], _∷_, _++_}
 use Rattle.fields.specs.Text.{text}
 use Rattle.fields.specs.Digits.{digits}
@@ -11,7 +13,11 @@ use Rattle.ledger.specs.declared.State.the-variants.{Open, Issued, Cancelled}
 use Rattle.ledger.specs.declared.Terms.{Terms}
 use Rattle.ledger.specs.declared.Bill.{Bill}
 use Rattle.ledger.specs.Bills.{productByte, codeBytes, chargeOf, appliedOf, owedOf, stateOf}
-use Rattle.ledger.specs.Books.{Book, totalOf}
+use Rattle.ledger.specs.declared.Ledger.{Ledger}
+use Rattle.ledger.specs.Books.{Book, book, totalOf}
+use Rattle.ledger.specs.Sound.{soundLedger}
+use Rattle.table.specs.declared.Printed.{Printed}
+use Rattle.table.specs.declared.Printed.the-variants.{Table, Refused}
 
 -- ---- cells and lines
 -- a cell of a line, and the comma after it
@@ -75,3 +81,17 @@ stopLine stopped = cond stopped (ended (text "stopped,13")) []
 -- bill lines and a zero total": the table of a ledger without bills
 unfoldable pub tableOf : Book → Bool → List ℕ
 tableOf l stopped = heading ++ linesOf (l .today) (l .bills) ++ totalLine (totalOf (l .bills)) ++ stopLine stopped
+
+-- ---- the table asked for
+-- the bytes of the longest table
+abbrev pub tableRoom : ℕ
+tableRoom = 10970
+
+-- what is answered for an output of so many bytes: 2 where the ledger is not sound, then 1 where the output is under 10,970 bytes
+unfoldable pub printedBy : Ledger → Bool → ℕ → Printed
+printedBy l stopped room =
+    cond (soundLedger l) (cond (ltb room tableRoom) (Refused 1) (Table (length (tableOf (book l) stopped)))) (Refused 2)
+
+-- what is written: nothing on refusal
+unfoldable pub printed : Ledger → Bool → ℕ → List ℕ
+printed l stopped room = cond (soundLedger l) (cond (ltb room tableRoom) [] (tableOf (book l) stopped)) []

@@ -9,7 +9,9 @@ ghost use Rattle.fields.specs.Put.{put};
 ghost use Rattle.ledger.specs.Lists.{every};
 ghost use Rattle.ledger.specs.Bills.{codeBytes, productByte};
 ghost use Rattle.ledger.specs.Books.{book, live, smallCharge};
-ghost use Rattle.table.specs.Table.{cell, stateByte, termsCells, amountCells, stateCell, lineOf, linesOf, totalLine, stopLine, tableOf};
+ghost use Rattle.ledger.specs.Sound.{soundLedger};
+ghost use Rattle.words.specs.Layout.{ledgerPlaces, holdsLedger, ledgerOf};
+ghost use Rattle.table.specs.Table.{cell, stateByte, termsCells, amountCells, stateCell, heading, lineOf, linesOf, totalLine, stopLine, tableOf, tableRoom, printedBy, printed};
 use ledger::Bill;
 use ledger::Ledger;
 use ledger::Posted;
@@ -21,6 +23,16 @@ use ledger::bills;
 use ledger::books;
 use units::Cents;
 use units::Date;
+use words::place;
+
+// The bytes that the longest table has: an output for a table has room for it.
+pub const TABLE_ROOM: usize = 10970;
+
+// What comes of asking for a table: how many bytes it has, or the number of the cause against it.
+pub enum Printed {
+    Table(usize),
+    Refused(u64),
+}
 
 // O, I or C.
 fn state_byte(s: State) -> u8
@@ -158,18 +170,26 @@ fn put_stop(out: &mut [u8], at: usize, stopped: bool) -> usize
     at
 }
 
-// Writes the table, and answers how many bytes it has.
-pub fn write(out: &mut [u8], l: Ledger, stopped: bool) -> usize
-    requires { ⌜ (l .count ≤ 128) × (every smallCharge (live l) ≡ true) × (10970 ≤ length (now out)) ⌝ }
-    ensures { λ r. ⌜ r ≡ length (tableOf (book l) stopped) ⌝ }
-    ensures { λ _. ⌜ now (out .exit) ≡ put (now (out .entry)) 0 (tableOf (book l) stopped) ⌝ }
-    ensures { λ r. ⌜ r ≤ 10970 ⌝ }
+// Writes the heading, 56 bytes.
+fn put_heading(out: &mut [u8])
+    requires { ⌜ 56 ≤ length (now out) ⌝ }
+    ensures { λ _. ⌜ now (out .exit) ≡ put (now (out .entry)) 0 heading ⌝ }
 {
     fields::put_bytes(
         out,
         0,
         b"account,key,code,kind,seq,ccf,charge,applied,owed,state\n",
     );
+}
+
+// Writes the table, and answers how many bytes it has.
+pub fn write(out: &mut [u8], l: Ledger, stopped: bool) -> usize
+    requires { ⌜ (l .count ≤ 128) × (every smallCharge (live l) ≡ true) × (tableRoom ≤ length (now out)) ⌝ }
+    ensures { λ r. ⌜ r ≡ length (tableOf (book l) stopped) ⌝ }
+    ensures { λ _. ⌜ now (out .exit) ≡ put (now (out .entry)) 0 (tableOf (book l) stopped) ⌝ }
+    ensures { λ r. ⌜ r ≤ tableRoom ⌝ }
+{
+    put_heading(out);
     let bills = l.bills;
     let n = l.count;
     let today = l.today;
@@ -177,4 +197,65 @@ pub fn write(out: &mut [u8], l: Ledger, stopped: bool) -> usize
     let total = l.total();
     put_total(out, end, total);
     put_stop(out, end + 23, stopped)
+}
+
+// The lines of the first n bills of a ledger in words, and where they end.
+fn lines_in(ws: &[u64], n: usize, out: &mut [u8], at: usize, today: Date) -> usize
+    requires { ⌜ (holdsLedger (now ws) ≡ true) × (n ≤ ledgerPlaces) × (at + 85 * n ≤ length (now out)) ⌝ }
+    ensures { λ r. ⌜ (r ≡ at + 85 * n) × (now (out .exit) ≡ put (now (out .entry)) at (linesOf today (take n (ledgerOf (now (ws .entry)) .bills)))) ⌝ }
+{
+    let mut end = at;
+    let mut i = 0;
+    while i < n {
+        let b = place::bill_at(ws, i);
+        put_line(out, end, b, today);
+        end += 85;
+        i += 1;
+    }
+    end
+}
+
+// Writes the table of a ledger that is lent as words, and answers how many bytes it has.
+pub fn write_words(out: &mut [u8], ws: &[u64], stopped: bool) -> usize
+    requires { ⌜ (soundLedger (ledgerOf (now ws)) ≡ true) × (tableRoom ≤ length (now out)) ⌝ }
+    ensures { λ r. ⌜ r ≡ length (tableOf (book (ledgerOf (now (ws .entry)))) stopped) ⌝ }
+    ensures { λ _. ⌜ now (out .exit) ≡ put (now (out .entry)) 0 (tableOf (book (ledgerOf (now (ws .entry)))) stopped) ⌝ }
+    ensures { λ r. ⌜ r ≤ tableRoom ⌝ }
+{
+    put_heading(out);
+    let h = place::header(ws);
+    let n = h.count;
+    let today = h.today;
+    let end = lines_in(ws, n, out, 56, today);
+    let total = place::total(ws, n);
+    put_total(out, end, total);
+    put_stop(out, end + 23, stopped)
+}
+
+// Writes the table of a ledger, unless the ledger is not sound (2) or the output has no room (1).
+pub fn print(out: &mut [u8], l: Ledger, stopped: bool) -> Printed
+    ensures { λ r. ⌜ r ≡ printedBy l stopped (length (now (out .entry))) ⌝ }
+    ensures { λ _. ⌜ now (out .exit) ≡ put (now (out .entry)) 0 (printed l stopped (length (now (out .entry)))) ⌝ }
+{
+    if !l.sound() {
+        return Printed::Refused(2);
+    }
+    if out.len() < TABLE_ROOM {
+        return Printed::Refused(1);
+    }
+    Printed::Table(write(out, l, stopped))
+}
+
+// The same of a ledger that is lent as words: any words at all.
+pub fn print_words(out: &mut [u8], ws: &[u64], stopped: bool) -> Printed
+    ensures { λ r. ⌜ r ≡ printedBy (ledgerOf (now (ws .entry))) stopped (length (now (out .entry))) ⌝ }
+    ensures { λ _. ⌜ now (out .exit) ≡ put (now (out .entry)) 0 (printed (ledgerOf (now (ws .entry))) stopped (length (now (out .entry)))) ⌝ }
+{
+    if !words::sound(ws) {
+        return Printed::Refused(2);
+    }
+    if out.len() < TABLE_ROOM {
+        return Printed::Refused(1);
+    }
+    Printed::Table(write_words(out, ws, stopped))
 }

@@ -25,7 +25,7 @@ rest ws at = take-all (length ws - at) (drop at ws) (omega (arith, length-drop a
 pub place-at : (ws : List ℕ) (i : ℕ) → drop (19 * i) (drop 4 ws) ≡ drop (4 + 19 * i) ws
 place-at ws i = drop-drop (19 * i) 4 ws
 
-next-place : (ws : List ℕ) (i : ℕ) → drop (19 * i) (drop 19 ws) ≡ drop (19 * suc i) ws
+pub next-place : (ws : List ℕ) (i : ℕ) → drop (19 * i) (drop 19 ws) ≡ drop (19 * suc i) ws
 next-place ws i =
     let e : 19 + 19 * i ≡ 19 * suc i = omega arith in
     drop-drop (19 * i) 19 ws ∙ ap (λ (k : ℕ). drop k ws) e

@@ -23,7 +23,7 @@ each-every g f t k [] us h = refl
 each-every g f t k (x ∷ xs) [] h = absurd h
 each-every g f t k (x ∷ xs) (u ∷ us) h = rw (k x (u ∷ []) (h .0)) (each-every g f t k xs us (h .1))
 
-four-bytes : (a b c d : ℕ) → a < 256 → b < 256 → c < 256 → d < 256 → holdsCode a b c d ≡ true
+pub four-bytes : (a b c d : ℕ) → a < 256 → b < 256 → c < 256 → d < 256 → holdsCode a b c d ≡ true
 four-bytes a b c d h i j k = rw (lt-ltb a 256 h, lt-ltb b 256 i, lt-ltb c 256 j, lt-ltb d 256 k)
 
 -- every place's code is four bytes

@@ -1,7 +1,7 @@
 -- Words to ledger and back, and ledger to words and back. Assumes nothing.
 use Prim.Native.Nat.{ℕ, zero, suc, _+_, _*_, _≤_, _<_}
 use mathlib.Core.Path.{_≡_, refl, sym, ap, ap₂, _∙_}
-use mathlib.Core.Bool.{Bool, true, false, _&&_, _||_, false≢true}
+use mathlib.Core.Bool.{Bool, true, false, _&&_, _||_, false≢true, true≢false}
 use mathlib.Core.List.{List, [], _∷_, _++_}
 use native.Mathlib.Omega.{arith}
 use lib.Dec.{leb, ltb, eqb}
@@ -249,3 +249,7 @@ no-sound = refl
 pub no-ledger : (ws : List ℕ) → holdsLedger ws ≡ false → soundLedger (ledgerOf ws) ≡ false
 unfolding ledgerOf
 no-ledger ws h = rw h no-sound
+
+-- so a sound ledger's words are those of a ledger
+pub sound-holds : (ws : List ℕ) → soundLedger (ledgerOf ws) ≡ true → holdsLedger ws ≡ true
+sound-holds ws h = cases (holdsLedger ws) (λ e. e) (λ e. absurd (true≢false (sym h ∙ no-ledger ws e)))

@@ -19,6 +19,19 @@ use Rattle.ledger.specs.declared.Bill.{Bill}
 use Rattle.ledger.specs.declared.Ledger.{Ledger}
 use Rattle.ledger.specs.Bills.{productByte, cents, blankBill}
 
+-- ---- the sizes: the words before the first place, those of a place, the places, and the words of a ledger
+abbrev pub headerSize : ℕ
+headerSize = 4
+
+abbrev pub placeSize : ℕ
+placeSize = 19
+
+abbrev pub ledgerPlaces : ℕ
+ledgerPlaces = 128
+
+abbrev pub ledgerSize : ℕ
+ledgerSize = 2436
+
 -- ---- a ledger's words
 -- 9: cancelled, 0 or 1
 abbrev pub markWord : Bool → ℕ
@@ -88,11 +101,11 @@ holdsBill ws =
 -- each of n places, one after the other
 unfoldable pub holdsBills : ℕ → List ℕ → Bool
 holdsBills zero ws = true
-holdsBills (suc n) ws = holdsBill ws && holdsBills n (drop 19 ws)
+holdsBills (suc n) ws = holdsBill ws && holdsBills n (drop placeSize ws)
 
 -- 2436 words whose 128 places are each a place
 unfoldable pub holdsLedger : List ℕ → Bool
-holdsLedger ws = eqb (length ws) 2436 && holdsBills 128 (drop 4 ws)
+holdsLedger ws = eqb (length ws) ledgerSize && holdsBills ledgerPlaces (drop headerSize ws)
 
 -- ---- the ledger whose words they are
 -- the date of a word
@@ -146,7 +159,7 @@ billIn ws =
 -- the bills of n places, one after the other
 unfoldable pub billsIn : ℕ → List ℕ → List Bill
 billsIn zero ws = []
-billsIn (suc n) ws = billIn ws ∷ billsIn n (drop 19 ws)
+billsIn (suc n) ws = billIn ws ∷ billsIn n (drop placeSize ws)
 
 -- the ledger of 2436 words, word by word
 unfoldable pub ledgerIn : List ℕ → Ledger
@@ -156,12 +169,12 @@ ledgerIn ws =
       «next_tracking» = getD ws 1 0;
       «next_confirmation» = getD ws 2 0;
       count = getD ws 3 0;
-      bills = billsIn 128 (drop 4 ws);
+      bills = billsIn ledgerPlaces (drop headerSize ws);
     }
 
 -- a ledger that is not sound: its count is past the 128 places, so every call answers 2
 unfoldable pub noLedger : Ledger
-noLedger = record { today = date 0; «next_tracking» = 0; «next_confirmation» = 0; count = 129; bills = replicate 128 blankBill }
+noLedger = record { today = date 0; «next_tracking» = 0; «next_confirmation» = 0; count = 129; bills = replicate ledgerPlaces blankBill }
 
 -- any words at all give a ledger, or one that is not sound
 unfoldable pub ledgerOf : List ℕ → Ledger

@@ -1,2 +1,3 @@
 -- A ledger as an array of 64-bit words.
 pub mod Layout
+pub mod Slots

@@ -4,7 +4,12 @@ ghost use mathlib.Core.Bool.{true};
 ghost use Prim.Native.Nat.{_+_, _≤_, _<_};
 ghost use lib.ListN.{length, drop};
 ghost use Rattle.fields.specs.Put.{put};
-ghost use Rattle.words.specs.Layout.{markWord, termsWords, latestWords, postedWords, billWords, ledgerWords, holdsCode, holdsPosted, holdsBill, holdsLedger, productIn, postedIn, codeIn, latestIn, termsIn, billIn, ledgerIn, noLedger, ledgerOf};
+ghost use Rattle.ledger.specs.Sound.{soundLedger};
+ghost use Rattle.words.specs.Layout.{placeSize, ledgerSize, markWord, termsWords, latestWords, postedWords, billWords, ledgerWords, holdsCode, holdsPosted, holdsBill, holdsLedger, productIn, postedIn, codeIn, latestIn, termsIn, billIn, ledgerIn, noLedger, ledgerOf};
+
+pub mod checks;
+pub mod place;
+
 use ledger::Bill;
 use ledger::Identity;
 use ledger::Latest;
@@ -16,6 +21,15 @@ use ledger::Terms;
 use units::Ccf;
 use units::Cents;
 use units::Date;
+
+// How many words stand before the first place, how many a place has, how many places there are, and how many words a ledger has.
+pub const HEADER_SIZE: usize = 4;
+
+pub const PLACE_SIZE: usize = 19;
+
+pub const PLACES: usize = 128;
+
+pub const LEDGER_SIZE: usize = 2436;
 
 // ---- which words are those of a ledger
 // Whether four words are bytes.
@@ -35,7 +49,7 @@ fn fits_posted(kind: u64, charge: u64, applied: u64, owed: u64) -> bool
 
 // Whether the words from index `at` on are those of a place.
 fn fits_in(words: &[u64], at: usize) -> bool
-    requires { ⌜ at + 19 ≤ length (now words) ⌝ }
+    requires { ⌜ at + placeSize ≤ length (now words) ⌝ }
     ensures { λ r. ⌜ r ≡ holdsBill (drop at (now (words .entry))) ⌝ }
 {
     let w = &words[at..];
@@ -49,13 +63,13 @@ fn fits_in(words: &[u64], at: usize) -> bool
 fn fits(words: &[u64]) -> bool
     ensures { λ r. ⌜ r ≡ holdsLedger (now (words .entry)) ⌝ }
 {
-    if words.len() != 2436 {
+    if words.len() != LEDGER_SIZE {
         return false;
     }
     let mut good = true;
     let mut i = 0;
-    while i < 128 {
-        good = good & fits_in(words, 4 + 19 * i);
+    while i < PLACES {
+        good = good & fits_in(words, HEADER_SIZE + PLACE_SIZE * i);
         i += 1;
     }
     good
@@ -91,7 +105,7 @@ fn posted_in(kind: u64, charge: u64, applied: u64, owed: u64) -> Posted
 
 // What a bill has from its latest request, of a place's words.
 fn latest_in(w: &[u64]) -> Latest
-    requires { ⌜ 19 ≤ length (now w) ⌝ }
+    requires { ⌜ placeSize ≤ length (now w) ⌝ }
     ensures { λ r. ⌜ r ≡ latestIn (now (w .entry)) ⌝ }
 {
     Latest {
@@ -113,7 +127,7 @@ fn byte(w: u64) -> u8
 
 // The rate code of a place's words.
 fn code_in(w: &[u64]) -> RateCode
-    requires { ⌜ 19 ≤ length (now w) ⌝ }
+    requires { ⌜ placeSize ≤ length (now w) ⌝ }
     requires { ⌜ holdsBill (now w) ≡ true ⌝ }
     ensures { λ r. ⌜ r ≡ codeIn (now (w .entry)) ⌝ }
 {
@@ -127,7 +141,7 @@ fn code_in(w: &[u64]) -> RateCode
 
 // A bill but for its posted amounts, of a place's words.
 fn terms_in(w: &[u64]) -> Terms
-    requires { ⌜ 19 ≤ length (now w) ⌝ }
+    requires { ⌜ placeSize ≤ length (now w) ⌝ }
     requires { ⌜ holdsBill (now w) ≡ true ⌝ }
     ensures { λ r. ⌜ r ≡ termsIn (now (w .entry)) ⌝ }
 {
@@ -150,7 +164,7 @@ fn terms_in(w: &[u64]) -> Terms
 
 // The bill of the 19 words from index `at` on.
 pub fn bill_in(words: &[u64], at: usize) -> Bill
-    requires { ⌜ at + 19 ≤ length (now words) ⌝ }
+    requires { ⌜ at + placeSize ≤ length (now words) ⌝ }
     requires { ⌜ holdsBill (drop at (now words)) ≡ true ⌝ }
     ensures { λ r. ⌜ r ≡ billIn (drop at (now (words .entry))) ⌝ }
 {
@@ -168,8 +182,8 @@ fn ledger_in(words: &[u64]) -> Ledger
     let mut l = Ledger::empty(Date(words[0]), words[1], words[2]);
     l.count = words[3] as usize;
     let mut i = 0;
-    while i < 128 {
-        let b = bill_in(words, 4 + 19 * i);
+    while i < PLACES {
+        let b = bill_in(words, HEADER_SIZE + PLACE_SIZE * i);
         l.bills[i] = b;
         i += 1;
     }
@@ -193,6 +207,21 @@ pub fn read(words: &[u64]) -> Ledger
         return ledger_in(words);
     }
     none()
+}
+
+// Whether the words are those of a sound ledger: cause 2 where they are not. No ledger is made of them.
+pub fn sound(words: &[u64]) -> bool
+    ensures { λ r. ⌜ r ≡ soundLedger (ledgerOf (now (words .entry))) ⌝ }
+{
+    if !fits(words) {
+        return false;
+    }
+    let h = place::header(words);
+    let n = h.count;
+    if !checks::good_header(h) {
+        return false;
+    }
+    checks::good_bills(words, n) & checks::all_distinct(words, n)
 }
 
 // ---- a ledger's words
@@ -271,7 +300,7 @@ fn terms_words(t: Terms) -> [u64; 10]
 
 // Writes a place's 19 words into words from index `at` on.
 pub fn put_bill(words: &mut [u64], at: usize, b: Bill)
-    requires { ⌜ at + 19 ≤ length (now words) ⌝ }
+    requires { ⌜ at + placeSize ≤ length (now words) ⌝ }
     ensures { λ _. ⌜ now (words .exit) ≡ put (now (words .entry)) at (billWords b) ⌝ }
 {
     let t = b.terms;
@@ -287,7 +316,7 @@ pub fn put_bill(words: &mut [u64], at: usize, b: Bill)
 
 // Writes the ledger's words, which read back as the ledger.
 pub fn write(words: &mut [u64], l: Ledger)
-    requires { ⌜ length (now words) ≡ 2436 ⌝ }
+    requires { ⌜ length (now words) ≡ ledgerSize ⌝ }
     ensures { λ _. ⌜ now (words .exit) ≡ ledgerWords l ⌝ }
     ensures { λ _. ⌜ ledgerOf (now (words .exit)) ≡ l ⌝ }
 {
@@ -296,9 +325,9 @@ pub fn write(words: &mut [u64], l: Ledger)
     words[2] = l.next_confirmation;
     words[3] = l.count as u64;
     let mut i = 0;
-    while i < 128 {
+    while i < PLACES {
         let b = l.bills[i];
-        put_bill(words, 4 + 19 * i, b);
+        put_bill(words, HEADER_SIZE + PLACE_SIZE * i, b);
         i += 1;
     }
 }

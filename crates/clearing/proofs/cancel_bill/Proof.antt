@@ -14,7 +14,7 @@ use Rattle.ledger.proofs.Identity as P
 use Rattle.ledger.proofs.Identity.Laws as P′
 use Rattle.ledger.specs.declared.Ledger.{Ledger}
 use Rattle.calls.specs.declared.Called.{Called}
-use Rattle.calls.specs.Causes.{cancel}
+use Rattle.causes.specs.Causes.{cancel}
 use Rattle.calls.specs.Machine.{stepIn, called}
 use Rattle.calls.proofs.bills.cancel_bill.Symbol as core-def
 use Rattle.calls.proofs.bills.cancel_bill.Symbol.{name as #core}

@@ -10,7 +10,7 @@ use Rattle.units.proofs.Date as P
 use Rattle.units.proofs.Date.Laws as P′
 use Rattle.ledger.specs.declared.Ledger.{Ledger}
 use Rattle.calls.specs.declared.Called.{Called}
-use Rattle.calls.specs.Causes.{close}
+use Rattle.causes.specs.Causes.{close}
 use Rattle.calls.specs.Machine.{called}
 use Rattle.calls.proofs.days.close_day.Symbol as core-def
 use Rattle.calls.proofs.days.close_day.Symbol.{name as #core}

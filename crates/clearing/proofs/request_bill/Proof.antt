@@ -9,12 +9,12 @@ use contract.Running.{givenOf, tables, tablesOf}
 use denote.Triple.Spec.{tripleOf}
 use denote.Triple.Table.{entered, cited}
 use Rattle.fields.specs.Put.{put}
-use Rattle.calls.specs.declared.Request.{Request}
+use Rattle.causes.specs.declared.Request.{Request}
 use Rattle.calls.proofs.Request as P
 use Rattle.calls.proofs.Request.Laws as P′
 use Rattle.ledger.specs.declared.Ledger.{Ledger}
 use Rattle.calls.specs.declared.Called.{Called}
-use Rattle.calls.specs.Causes.{request}
+use Rattle.causes.specs.Causes.{request}
 use Rattle.calls.specs.Machine.{stepIn, called}
 use Rattle.calls.proofs.bills.request_bill.Symbol as core-def
 use Rattle.calls.proofs.bills.request_bill.Symbol.{name as #core}

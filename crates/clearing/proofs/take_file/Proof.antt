@@ -11,7 +11,7 @@ use denote.Triple.Table.{entered, cited}
 use Rattle.fields.specs.Put.{put}
 use Rattle.ledger.specs.declared.Ledger.{Ledger}
 use Rattle.calls.specs.declared.Called.{Called}
-use Rattle.calls.specs.Causes.{file}
+use Rattle.causes.specs.Causes.{file}
 use Rattle.calls.specs.Machine.{stepIn, called}
 use Rattle.calls.proofs.files.take_file.Symbol as core-def
 use Rattle.calls.proofs.files.take_file.Symbol.{name as #core}

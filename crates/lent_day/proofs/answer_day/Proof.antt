@@ -16,7 +16,7 @@ use Rattle.ledger.proofs.Identity as P
 use Rattle.ledger.proofs.Identity.Laws as P′
 use Rattle.calls.specs.declared.Called.{Called}
 use Rattle.calls.specs.declared.lookups.Amounts.{Amounts}
-use Rattle.calls.specs.Causes.{file}
+use Rattle.causes.specs.Causes.{file}
 use Rattle.calls.specs.Machine.{stepIn, called}
 use Rattle.calls.specs.Lookups.{amountsIn}
 use Rattle.calls.proofs.lookups.Amounts as R

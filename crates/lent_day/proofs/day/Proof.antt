@@ -14,9 +14,9 @@ use Rattle.units.specs.declared.Date.{Date}
 use Rattle.units.proofs.Date as D
 use Rattle.units.proofs.Date.Laws as D′
 use Rattle.ledger.specs.declared.Ledger.{Ledger}
-use Rattle.calls.specs.declared.Request.{Request}
+use Rattle.causes.specs.declared.Request.{Request}
 use Rattle.calls.specs.declared.Called.{Called}
-use Rattle.calls.specs.Causes.{Call, request, close}
+use Rattle.causes.specs.Causes.{Call, request, close}
 use Rattle.calls.specs.Machine.{stepIn, called, ran}
 use Rattle.calls.specs.Days.{freshCalled}
 use Rattle.calls.proofs.Start as S

@@ -13,7 +13,7 @@ use Rattle.ledger.specs.Lists.{count}
 use Rattle.ledger.specs.Bills.{blankBill}
 use Rattle.ledger.proofs.ListLaws.{slice-end}
 use Rattle.words.specs.Layout.{ledgerOf}
-use Rattle.calls.specs.Machine.{closes}
+use Rattle.causes.specs.Requests.{closes}
 use Rattle.calls.proofs.DayLaws.{count-turn}
 use Rattle.engine.proofs.PartLaws.{places-of}
 use Rattle.engine.proofs.call.closed_by.Statement.{statement}

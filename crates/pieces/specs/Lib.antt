@@ -1,2 +1,0 @@
--- What the contract of `run` cites.
-pub mod Pieces
