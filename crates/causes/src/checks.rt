@@ -240,4 +240,3 @@ pub fn one_closed(b: Bill, old: Date, new: Date) -> u64
         0
     }
 }
-

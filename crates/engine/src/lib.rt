@@ -1,6 +1,5 @@
-// A ledger that is lent as words and changed in place: no function takes it by value, and an entry is one call.
+// The engine: a ledger that is lent as words and changed in place. Each call does to the ledger that the words hold what the call by value does; an entry of
+// a journal is one call of `step`.
 pub mod call;
 pub mod entry;
-pub mod group;
-pub mod place;
-pub mod run;
+pub mod file_groups;

@@ -116,13 +116,7 @@ fn ids_used(v: Verdict, sup: bool) -> u64
 {
     match v {
         Verdict::Rejected(_) => 0,
-        Verdict::Accepted(_) => {
-            if sup {
-                1
-            } else {
-                0
-            }
-        }
+        Verdict::Accepted(_) => { if sup { 1 } else { 0 } }
     }
 }
 

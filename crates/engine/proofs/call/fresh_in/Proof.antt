@@ -24,15 +24,15 @@ empty-requires c κs = search needs
 write-requires : tie.Need-write-requires
 write-requires c κs = c .before .before .before .before .before .before .before .pre
 
-done-requires : tie.Need-done-requires
-done-requires c κs = search needs
+quiet-requires : tie.Need-quiet-requires
+quiet-requires c κs = search needs
 
 same-length : tie.Need-same-length
 same-length c = search needs
 
 returns-2 : tie.Need-returns-2
 unfolding freshCalled freshBy
-returns-2 c = rw (sym (c .before .before .before .before .before .before .before .before .before .fresh-check .ensures) ∙ c .before .before .before .before .before .before .before .enum-told .given .1) (c .before .before .before .write .ensures .1 ∙ c .before .before .before .before .empty .ensures, c .done .ensures)
+returns-2 c = rw (sym (c .before .before .before .before .before .before .before .before .before .fresh-check .ensures) ∙ c .before .before .before .before .before .before .before .enum-told .given .1) (c .before .before .before .write .ensures .1 ∙ c .before .before .before .before .empty .ensures, c .quiet .ensures)
 
 pub fresh-in-spec : {M : Type 1} → statement M
 fresh-in-spec =
@@ -44,6 +44,6 @@ fresh-in-spec =
     enum-told
     empty-requires
     write-requires
-    done-requires
+    quiet-requires
     same-length
     returns-2)

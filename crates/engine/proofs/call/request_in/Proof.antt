@@ -1,33 +1,31 @@
--- `engine::call::request_in` meets its contract.
-use borrow.Author.Needs.{needs}
-use mathlib.Core.Path.{sym, ap, _∙_}
+-- `engine::call::request_in` meets its contract, by the cause that was told.
+use mathlib.Core.Path.{refl, sym, ap, _∙_}
 use native.Mathlib.Omega.{arith}
-use lib.ListN.{length}
 use Rattle.words.specs.Layout.{ledgerOf}
-use Rattle.groups.proofs.ReadyLaws.{sound-ready}
-use Rattle.engine.proofs.EntryParts.{sound-holds}
-use Rattle.engine.proofs.CallParts.{sound-here, request-stops, request-done, request-room}
+use Rattle.words.proofs.PartLaws.{places-of}
+use Rattle.words.proofs.WordLaws.{sound-holds}
+use Rattle.group.proofs.ReadyLaws.{sound-ready}
+use Rattle.engine.proofs.WordCalls.{stopped-in, carried-in, found-is, slot-is}
+use Rattle.calls.proofs.BillLaws.{sound-here, request-stops, request-room, request-done}
+use borrow.Author.Needs.{needs}
 use Rattle.engine.proofs.call.request_in.Statement.{statement}
 use Rattle.engine.proofs.call.request_in.Tie as tie
 
-top-requires : tie.Need-top-requires
-top-requires c κs = sound-holds _ (c .before .before .before .pre .0)
+header-requires : tie.Need-header-requires
+header-requires c κs = (sound-holds _ (c .before .before .before .pre .0))
 
 find-requires : tie.Need-find-requires
-find-requires c κs = (sound-holds _ (c .before .before .before .before .before .before .pre .0), rw (c .before .before .top .ensures) (sound-ready _ (c .before .before .before .before .before .before .pre .0) .count))
+find-requires c κs = ((sound-holds _ (c .before .before .before .before .before .pre .0)), rw (c .before .header .ensures) (sound-ready _ (c .before .before .before .before .before .pre .0) .count))
 
 slot-requires : tie.Need-slot-requires
 slot-requires c κs = search needs
 
 bill-at-requires : tie.Need-bill-at-requires
-bill-at-requires c κs = (sound-holds _ (c .before .before .before .before .before .before .before .before .before .pre .0), c .before .slot .ensures .1)
+bill-at-requires c κs = ((sound-holds _ (c .before .before .before .before .before .before .before .before .pre .0)), c .before .slot .ensures .1)
 
-settle-request-requires : tie.Need-settle-request-requires
-settle-request-requires c κs =
-    let r = sound-ready _ (c .before .before .before .before .before .before .before .before .before .before .pre .0) in (
-      (rw (c .before .before .before .before .before .before .top .ensures) (r .tracking), rw (c .before .before .before .before .before .before .top .ensures) (r .confirmation), rw (c .before .before .before .before .before .before .top .ensures) (r .count)),
-      sound-here (c .before .before .before .before .before .before .before .before .before .before .args .ws .now) (c .before .before .before .before .before .before .before .before .before .before .pre .0) (c .before .before .before .before .before .before .before .before .before .before .args .r .identity) _ (c .before .before .before .before .before .before .top .ensures) _ (c .before .before .before .find .ensures) _ (c .before .before .slot .ensures .0) _ (c .bill-at .ensures),
-    )
+request-requires : tie.Need-request-requires
+request-requires c κs = let q = sound-ready _ (c .before .before .before .before .before .before .before .before .before .pre .0) in
+    ((rw (c .before .before .before .before .before .header .ensures) (q .tracking), rw (c .before .before .before .before .before .header .ensures) (q .confirmation), rw (c .before .before .before .before .before .header .ensures) (q .count)), rw (c .bill-at .ensures) (sound-here (ledgerOf (c .before .before .before .before .before .before .before .before .before .args .ws .now)) (places-of _ (sound-holds _ (c .before .before .before .before .before .before .before .before .before .pre .0))) (c .before .before .before .before .before .before .before .before .before .pre .0) (c .before .before .before .before .before .before .before .before .before .args .r .identity) _ (found-is (c .before .before .before .before .before .before .before .before .before .args .ws .now) _ _ (c .before .before .before .before .before .header .ensures) _ (c .before .before .before .find .ensures)) _ (slot-is (c .before .before .before .before .before .before .before .before .before .args .ws .now) _ _ (c .before .before .before .before .before .header .ensures) _ (c .before .before .before .find .ensures) _ (c .before .before .slot .ensures .0))))
 
 enum-known-check : tie.Need-enum-known-check
 enum-known-check c = search needs
@@ -36,16 +34,19 @@ same-length : tie.Need-same-length
 same-length c = search needs
 
 returns : tie.Need-returns
-returns c = request-stops (c .before .before .before .before .before .before .before .before .before .before .before .before .before .before .args .writes) (c .before .before .before .before .before .before .before .before .before .before .before .before .before .before .args .ws .now) (c .before .before .before .before .before .before .before .before .before .before .before .before .before .before .args .out .now) (c .before .before .before .before .before .before .before .before .before .before .before .before .before .before .pre .0) (c .before .before .before .before .before .before .before .before .before .before .before .before .before .before .args .r) (c .before .before .before .before .before .before .before .before .before .before .before .before .before .before .args .room) _ (c .before .before .before .before .before .before .before .before .before .before .top .ensures) _ (c .before .before .before .before .before .before .before .find .ensures) _ (c .before .before .before .before .before .before .slot .ensures .0) _ (c .before .before .before .before .bill-at .ensures) _ (c .before .before .before .settle-request .ensures) _ (c .before .check .given .1)
+returns c = stopped-in (c .before .before .before .before .before .before .before .before .before .before .before .before .before .args .writes) _ _ _ (sound-holds _ (c .before .before .before .before .before .before .before .before .before .before .before .before .before .pre .0)) _ (request-stops (ledgerOf (c .before .before .before .before .before .before .before .before .before .before .before .before .before .args .ws .now)) (places-of _ (sound-holds _ (c .before .before .before .before .before .before .before .before .before .before .before .before .before .pre .0))) (c .before .before .before .before .before .before .before .before .before .before .before .before .before .pre .0) (c .before .before .before .before .before .before .before .before .before .before .before .before .before .args .r) (c .before .before .before .before .before .before .before .before .before .before .before .before .before .args .room) _ (found-is (c .before .before .before .before .before .before .before .before .before .before .before .before .before .args .ws .now) _ _ (c .before .before .before .before .before .before .before .before .before .header .ensures) _ (c .before .before .before .before .before .before .before .find .ensures)) _ (slot-is (c .before .before .before .before .before .before .before .before .before .before .before .before .before .args .ws .now) _ _ (c .before .before .before .before .before .before .before .before .before .header .ensures) _ (c .before .before .before .before .before .before .before .find .ensures) _ (c .before .before .before .before .before .before .slot .ensures .0)) _ (c .before .before .before .before .before .before .before .before .before .header .ensures) _ (c .before .before .before .before .bill-at .ensures) _ (c .before .before .before .request .ensures) _ (c .before .check .given .1))
 
 enum-told : tie.Need-enum-told
 enum-told c = search needs
 
-store-requires : tie.Need-store-requires
-store-requires c κs = (sound-holds _ (c .before .before .before .before .before .before .before .before .before .before .before .before .before .before .before .pre .0), c .before .before .before .before .before .before .before .slot .ensures .1, λ w. omega (arith, c .before .before .before .before .before .before .before .before .before .before .before .before .before .before .before .pre .1 w, request-room (c .before .before .before .before .before .before .before .before .before .before .before .before .before .before .before .args .writes) (c .before .before .before .before .before .before .before .before .before .before .before .before .before .before .before .args .ws .now) (c .before .before .before .before .before .before .before .before .before .before .before .before .before .before .before .args .out .now) (c .before .before .before .before .before .before .before .before .before .before .before .before .before .before .before .pre .0) (c .before .before .before .before .before .before .before .before .before .before .before .before .before .before .before .args .r) (c .before .before .before .before .before .before .before .before .before .before .before .before .before .before .before .args .room) _ (c .before .before .before .before .before .before .before .before .before .before .before .top .ensures) _ (c .before .before .before .before .before .before .before .before .find .ensures) _ (c .before .before .before .before .before .before .before .slot .ensures .0) _ (c .before .before .before .before .before .bill-at .ensures) _ (c .before .before .before .before .settle-request .ensures) (c .before .before .enum-told .given .1)))
+put-bil-requires : tie.Need-put-bil-requires
+put-bil-requires c κs = λ z. omega (arith, c .before .before .before .before .before .before .before .before .before .before .before .before .before .before .before .pre .1 z, request-room (ledgerOf (c .before .before .before .before .before .before .before .before .before .before .before .before .before .before .before .args .ws .now)) (places-of _ (sound-holds _ (c .before .before .before .before .before .before .before .before .before .before .before .before .before .before .before .pre .0))) (c .before .before .before .before .before .before .before .before .before .before .before .before .before .before .before .pre .0) (c .before .before .before .before .before .before .before .before .before .before .before .before .before .before .before .args .r) (c .before .before .before .before .before .before .before .before .before .before .before .before .before .before .before .args .room) _ (found-is (c .before .before .before .before .before .before .before .before .before .before .before .before .before .before .before .args .ws .now) _ _ (c .before .before .before .before .before .before .before .before .before .before .before .header .ensures) _ (c .before .before .before .before .before .before .before .before .before .find .ensures)) _ (slot-is (c .before .before .before .before .before .before .before .before .before .before .before .before .before .before .before .args .ws .now) _ _ (c .before .before .before .before .before .before .before .before .before .before .before .header .ensures) _ (c .before .before .before .before .before .before .before .before .before .find .ensures) _ (c .before .before .before .before .before .before .before .before .slot .ensures .0)) _ (c .before .before .before .before .before .before .before .before .before .before .before .header .ensures) _ (c .before .before .before .before .before .before .bill-at .ensures) _ (c .before .before .before .before .before .request .ensures) (c .before .before .before .enum-told .given .1))
 
-done-requires : tie.Need-done-requires
-done-requires c κs = search needs
+update-requires : tie.Need-update-requires
+update-requires c κs = ((sound-holds _ (c .before .before .before .before .before .before .before .before .before .before .before .before .before .before .before .before .before .before .before .pre .0)), c .before .before .before .before .before .before .before .before .before .before .before .before .slot .ensures .1)
+
+noticed-requires : tie.Need-noticed-requires
+noticed-requires c κs = search needs
 
 same-length-2 : tie.Need-same-length-2
 same-length-2 c = search needs
@@ -54,23 +55,24 @@ same-length-3 : tie.Need-same-length-3
 same-length-3 c = search needs
 
 returns-2 : tie.Need-returns-2
-returns-2 c = rw (c .done .ensures) (request-done (c .before .before .before .before .before .before .before .before .before .before .before .before .before .before .before .before .before .before .before .before .before .args .writes) (c .before .before .before .before .before .before .before .before .before .before .before .before .before .before .before .before .before .before .before .before .before .args .ws .now) (c .before .before .before .before .before .before .before .before .before .before .before .before .before .before .before .before .before .before .before .before .before .args .out .now) (c .before .before .before .before .before .before .before .before .before .before .before .before .before .before .before .before .before .before .before .before .before .pre .0) (c .before .before .before .before .before .before .before .before .before .before .before .before .before .before .before .before .before .before .before .before .before .args .r) (c .before .before .before .before .before .before .before .before .before .before .before .before .before .before .before .before .before .before .before .before .before .args .room) _ (c .before .before .before .before .before .before .before .before .before .before .before .before .before .before .before .before .before .top .ensures) _ (c .before .before .before .before .before .before .before .before .before .before .before .before .before .before .find .ensures) _ (c .before .before .before .before .before .before .before .before .before .before .before .before .before .slot .ensures .0) _ (c .before .before .before .before .before .before .before .before .before .before .before .bill-at .ensures) _ (c .before .before .before .before .before .before .before .before .before .before .settle-request .ensures) (c .before .before .before .before .before .before .before .before .enum-told .given .1) _ _ _ (c .before .before .before .before .before .store .ensures))
+returns-2 c = rw (c .noticed .ensures) (carried-in (c .before .before .before .before .before .before .before .before .before .before .before .before .before .before .before .before .before .before .before .before .before .before .before .args .writes) _ _ _ (sound-holds _ (c .before .before .before .before .before .before .before .before .before .before .before .before .before .before .before .before .before .before .before .before .before .before .before .pre .0)) _ _ _ (request-done (ledgerOf (c .before .before .before .before .before .before .before .before .before .before .before .before .before .before .before .before .before .before .before .before .before .before .before .args .ws .now)) (places-of _ (sound-holds _ (c .before .before .before .before .before .before .before .before .before .before .before .before .before .before .before .before .before .before .before .before .before .before .before .pre .0))) (c .before .before .before .before .before .before .before .before .before .before .before .before .before .before .before .before .before .before .before .before .before .before .before .pre .0) (c .before .before .before .before .before .before .before .before .before .before .before .before .before .before .before .before .before .before .before .before .before .before .before .args .r) (c .before .before .before .before .before .before .before .before .before .before .before .before .before .before .before .before .before .before .before .before .before .before .before .args .room) _ (found-is (c .before .before .before .before .before .before .before .before .before .before .before .before .before .before .before .before .before .before .before .before .before .before .before .args .ws .now) _ _ (c .before .before .before .before .before .before .before .before .before .before .before .before .before .before .before .before .before .before .before .header .ensures) _ (c .before .before .before .before .before .before .before .before .before .before .before .before .before .before .before .before .before .find .ensures)) _ (slot-is (c .before .before .before .before .before .before .before .before .before .before .before .before .before .before .before .before .before .before .before .before .before .before .before .args .ws .now) _ _ (c .before .before .before .before .before .before .before .before .before .before .before .before .before .before .before .before .before .before .before .header .ensures) _ (c .before .before .before .before .before .before .before .before .before .before .before .before .before .before .before .before .before .find .ensures) _ (c .before .before .before .before .before .before .before .before .before .before .before .before .before .before .before .before .slot .ensures .0)) _ (c .before .before .before .before .before .before .before .before .before .before .before .before .before .before .before .before .before .before .before .header .ensures) _ (c .before .before .before .before .before .before .before .before .before .before .before .before .before .before .bill-at .ensures) _ (c .before .before .before .before .before .before .before .before .before .before .before .before .before .request .ensures) (c .before .before .before .before .before .before .before .before .before .before .before .enum-told .given .1)) _ _ (c .before .before .before .update .ensures .0) (c .before .before .before .update .ensures .1) (c .before .before .before .before .before .before .before .put-bil .ensures))
 
 pub request-in-spec : {M : Type 1} → statement M
 request-in-spec =
     tie.close
     (tie.spec
-    top-requires
+    header-requires
     find-requires
     slot-requires
     bill-at-requires
-    settle-request-requires
+    request-requires
     enum-known-check
     same-length
     returns
     enum-told
-    store-requires
-    done-requires
+    put-bil-requires
+    update-requires
+    noticed-requires
     same-length-2
     same-length-3
     returns-2)

@@ -1,10 +1,10 @@
--- `engine::entry::step` meets its contract.
-use borrow.Author.Needs.{needs}
+-- `engine::entry::step` meets its contract, by what stands there.
 use mathlib.Core.Path.{sym, _∙_}
 use native.Mathlib.Omega.{arith}
 use Rattle.journal.proofs.HeadLaws.{whole-fits}
 use Rattle.journal.proofs.BeginLaws.{whole-taken}
 use Rattle.engine.proofs.MadeParts.{step-cut, step-bad, step-made}
+use borrow.Author.Needs.{needs}
 use Rattle.engine.proofs.entry.step.Statement.{statement}
 use Rattle.engine.proofs.entry.step.Tie as tie
 
