@@ -29,7 +29,7 @@ pub enum Amounts {
     Refused(u64),
 }
 
-fn is_open_of(b: Bill, account: u64, today: Date) -> bool
+pub fn is_open_of(b: Bill, account: u64, today: Date) -> bool
     ensures { λ r. ⌜ r ≡ isOpenOf account today b ⌝ }
 {
     let t = b.terms;
@@ -72,7 +72,7 @@ pub fn open_bill_of(l: Ledger, account: u64) -> Place
 }
 
 // What the posted amounts count for.
-fn counted(p: Posted) -> Amounts
+pub fn counted(p: Posted) -> Amounts
     ensures { λ r. ⌜ r ≡ countedBy p ⌝ }
 {
     Amounts::Posted {

@@ -3,3 +3,5 @@
 pub mod call;
 pub mod entry;
 pub mod file_groups;
+pub mod lookup;
+pub mod run;

@@ -92,15 +92,14 @@ module _ (xs : List ℕ) (at : ℕ) (today : Date) (bs : List Bill) (i : ℕ) wh
       ap (put xs at) (lines-more today bs i l) ∙ sym (next w (lineOf today (getD bs i blankBill)) refl (length-line today _) .same)
 
 -- the line of the bill at place i, after those of the bills before it
-pub line-in : (out₀ : List ℕ) (at : ℕ) (today : Date) (bs : List Bill) (n i : ℕ) (o : List ℕ) (end : ℕ) (b : Bill) (o′ : List ℕ) → i < n → n ≤ length bs
-    → at ≤ length out₀ → end ≡ at + 85 * i → o ≡ put out₀ at (linesOf today (take i (take n bs))) → b ≡ getD bs i blankBill
-    → o′ ≡ put o end (lineOf today b) → o′ ≡ put out₀ at (linesOf today (take (i + 1) (take n bs)))
-line-in out₀ at today bs n i o end b o′ h k a e f g q =
+pub line-in : (out₀ : List ℕ) (at : ℕ) (today : Date) (bs : List Bill) (n i : ℕ) (o : List ℕ) (b : Bill) (o′ : List ℕ) → i < n → n ≤ length bs
+    → at ≤ length out₀ → o ≡ put out₀ at (linesOf today (take i (take n bs))) → b ≡ getD bs i blankBill
+    → o′ ≡ put o (at + 85 * i) (lineOf today b) → o′ ≡ put out₀ at (linesOf today (take (i + 1) (take n bs)))
+line-in out₀ at today bs n i o b o′ h k a f g q =
     let m : length (take n bs) ≡ n = length-take-le n bs k in
     let d : b ≡ getD (take n bs) i blankBill = g ∙ sym (getD-take n bs i blankBill h) in
     q
-    ∙ ap (λ (x : List ℕ). put x end (lineOf today b)) f
-    ∙ ap (λ (j : ℕ). put (put out₀ at (linesOf today (take i (take n bs)))) j (lineOf today b)) e
+    ∙ ap (λ (x : List ℕ). put x (at + 85 * i) (lineOf today b)) f
     ∙ ap (λ (x : Bill). put (put out₀ at (linesOf today (take i (take n bs)))) (at + 85 * i) (lineOf today x)) d
     ∙ sym (line-more out₀ at today (take n bs) i a (omega (arith, m)))
 

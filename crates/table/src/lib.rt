@@ -204,15 +204,13 @@ fn lines_in(ws: &[u64], n: usize, out: &mut [u8], at: usize, today: Date) -> usi
     requires { ⌜ (holdsLedger (now ws) ≡ true) × (n ≤ ledgerPlaces) × (at + 85 * n ≤ length (now out)) ⌝ }
     ensures { λ r. ⌜ (r ≡ at + 85 * n) × (now (out .exit) ≡ put (now (out .entry)) at (linesOf today (take n (ledgerOf (now (ws .entry)) .bills)))) ⌝ }
 {
-    let mut end = at;
     let mut i = 0;
     while i < n {
         let b = place::bill_at(ws, i);
-        put_line(out, end, b, today);
-        end += 85;
+        put_line(out, at + 85 * i, b, today);
         i += 1;
     }
-    end
+    at + 85 * n
 }
 
 // Writes the table of a ledger that is lent as words, and answers how many bytes it has.

@@ -1,6 +1,6 @@
 -- `table::lines_in` meets its contract. The invariant: the lines of the first i bills are written.
 use Prim.Native.Nat.{ℕ, _+_, _-_, _*_, _≤_, _<_}
-use mathlib.Core.Path.{_≡_, refl, sym, ap, _∙_}
+use mathlib.Core.Path.{_≡_, refl, ap, _∙_}
 use native.Mathlib.Omega.{arith}
 use mathlib.Core.List.{List}
 use lib.ListN.{length, take, length-take}
@@ -16,22 +16,25 @@ use Rattle.table.proofs.lines_in.Statement.{statement}
 use Rattle.table.proofs.lines_in.Tie as tie
 
 abbrev Inv-loop : tie.InvT-loop
-Inv-loop ws n out₀ at today end₀ i₀ out end i = (i ≤ n) × (end ≡ at + 85 * i) × (length out ≡ length out₀) × (out ≡ put out₀ at (linesOf today (take i (take n (ledgerOf ws .bills)))))
+Inv-loop ws n out₀ at today i₀ out i = (i ≤ n) × (length out ≡ length out₀) × (out ≡ put out₀ at (linesOf today (take i (take n (ledgerOf ws .bills)))))
 
 abbrev μ-loop : tie.MeasureT-loop
-μ-loop ws n out₀ at today end₀ i₀ out end i = n - i
+μ-loop ws n out₀ at today i₀ out i = n - i
 
 loop-holds : tie.Need-loop-holds Inv-loop μ-loop
-loop-holds c = (omega arith, omega arith, refl, put-nil _ _)
+loop-holds c = (omega arith, refl, put-nil _ _)
 
 bill-at-requires : tie.Need-bill-at-requires Inv-loop μ-loop
 bill-at-requires c κs = (c .before .before .before .before .pre .0, omega (arith, c .before .before .before .before .pre .1))
 
-put-line-requires : tie.Need-put-line-requires Inv-loop μ-loop
-put-line-requires c κs = omega (arith, c .before .before .before .loop .inv .1, c .before .before .before .loop .inv .2, c .before .before .before .before .before .before .pre .2)
+mul-put-line : tie.Need-mul-put-line Inv-loop μ-loop
+mul-put-line c = omega (arith, c .before .before .before .before .before .before .pre .1)
 
-add-end : tie.Need-add-end Inv-loop μ-loop
-add-end c = omega (arith, c .before .before .before .before .before .before .loop .inv .1, c .before .before .before .before .before .before .loop .inv .2, c .before .before .before .before .before .before .before .before .before .pre .2)
+add-put-line : tie.Need-add-put-line Inv-loop μ-loop
+add-put-line c = omega (arith, c .before .before .before .before .before .before .pre .2)
+
+put-line-requires : tie.Need-put-line-requires Inv-loop μ-loop
+put-line-requires c κs = omega (arith, c .before .before .before .loop .inv .1, c .before .before .before .before .before .before .pre .2)
 
 add-i : tie.Need-add-i Inv-loop μ-loop
 add-i c = omega (arith, c .before .before .before .before .before .before .before .before .before .pre .1)
@@ -46,24 +49,29 @@ loop-again c =
     let bs = ledgerOf (s .args .ws .now) .bills in
     let k : s .args .n ≤ length bs = omega (arith, s .pre .1, places-of (s .args .ws .now) (s .pre .0)) in
     let w =
-    line-in (s .args .out .now) (s .args .at) (s .args .today) bs (s .args .n) (l .i) (l .out) (l .end) (c .before .before .before .before .bill-at .result) _ (c .before .before .before .before .before .loop-test .taken) k
-    (omega (arith, s .pre .2)) (l .inv .1) (l .inv .3) (c .before .before .before .before .bill-at .ensures) (c .before .before .put-line .ensures) in (
+    line-in (s .args .out .now) (s .args .at) (s .args .today) bs (s .args .n) (l .i) (l .out) (c .before .before .before .before .bill-at .result) _ (c .before .before .before .before .before .loop-test .taken) k
+    (omega (arith, s .pre .2)) (l .inv .2) (c .before .before .before .before .bill-at .ensures) (c .before .before .put-line .ensures) in (
       omega arith,
-      omega (arith, l .inv .1),
-      ap length w ∙ lines-kept (s .args .out .now) (s .args .at) (s .args .today) (take (s .args .n) bs) (l .i + 1) (omega (arith, s .pre .2, length-take-le (s .args .n) bs k)),
+      ap length w
+          ∙ lines-kept (s .args .out .now) (s .args .at) (s .args .today) (take (s .args .n) bs) (l .i + 1) (omega (arith, s .pre .2, length-take-le (s .args .n) bs k)),
       w,
     )
 
+mul-result : tie.Need-mul-result Inv-loop μ-loop
+mul-result c = omega (arith, c .before .before .before .before .pre .1)
+
+add-result : tie.Need-add-result Inv-loop μ-loop
+add-result c = omega (arith, c .before .before .before .before .pre .2)
+
 same-length : tie.Need-same-length Inv-loop μ-loop
-same-length c = c .before .loop .inv .2
+same-length c = c .before .loop .inv .1
 
 returns : tie.Need-returns Inv-loop μ-loop
 returns c =
     let s = c .before .before .before .before in
-    let bs = ledgerOf (s .args .ws .now) .bills in
-    let e : c .before .loop .i ≡ s .args .n = omega arith in (
-      c .before .loop .inv .1 ∙ ap (λ (j : ℕ). s .args .at + 85 * j) e,
-      c .before .loop .inv .3
+    let bs = ledgerOf (s .args .ws .now) .bills in (
+      refl,
+      c .before .loop .inv .2
           ∙ ap (λ (xs : List Bill). put (s .args .out .now) (s .args .at) (linesOf (s .args .today) xs)) (take-all (c .before .loop .i) (take (s .args .n) bs) (omega (arith, length-take (s .args .n) bs))),
     )
 
@@ -75,10 +83,13 @@ lines-in-spec =
     μ-loop
     loop-holds
     bill-at-requires
+    mul-put-line
+    add-put-line
     put-line-requires
-    add-end
     add-i
     loop-less
     loop-again
+    mul-result
+    add-result
     same-length
     returns)

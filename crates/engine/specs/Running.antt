@@ -1,0 +1,39 @@
+-- What a run over the entries at the start of some bytes leaves. Assumes nothing.
+use Prim.Native.Nat.{ℕ, _+_, _-_, _≤_}
+use mathlib.Core.Path.{_≡_}
+use mathlib.Core.Bool.{Bool, true, false, _&&_}
+use mathlib.Core.List.{List, [], _++_}
+use lib.Dec.{ltb}
+use lib.ListN.{length, drop}
+use Rattle.fields.specs.Put.{put}
+use Rattle.ledger.specs.Books.{book}
+use Rattle.ledger.specs.Sound.{soundLedger}
+use Rattle.words.specs.Layout.{ledgerOf}
+use Rattle.group.specs.Turns.{said}
+use Rattle.journal.specs.Journal.{Entry, Parsed, parse, makes}
+use Rattle.journal.specs.Made.{madeAll, noticesOf}
+use Rattle.engine.specs.declared.run.Ran.{Ran}
+
+-- the entries es, and what is parsed behind them
+abbrev pub behind : List Entry → Parsed → Parsed
+behind es p = record { entries = es ++ p .entries; stopped = p .stopped; rest = p .rest }
+
+-- the first entries of src were made, after so many entries, and their notices, if such are written, stand at the start of the output; none is left unless the
+-- output has no room for another entry's
+pub record RanIn (seen : ℕ) (writes : Bool) (src ws₀ out₀ ws out : List ℕ) (r : Ran) : Type 0 where
+  pub sound : soundLedger (ledgerOf ws) ≡ true
+  pub used : r .used ≤ length src
+  -- the entries that were made
+  pub done : List Entry
+  pub parsed : parse seen src ≡ behind done (parse (r .seen) (drop (r .used) src))
+  pub ledger : ledgerOf ws ≡ madeAll (ledgerOf ws₀) done
+  pub books : book (ledgerOf ws) ≡ makes (book (ledgerOf ws₀)) done
+  pub count : r .seen ≡ seen + length done
+  pub kept : length out ≡ length out₀
+  pub bytes : out ≡ put out₀ 0 (said writes (noticesOf (book (ledgerOf ws₀)) done))
+  pub written : r .written ≡ length (noticesOf (book (ledgerOf ws₀)) done)
+  pub within : writes ≡ true → r .written ≤ length out₀
+  pub full : r .full ≡ (writes && ltb (length out₀ - r .written) 64200)
+  pub left :
+      r .full ≡ false → parse (r .seen) (drop (r .used) src) ≡ record { entries = []; stopped = r .stopped; rest = drop (r .used) src }
+  pub goes : r .full ≡ true → r .stopped ≡ false
