@@ -1,12 +1,13 @@
 -- The notices of a whole journal: what is answered, and the last ones put behind. Assumes nothing.
 use Prim.Native.Nat.{ℕ, _+_, _-_, _≤_, _<_}
-use mathlib.Core.Path.{_≡_, refl, sym, ap, ap₂, _∙_}
+use mathlib.Core.Path.{_≡_, sym, ap, ap₂, _∙_, subst}
 use mathlib.Core.Bool.{Bool, true, false, _&&_}
 use mathlib.Core.List.{List, [], _++_}
 use native.Mathlib.Omega.{arith}
 use native.Mathlib.Nat.{zero-add}
 use lib.Dec.{ltb}
-use lib.ListN.{length, take, drop, length-append}
+use lib.ListN.{length, take, drop, length-append, length-drop}
+use lib.Seq.{take-all}
 use borrow.Author.Tests.{lt-ltb, le-ltb, ltb-true}
 use Rattle.fields.specs.Put.{put, part}
 use Rattle.fields.proofs.PutLaws.{put-nil, put-put, part-put}
@@ -35,6 +36,12 @@ module _ (s out₀ : List ℕ) (n : ℕ) (bad : Bool) (all : n ≡ length (brnOf
       record { answer = rw (e, all); stopped = ends; bytes = rw e o }
 
 -- ---- the last notices
+-- a run over the bytes from an index on, as the code lends them
+pub ran-tail : (seen : ℕ) (s : List ℕ) (n : ℕ) (ws₀ out₀ ws out : List ℕ) (r : Ran) → RanIn seen true (take (length s - n) (drop n s)) ws₀ out₀ ws out r
+    → RanIn seen true (drop n s) ws₀ out₀ ws out r
+ran-tail seen s n ws₀ out₀ ws out r x =
+    subst (λ (t : List ℕ). RanIn seen true t ws₀ out₀ ws out r) (take-all (length s - n) (drop n s) (omega (arith, length-drop n s))) x
+
 module _ (s ws₀ out₀ ws out : List ℕ) (r : Ran) (w : RanIn 0 true s ws₀ out₀ ws out r) (z : book (layout.ledgerOf ws₀) ≡ noBook)
     (fits : length (brnOf s) ≤ length out₀) (full : r .full ≡ true) where
   abbrev k : Book
