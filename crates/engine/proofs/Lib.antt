@@ -2,3 +2,4 @@
 pub mod WordCalls
 pub mod MadeParts
 pub mod LookupLaws
+pub mod RunLaws
