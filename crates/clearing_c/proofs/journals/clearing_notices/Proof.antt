@@ -1,21 +1,18 @@
+-- `clearing_c::journals::clearing_notices` meets its contract.
 use Rattle.clearing_c.proofs.WholeJournalLaws.{notices}
 use borrow.Author.Needs.{needs}
-use Rattle.clearing_c.proofs.clearing_notices.Statement.{statement}
-use Rattle.clearing_c.proofs.clearing_notices.Tie as tie
+use Rattle.clearing_c.proofs.journals.clearing_notices.Statement.{statement}
+use Rattle.clearing_c.proofs.journals.clearing_notices.Tie as tie
 
--- src/lib.rt:184:9
 post-notices-requires : tie.Need-post-notices-requires
 post-notices-requires c κs = search needs
 
--- src/lib.rt:185:5
 tell-requires : tie.Need-tell-requires
 tell-requires c κs = search needs
 
--- src/lib.rt:180:1
 same-length : tie.Need-same-length
 same-length c = search needs
 
--- src/lib.rt:180:1
 returns : tie.Need-returns
 returns c = notices _ _ _ _ _ _ _ (c .tell .ensures .0) (c .tell .ensures .1) (c .before .before .before .before .post-notices .ensures)
 

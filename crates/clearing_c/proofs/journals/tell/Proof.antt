@@ -1,25 +1,21 @@
+-- `clearing_c::journals::tell` meets its contract.
 use mathlib.Core.Path.{refl}
 use borrow.Author.Needs.{needs}
-use Rattle.clearing_c.proofs.give.tell.Statement.{statement}
-use Rattle.clearing_c.proofs.give.tell.Tie as tie
+use Rattle.clearing_c.proofs.journals.tell.Statement.{statement}
+use Rattle.clearing_c.proofs.journals.tell.Tie as tie
 
--- src/give.rt:37:29
 enum-told : tie.Need-enum-told
 enum-told c = search needs
 
--- src/give.rt:38:25
 enum-known-report : tie.Need-enum-known-report
 enum-known-report c = search needs
 
--- src/give.rt:32:1
 returns : tie.Need-returns
 returns c = search needs
 
--- src/give.rt:32:1
 returns-2 : tie.Need-returns-2
 returns-2 c = rw (c .before .before .report .given .1, c .if1 .taken) (refl, refl)
 
--- src/give.rt:32:1
 returns-3 : tie.Need-returns-3
 returns-3 c = rw (c .before .before .report .given .1, c .if1 .left) (refl, refl)
 
