@@ -111,8 +111,9 @@ fn history_over_seeds() {
     for seed in 0..400 {
         let journal = generator::make(seed);
         assert!(journal == generator::make(seed), "the same seed gives the same journal");
-        expect(&journal).unwrap_or_else(|told| panic!("seed {seed}: {told}"));
+        let expected = expect(&journal).unwrap_or_else(|told| panic!("seed {seed}: {told}"));
         coverage.merge(&Coverage::of(&journal));
+        coverage.trace(&expected.trace);
     }
     assert_eq!(coverage.missing(), Vec::<String>::new());
 }
