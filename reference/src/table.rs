@@ -6,11 +6,23 @@ use crate::ledger::{Bill, Ledger};
 
 pub const HEADING: &[u8] = b"account,key,code,kind,seq,ccf,charge,applied,owed,state\n";
 
-/// The heading, one line a bill in ledger order, the total and, after a bad entry, `stopped,13`.
+/// The longest table: heading, 128 lines, total and `stopped,13`.
+pub const LONGEST: usize = 10_970;
+
+/// The table of a journal; after a bad entry its last line is `stopped,13`.
 pub fn table(replayed: &Replayed) -> Vec<u8> {
+    let mut table = of_ledger(replayed.ledger.as_ref());
+    if replayed.stopped {
+        table.extend_from_slice(b"stopped,13\n");
+    }
+    table
+}
+
+/// The heading, one line a bill in ledger order, and the total; without a ledger no bills and a zero total.
+pub fn of_ledger(ledger: Option<&Ledger>) -> Vec<u8> {
     let mut table = HEADING.to_vec();
     let mut total = 0;
-    if let Some(ledger) = &replayed.ledger {
+    if let Some(ledger) = ledger {
         for bill in ledger.bills() {
             put_line(&mut table, ledger, bill);
         }
@@ -19,9 +31,6 @@ pub fn table(replayed: &Replayed) -> Vec<u8> {
     table.extend_from_slice(b"total,");
     put(&mut table, 16, total);
     table.push(b'\n');
-    if replayed.stopped {
-        table.extend_from_slice(b"stopped,13\n");
-    }
     table
 }
 
