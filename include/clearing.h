@@ -4,8 +4,8 @@
  *
  * Every function returns 0 if the call is carried out, else one of the causes below; then all that was lent to it
  * (ledger, out, change, counts, place, amounts, written, told) holds what it held before, but for the told of
- * clearing_entry, which is always written. Output past the bytes written is untouched. Nothing is kept between calls, and nothing but what was lent is read or written. A call needs no heap and
- * less than 512 KB of stack (tested).
+ * clearing_entry, which is always written. Output past the bytes written is untouched. Nothing is kept between calls,
+ * and nothing but what was lent is read or written. A call needs no heap and less than 512 KB of stack (tested).
  *
  * Pointers may not be null, must be aligned for their type and may not overlap one another; a pointer with a length
  * must have that many elements, and for an empty one (length 0) any pointer that is not null will do.
@@ -134,8 +134,8 @@ uint64_t clearing_ledger_table(const uint64_t *ledger, size_t ledger_len, uint8_
 /*
  * One entry of a journal, so that a program can stream one of any length: makes the call of the entry that begins the
  * bytes lent, before which `seen` entries came (0: it is the first). told is always written:
- *   told[0]  the bytes of the entry (3 and its body), after which the next begins; 0 if no whole good entry stands there
- *   told[1]  1 if the bytes end before the entry does: lend more of the journal (at its end, an entry cut short); else 0
+ *   told[0]  the bytes of the entry (3 and its body), after which the next begins; 0 if no whole good entry is there
+ *   told[1]  1 if the bytes end before the entry does (lend more of the journal; at its end, an entry cut short), else 0
  * Refused: 13 if told[0] is 0: the entry is cut short, or it is bad and stops the journal (an unknown tag, a wrong
  * length, tag 0 elsewhere than first or another first, seen at 1,000,000,000 or over, which the first three bytes show,
  * or a fresh that is refused). Else what the entry's call is refused for on this ledger and this output; a body whose

@@ -143,7 +143,7 @@ impl Runs<'_> {
         let program = self.program.command();
         let mut shell = Command::new("sh");
         shell.args(["-c", script]).arg(program.get_program());
-        program.get_envs().for_each(|(name, value)| drop(value.map(|value| shell.env(name, value))));
+        shell.envs(program.get_envs().filter_map(|(name, value)| Some((name, value?))));
         shell
     }
 
