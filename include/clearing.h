@@ -135,12 +135,12 @@ uint64_t clearing_ledger_table(const uint64_t *ledger, size_t ledger_len, uint8_
  * One entry of a journal, so that a program can stream one of any length: makes the call of the entry that begins the
  * bytes lent, before which `seen` entries came (0: it is the first). told is always written:
  *   told[0]  the bytes of the entry (3 and its body), after which the next begins; 0 if no whole good entry is there
- *   told[1]  1 if the bytes end before the entry does (lend more of the journal; at its end, an entry cut short), else 0
+ *   told[1]  1 if the bytes end before the entry does: lend more of the journal (at its end, it is cut short); else 0
  * Refused: 13 if told[0] is 0: the entry is cut short, or it is bad and stops the journal (an unknown tag, a wrong
  * length, tag 0 elsewhere than first or another first, seen at 1,000,000,000 or over, which the first three bytes show,
  * or a fresh that is refused). Else what the entry's call is refused for on this ledger and this output; a body whose
  * fields are not digits is 2. A journal's calls have CLEARING_FILE_BYTES of output, which is always enough; a refused
- * call is passed over. Fresh reads no ledger, but asks for its length.
+ * call is passed over. A good fresh reads no ledger, but asks for its length (2).
  */
 uint64_t clearing_entry(uint64_t *ledger, size_t ledger_len, const uint8_t *journal, size_t journal_len, uint64_t seen,
                         uint8_t *out, size_t out_len, int64_t *change, uint64_t counts[4], uint64_t told[2]);
