@@ -1,6 +1,6 @@
 //! The posted table: the bytes `posted` prints.
 
-use crate::fields::put_number;
+use crate::fields::push_number;
 use crate::journal::Replayed;
 use crate::ledger::{Bill, Ledger};
 
@@ -29,27 +29,27 @@ pub fn of_ledger(ledger: Option<&Ledger>) -> Vec<u8> {
         total = ledger.total().0;
     }
     table.extend_from_slice(b"total,");
-    put(&mut table, 16, total);
+    push_number(&mut table, 16, total);
     table.push(b'\n');
     table
 }
 
 fn put_line(table: &mut Vec<u8>, ledger: &Ledger, bill: &Bill) {
     let (charge, applied, owed) = bill.posted.figures();
-    put(table, 12, bill.identity.account());
+    push_number(table, 12, bill.identity.account());
     table.push(b',');
-    put(table, 4, bill.identity.key());
+    push_number(table, 4, bill.identity.key());
     table.push(b',');
     table.extend_from_slice(bill.rate_code.bytes());
     table.push(b',');
     table.push(bill.product.letter());
     table.push(b',');
-    put(table, 3, bill.sequence.into());
+    push_number(table, 3, bill.sequence.into());
     table.push(b',');
-    put(table, 10, bill.consumption.0);
+    push_number(table, 10, bill.consumption.0);
     for amount in [charge, applied, owed] {
         table.push(b',');
-        put(table, 13, amount.0);
+        push_number(table, 13, amount.0);
     }
     table.push(b',');
     table.push(state(ledger, bill));
@@ -65,10 +65,4 @@ fn state(ledger: &Ledger, bill: &Bill) -> u8 {
     } else {
         b'I'
     }
-}
-
-fn put(table: &mut Vec<u8>, width: usize, number: u64) {
-    let from = table.len();
-    table.resize(from + width, b'0');
-    put_number(&mut table[from..], number);
 }

@@ -3,7 +3,7 @@
 use std::io::{self, Read, Write};
 
 use crate::cause::Cause;
-use crate::fields::put_number;
+use crate::fields::push_number;
 use crate::file::at;
 use crate::journal::{carry_out, fresh, Effect, Entries, Entry, Next};
 use crate::ledger::{Decided, Ledger};
@@ -52,17 +52,17 @@ fn call(ledger: &mut Ledger, entry: Entry, groups: &mut Vec<u8>) -> Result<Effec
 fn put_entry(lines: &mut Vec<u8>, number: u64, entry: Entry, result: Result<Effect, Cause>) {
     let cause = result.err().map_or(0, Cause::number);
     let effect = result.unwrap_or_default();
-    put(lines, 10, number);
+    push_number(lines, 10, number);
     lines.push(b',');
     lines.extend_from_slice(name(entry).as_bytes());
     lines.push(b',');
-    put(lines, 2, cause.into());
+    push_number(lines, 2, cause.into());
     lines.push(b',');
     lines.push(if effect.change < 0 { b'-' } else { b'0' });
-    put(lines, 16, effect.change.unsigned_abs());
+    push_number(lines, 16, effect.change.unsigned_abs());
     for count in [effect.accepted, effect.rejected, effect.closed] {
         lines.push(b',');
-        put(lines, 3, count as u64);
+        push_number(lines, 3, count as u64);
     }
     lines.push(b'\n');
 }
@@ -81,7 +81,7 @@ fn name(entry: Entry) -> &'static str {
 fn put_group(lines: &mut Vec<u8>, decided: &Decided) {
     let group = &decided.group;
     lines.extend_from_slice(b"group,");
-    put(lines, 9, decided.confirmation.into());
+    push_number(lines, 9, decided.confirmation.into());
     lines.push(b',');
     lines.extend_from_slice(at(group.header, 8, 19));
     lines.push(b',');
@@ -94,10 +94,4 @@ fn put_group(lines: &mut Vec<u8>, decided: &Decided) {
         None => lines.extend_from_slice(b"ACF"),
     }
     lines.push(b'\n');
-}
-
-fn put(lines: &mut Vec<u8>, width: usize, number: u64) {
-    let from = lines.len();
-    lines.resize(from + width, b'0');
-    put_number(&mut lines[from..], number);
 }
