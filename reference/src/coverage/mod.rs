@@ -1,4 +1,6 @@
-//! What journals reach: counted from a journal's bytes and the reference's notices, whatever the maker meant.
+//! What journals reach: counted from a journal's bytes and the reference's notices and trace, whatever the maker meant.
+
+mod labels;
 
 use std::collections::BTreeMap;
 
@@ -11,119 +13,6 @@ use crate::Cause;
 
 #[derive(Clone, Default)]
 pub struct Coverage(BTreeMap<String, u64>);
-
-/// Every label that a run should reach; the rest of the list is made in `expected`.
-const EXPECTED: &[&str] = &[
-    "fresh done",
-    "fresh cause 2",
-    "request done, new bill",
-    "request done, known bill",
-    "file done",
-    "cancel done",
-    "close done",
-    "request cause 2",
-    "request cause 3",
-    "request cause 5",
-    "request cause 6",
-    "request cause 7",
-    "request cause 8",
-    "request cause 9",
-    "request cause 12",
-    "file cause 11",
-    "file cause 12",
-    "cancel cause 2",
-    "cancel cause 4",
-    "cancel cause 5",
-    "cancel cause 12",
-    "close cause 2",
-    "close cause 10",
-    "RSP BR09, issued",
-    "RSP BR09, cancelled",
-    "SUP BR09, cancelled",
-    "RSP BR01",
-    "SUP BR11",
-    "RSP BR05",
-    "SUP BR05, sequence not 000",
-    "SUP BR05, bill at 999",
-    "other BR17",
-    "other BR19",
-    "RSP accepted, B",
-    "RSP accepted, P",
-    "SUP accepted, B",
-    "SUP accepted, P",
-    "file: empty",
-    "file: 200 records",
-    "file: 100 groups",
-    "file: two alike",
-    "file: three alike",
-    "file: RSP and SUP of one bill",
-    "BR17: no detail",
-    "BR17: several details",
-    "BR17: Record Count",
-    "BR17: Company",
-    "BR17: 1-28 differ",
-    "BR17: 31-33 differ",
-    "BR17: account",
-    "BR17: Bill Key",
-    "11: length",
-    "11: byte",
-    "11: byte 321",
-    "11: type",
-    "11: first record",
-    "state: 128 bills",
-    "state: sequence 990 to 998",
-    "state: sequence 999",
-    "state: Tracking IDs used up",
-    "state: Confirmation Numbers used up",
-    "state: count below sequence",
-    "2: rate code",
-    "2: account or key",
-    "2: product",
-    "2: Billing Date",
-    "2: From Date",
-    "2: consumption",
-    "2: Scheduled Date",
-    "bad: empty journal",
-    "bad: refused fresh",
-    "bad: another tag first",
-    "bad: first entry otherwise",
-    "bad: stray byte",
-    "bad: cut short in the length",
-    "bad: cut short in the body",
-    "bad: tag",
-    "bad: length",
-    "bad: file over 64,200",
-    "bad: tag 0 later",
-    "end: not stopped",
-    "table: O",
-    "table: I",
-    "table: C",
-    "table: zero charge posted",
-];
-
-/// Never in a journal, and why.
-pub const UNREACHABLE: &[(&str, &str)] = &[
-    ("request, file, cancel cause 1", "a journal lends 64,200 bytes to each call"),
-    ("file cause 11 by length over 64,200", "such an entry is bad (13) before it is a call"),
-    (
-        "cause 2 by the ledger or a next number over 999,999,999",
-        "the ledger is sound after fresh; the field has nine digits",
-    ),
-    ("an entry after the 1,000,000,000th", "3 GB at least: see bench --limit"),
-];
-
-fn expected() -> Vec<String> {
-    let mut labels: Vec<String> = EXPECTED.iter().map(|label| label.to_string()).collect();
-    for kind in ["RSP", "SUP"] {
-        for code in [6, 7, 8, 10, 14, 16, 17, 20, 21, 22, 23, 24, 25, 26] {
-            labels.push(format!("{kind} BR{code:02}"));
-        }
-        for blank in ["spaces", "zeros", "mixed"] {
-            labels.push(format!("REJ under {kind}, From Date {blank}"));
-        }
-    }
-    labels
-}
 
 impl Coverage {
     pub fn count(&mut self, label: &str) {
@@ -143,7 +32,7 @@ impl Coverage {
 
     /// The labels that were never reached.
     pub fn missing(&self) -> Vec<String> {
-        expected().into_iter().filter(|label| !self.0.contains_key(label)).collect()
+        labels::expected().into_iter().filter(|label| !self.0.contains_key(label)).collect()
     }
 
     /// A table: label, how often.
@@ -153,7 +42,7 @@ impl Coverage {
             none if none.is_empty() => report += "never reached: none of those a journal can reach\n",
             missing => report += &format!("NEVER REACHED: {}\n", missing.join("; ")),
         }
-        for (label, why) in UNREACHABLE {
+        for (label, why) in labels::UNREACHABLE {
             report += &format!("unreachable: {label} ({why})\n");
         }
         report
@@ -184,6 +73,36 @@ impl Coverage {
         }
         coverage.lines(&ledger);
         coverage
+    }
+
+    /// Counts what the lines of a journal's trace show.
+    pub fn trace(&mut self, trace: &[u8]) {
+        for line in trace.split(|byte| *byte == b'\n').filter(|line| !line.is_empty()) {
+            let text = String::from_utf8_lossy(line);
+            match text.strip_prefix("group,") {
+                Some(group) => self.traced_group(group),
+                None => self.traced_entry(&text),
+            }
+        }
+    }
+
+    fn traced_entry(&mut self, line: &str) {
+        let fields: Vec<&str> = line.split(',').collect();
+        let [_, call, cause, change, accepted, rejected, closed] = fields[..] else {
+            return self.count(&format!("trace: {}", fields.join(" ")));
+        };
+        self.count(&format!("trace: {call} {cause}"));
+        self.count_if(change.starts_with('-'), "trace: change negative");
+        self.count_if(accepted != "000" && rejected != "000", "trace: accepted and rejected");
+        self.count_if(accepted >= "100" || rejected >= "100", "trace: 100 groups or more");
+        self.count_if(closed != "000", "trace: closed");
+    }
+
+    /// Confirmation Number 9, account 12, Bill Key 4, Notification Code 3, with commas between, and the outcome.
+    fn traced_group(&mut self, group: &str) {
+        self.count(&format!("trace: group {}", &group[32..]));
+        self.count_if(group[10..22].contains(','), "trace: account with a comma");
+        self.count_if(&group[23..27] == "    ", "trace: group without detail");
     }
 
     fn bad_first(&mut self, journal: &[u8]) {
