@@ -3,3 +3,4 @@ pub mod WordCalls
 pub mod MadeParts
 pub mod LookupLaws
 pub mod RunLaws
+pub mod RanLaws

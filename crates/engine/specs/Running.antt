@@ -6,7 +6,8 @@ use mathlib.Core.List.{List, [], _++_}
 use lib.Dec.{ltb}
 use lib.ListN.{length, drop}
 use Rattle.fields.specs.Put.{put, part}
-use Rattle.ledger.specs.Books.{book}
+use Rattle.ledger.specs.declared.Ledger.{Ledger}
+use Rattle.ledger.specs.Books.{book, emptyLedger}
 use Rattle.ledger.specs.Sound.{soundLedger}
 use Rattle.words.specs.Layout.{ledgerOf}
 use Rattle.group.specs.Turns.{said}
@@ -57,3 +58,7 @@ pub record RanIn (seen : ℕ) (writes : Bool) (src ws₀ out₀ ws out : List �
   pub left :
       r .full ≡ false → parse (r .seen) (drop (r .used) src) ≡ record { entries = []; stopped = r .stopped; rest = drop (r .used) src }
   pub goes : r .full ≡ true → r .stopped ≡ false
+
+-- the ledger before the first entry
+abbrev pub firstLedger : Ledger
+firstLedger = emptyLedger (record { 0 = 19000101 }) 1 1

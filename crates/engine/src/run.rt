@@ -4,13 +4,17 @@ ghost use mathlib.Core.Bool.{true, cond, _&&_};
 ghost use Prim.Native.Nat.{_+_, _-_, _≤_};
 ghost use lib.Dec.{ltb};
 ghost use lib.ListN.{length, drop};
+ghost use Rattle.ledger.specs.Books.{book};
 ghost use Rattle.ledger.specs.Sound.{soundLedger};
 ghost use Rattle.words.specs.Layout.{ledgerOf};
+ghost use Rattle.journal.specs.Journal.{noBook};
 ghost use Rattle.journal.specs.Made.{lengthOf};
-ghost use Rattle.engine.specs.Running.{NextIn, ranTo, RanIn};
+ghost use Rattle.engine.specs.Running.{NextIn, ranTo, RanIn, firstLedger};
 use crate::entry;
 use crate::entry::Stepped;
 use calls::Answer;
+use ledger::Ledger;
+use units::Date;
 
 // How many bytes were read, how many entries came by now, how many bytes their notices have, whether the output has no room for another entry's, and
 // whether a bad entry stands there.
@@ -105,4 +109,12 @@ pub fn run(ws: &mut [u64], out: &mut [u8], writes: bool, src: &[u8], seen: u64) 
         }
     }
     ran_to(at, k, n, true, false)
+}
+
+// Writes the words of the ledger before the first entry of a journal: no bill, both numbers 1.
+pub fn start(ws: &mut [u64])
+    requires { ⌜ length (now ws) ≡ 2436 ⌝ }
+    ensures { λ _. ⌜ (soundLedger (ledgerOf (now (ws .exit))) ≡ true) × (ledgerOf (now (ws .exit)) ≡ firstLedger) × (book (ledgerOf (now (ws .exit))) ≡ noBook) ⌝ }
+{
+    words::write(ws, Ledger::empty(Date(19000101), 1, 1));
 }
