@@ -1,11 +1,12 @@
 -- A journal that comes in pieces is read whole. Assumes nothing.
 use Prim.Native.Nat.{ℕ, _+_, _-_, _≤_}
-use mathlib.Core.Path.{_≡_, refl, sym, ap, ap₂, _∙_}
-use mathlib.Core.Bool.{Bool, true, false, cond}
+use mathlib.Core.Path.{_≡_, refl, sym, ap, ap₂, subst, _∙_}
+use mathlib.Core.Bool.{Bool, true, false, cond, not, _||_, true≢false}
 use mathlib.Core.List.{List, [], _∷_, _++_, append-assoc, append-nil}
 use native.Mathlib.Omega.{arith}
 use lib.ListN.{length, take, drop, length-append}
 use lib.Seq.{length-take-le, take-add}
+use Rattle.fields.proofs.BoolLaws.{cases}
 use Rattle.ledger.specs.declared.Ledger.{Ledger}
 use Rattle.ledger.specs.Books.{Book, book}
 use Rattle.ledger.specs.Sound.{soundLedger}
@@ -20,8 +21,13 @@ use Rattle.journal.specs.Made.{madeIn, madeAll, writtenBy, noticesOf, brnOf}
 use Rattle.journal.proofs.JournalLaws.{fed, parse-fed}
 use Rattle.journal.proofs.BeginLaws.{makes-append}
 use Rattle.engine.specs.Running.{behind}
+use Rattle.input.specs.declared.Filled as filled
+use Rattle.input.specs.declared.Filled.the-variants.{Ended}
+use Rattle.input.specs.Filled.{notEnded}
+use Rattle.input.proofs.FilledLaws.{ended}
+use Rattle.replay.specs.declared.End.{End}
 use Rattle.replay.specs.declared.Piece.{Piece}
-use Rattle.replay.specs.Reading.{firstLedger, Waits, Made, Reads}
+use Rattle.replay.specs.Reading.{firstLedger, Waits, Made, endOfInput, endOfPiece, Reads}
 
 -- ---- entries behind entries
 notices-append : (k : Book) (es fs : List Entry) → noticesOf k (es ++ fs) ≡ noticesOf k es ++ noticesOf (makes k es) fs
@@ -187,3 +193,23 @@ reading-ended writes ws buf seen have total stopped failed x w =
       bad = rw (bad, left, count);
       total = x .size ∙ sym (ap (λ (es : List Entry). length (said writes (noticesOf noBook es))) entries);
     }
+
+-- the input has ended
+pub input-ended : (writes : Bool) (ws buf : List ℕ) (seen have total : ℕ) (f : filled.Filled) (e : End) → e ≡ endOfInput f seen have total
+    → Reading writes ws buf seen have total → (f ≡ Ended → Waits seen (take have buf) false) → e .failed ≡ false → Reads writes ws buf e
+input-ended writes ws buf seen have total f e q x w z =
+    let none = ended f (sym (ap (λ (k : End). k .failed) q) ∙ z) in
+    subst (Reads writes ws buf) (sym q) (reading-ended writes ws buf seen have total false (notEnded f) x (w none))
+
+stopped-by : (a b : Bool) → (not a || b) ≡ true → not a ≡ false → b ≡ true
+stopped-by true b h z = h
+stopped-by false b h z = absurd (true≢false z)
+
+-- a bad entry has stopped it
+pub piece-ended : (writes : Bool) (ws buf : List ℕ) (total : ℕ) (p : Piece) (written : Bool) (e : End) → e ≡ endOfPiece p total written
+    → Reading writes ws buf (p .seen) (p .left) total → (p .full ≡ false → Waits (p .seen) (take (p .left) buf) (p .stopped))
+    → (p .full ≡ true → p .stopped ≡ false) → (not written || p .stopped) ≡ true → e .failed ≡ false → Reads writes ws buf e
+piece-ended writes ws buf total p written e q x w goes h z =
+    let s = stopped-by written (p .stopped) h (sym (ap (λ (k : End). k .failed) q) ∙ z) in
+    let o = cases (p .full) (λ y. absurd (true≢false (sym s ∙ goes y))) (λ y. y) in
+    subst (Reads writes ws buf) (sym q) (reading-ended writes ws buf (p .seen) (p .left) total (p .stopped) (not written) x (w o))

@@ -6,12 +6,15 @@ ghost use Prim.Native.Nat.{_≤_};
 ghost use lib.ListN.{length};
 ghost use Rattle.ledger.specs.Sound.{soundLedger};
 ghost use Rattle.words.specs.Layout.{ledgerSize, ledgerOf};
-ghost use Rattle.replay.specs.Reading.{firstLedger, FillsMore, Made, Reads};
+ghost use Rattle.replay.specs.Reading.{firstLedger, FillsMore, Made, noticesOutput, endOfInput, endOfPiece, Reads};
 use engine::run;
 use input::Filled;
 use ledger::Ledger;
 use libc::STDOUT_FILENO;
+use output::Output;
 use units::Date;
+
+pub mod output;
 
 // Where the reading ended: how many entries came, whether a bad one stopped it, how many bytes are left at the start of the buffer, how many bytes of notices
 // were written, and whether a read or a write failed.
@@ -76,13 +79,41 @@ fn make(ws: &mut [u64], buf: &mut [u8], out: &mut [u8], writes: bool, n: usize, 
     }
 }
 
-// Writes the notices of a piece.
-fn write_notices(out: &[u8]) -> bool {
-    let is_written = io::write_all(STDOUT_FILENO, out);
-    if !is_written {
-        os::fail(b"write");
+// What is written of a piece: its notices, to standard output.
+fn notices_of(p: Piece) -> Output
+    ensures { λ o. ⌜ o ≡ noticesOutput p ⌝ }
+{
+    Output {
+        descriptor: STDOUT_FILENO,
+        length: p.written,
     }
-    is_written
+}
+
+// How the reading ends where a read brought no bytes: the input has ended, or the read failed.
+fn end_of_input(f: Filled, seen: u64, left: usize, total: usize) -> End
+    ensures { λ e. ⌜ e ≡ endOfInput f seen left total ⌝ }
+{
+    let failed = input::unread(f);
+    End {
+        seen,
+        stopped: false,
+        left,
+        total,
+        failed,
+    }
+}
+
+// How the reading ends after a piece: at a bad entry, or since its notices could not be written.
+fn end_of_piece(p: Piece, total: usize, written: bool) -> End
+    ensures { λ e. ⌜ e ≡ endOfPiece p total written ⌝ }
+{
+    End {
+        seen: p.seen,
+        stopped: p.stopped,
+        left: p.left,
+        total,
+        failed: !written,
+    }
 }
 
 // Reads standard input in pieces and makes its entries. A billion entries have fewer bytes than there are turns.
@@ -99,32 +130,17 @@ pub fn read_all(ws: &mut [u64], buf: &mut [u8], out: &mut [u8], writes: bool) ->
         turns -= 1;
         let f = more(buf, left, full);
         let Filled::Bytes(n) = f else {
-            let failed = input::unread(f);
-            return End {
-                seen,
-                stopped: false,
-                left,
-                total,
-                failed,
-            };
+            return end_of_input(f, seen, left, total);
         };
         let p = make(ws, buf, out, writes, n, seen);
+        total += p.written;
+        let is_written = output::send(notices_of(p), out);
+        if !is_written | p.stopped {
+            return end_of_piece(p, total, is_written);
+        }
         seen = p.seen;
         left = p.left;
         full = p.full;
-        let stopped = p.stopped;
-        let written = p.written;
-        let failed = !write_notices(&out[..written]);
-        total += written;
-        if failed | stopped {
-            return End {
-                seen,
-                stopped,
-                left,
-                total,
-                failed,
-            };
-        }
     }
     End {
         seen,

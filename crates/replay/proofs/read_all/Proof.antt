@@ -2,15 +2,14 @@
 use native.Mathlib.Omega.{arith}
 use borrow.Author.Needs.{needs}
 use Prim.Native.Nat.{ℕ, _+_, _*_, _≤_}
-use mathlib.Core.Path.{_≡_, refl, sym, _∙_}
-use mathlib.Core.Bool.{Bool, true, false, not, _||_, true≢false}
+use mathlib.Core.Path.{_≡_, refl, sym, ap, subst, _∙_}
+use mathlib.Core.Bool.{Bool, true, false, not, true≢false}
 use mathlib.Core.List.{List}
 use lib.ListN.{length, take}
-use lib.Seq.{length-take-le}
-use Rattle.fields.proofs.BoolLaws.{or-both, cases}
-use Rattle.input.proofs.FilledLaws.{ended}
-use Rattle.replay.specs.Reading.{Waits, Reads}
-use Rattle.replay.proofs.ReadingLaws.{Reading, reading-start, waits-start, reading-kept, reading-more, reading-ended}
+use Rattle.fields.proofs.BoolLaws.{or-both}
+use Rattle.replay.specs.declared.output.Output.{Output}
+use Rattle.replay.specs.Reading.{Waits}
+use Rattle.replay.proofs.ReadingLaws.{Reading, reading-start, waits-start, reading-kept, reading-more, input-ended, piece-ended}
 use Rattle.replay.proofs.read_all.Statement.{statement}
 use Rattle.replay.proofs.read_all.Tie as tie
 
@@ -28,10 +27,6 @@ Inv-loop ws₀ buf₀ out₀ writes seen₀ left₀ total₀ full₀ turns₀ ws
 
 abbrev μ-loop : tie.MeasureT-loop
 μ-loop ws₀ buf₀ out₀ writes seen₀ left₀ total₀ full₀ turns₀ ws buf out seen left total full turns = turns
-
-stopped-by : (a b : Bool) → (a || b) ≡ true → a ≡ false → b ≡ true
-stopped-by true b h z = absurd (true≢false z)
-stopped-by false b h z = h
 
 loop-holds : tie.Need-loop-holds Inv-loop μ-loop
 loop-holds c =
@@ -54,7 +49,8 @@ enum-known-f : tie.Need-enum-known-f Inv-loop μ-loop
 enum-known-f c = search needs
 
 -- the bytes held stay
-held : (c : tie.After-more Inv-loop μ-loop) → Reading (c .before .before .before .before .before .before .before .args .writes) (c .before .before .before .loop .ws) (c .more .last .0) (c .before .before .before .loop .seen) (c .before .before .before .loop .left) (c .before .before .before .loop .total)
+held : (c : tie.After-more Inv-loop μ-loop)
+    → Reading (c .before .before .before .before .before .before .before .args .writes) (c .before .before .before .loop .ws) (c .more .last .0) (c .before .before .before .loop .seen) (c .before .before .before .loop .left) (c .before .before .before .loop .total)
 held c = reading-kept _ _ _ _ _ _ _ (c .before .before .before .loop .inv .reads) (c .more .ensures .stay) (c .more .kept .0)
 
 -- the buffer holds no fewer bytes than before
@@ -72,8 +68,8 @@ module _ (c : tie.After-make Inv-loop μ-loop) where
   room-out : c .make .result .written ≤ 262144
   room-out = omega (arith, c .make .ensures .room, c .make .kept .1 .1 .0, c .before .before .before .before .before .before .before .before .before .before .before .before .loop .inv .same-out, c .before .before .before .before .before .before .before .before .before .before .before .before .before .before .before .before .pre .2)
 
-unread-requires : tie.Need-unread-requires Inv-loop μ-loop
-unread-requires c κs = search needs
+end-of-input-requires : tie.Need-end-of-input-requires Inv-loop μ-loop
+end-of-input-requires c κs = search needs
 
 same-length : tie.Need-same-length Inv-loop μ-loop
 same-length c = c .before .before .before .before .before .before .before .loop .inv .same-words
@@ -86,54 +82,49 @@ same-length-3 c = c .before .before .before .before .before .before .before .loo
 
 returns : tie.Need-returns Inv-loop μ-loop
 returns c =
-    λ z.
-    let e : c .before .before .before .before .before .before .before .loop .full ≡ false = rw (ended (c .before .before .before .before .more .result) (sym (c .unread .ensures) ∙ z)) at (c .before .before .before .before .more .ensures .holds) in
-    reading-ended _ _ _ _ _ _ false _ (held (c .before .before .before .before)) (rw (c .before .before .before .before .more .ensures .stay) (c .before .before .before .before .before .before .before .loop .inv .waits e))
+    input-ended _ _ _ _ _ _ (c .before .before .before .before .more .result) _ (c .end-of-input .ensures) (held (c .before .before .before .before))
+    (λ z. let e : c .before .before .before .before .before .before .before .loop .full ≡ false = rw z at (c .before .before .before .before .more .ensures .holds) in rw (c .before .before .before .before .more .ensures .stay) (c .before .before .before .before .before .before .before .loop .inv .waits e))
 
 make-requires : tie.Need-make-requires Inv-loop μ-loop
 make-requires c κs = (c .before .before .before .before .before .before .before .before .before .before .before .loop .inv .reads .sound, fits (c .before .before .before .before) .1)
 
-slice-reshare-prefix-write-notices : tie.Need-slice-reshare-prefix-write-notices Inv-loop μ-loop
-slice-reshare-prefix-write-notices c = c .before .before .before .before .before .before .make .ensures .room
-
-slice-aggregate-write-notices : tie.Need-slice-aggregate-write-notices Inv-loop μ-loop
-slice-aggregate-write-notices c = sym (length-take-le _ _ (c .before .before .before .before .before .before .before .make .ensures .room))
-
-write-notices-requires : tie.Need-write-notices-requires Inv-loop μ-loop
-write-notices-requires c κs = search needs
-
 add-total : tie.Need-add-total Inv-loop μ-loop
-add-total c = omega (arith, c .before .before .before .before .before .before .before .before .before .before .before .before .before .before .before .before .before .before .before .before .loop .inv .small, room-out (c .before .before .before .before .before .before .before .before), c .before .before .before .before .before .before .before .before .before .before .before .before .before .before .before .before .before .before .before .loop-test .taken)
+add-total c = omega (arith, c .before .before .before .before .before .before .before .before .before .before .before .before .before .before .before .before .before .before .before .loop .inv .small, room-out (c .before .before .before .before .before .before .before), c .before .before .before .before .before .before .before .before .before .before .before .before .before .before .before .before .before .before .loop-test .taken)
+
+notices-of-requires : tie.Need-notices-of-requires Inv-loop μ-loop
+notices-of-requires c κs = search needs
+
+send-requires : tie.Need-send-requires Inv-loop μ-loop
+send-requires c κs = omega (arith, ap (λ (o : Output). o .length) (c .before .notices-of .ensures), c .before .before .before .before .before .before .before .before .before .make .ensures .room)
+
+end-of-piece-requires : tie.Need-end-of-piece-requires Inv-loop μ-loop
+end-of-piece-requires c κs = search needs
 
 same-length-4 : tie.Need-same-length-4 Inv-loop μ-loop
-same-length-4 c = c .before .before .before .before .before .before .before .before .before .make .kept .0 ∙ c .before .before .before .before .before .before .before .before .before .before .before .before .before .before .before .before .before .before .before .before .before .loop .inv .same-words
+same-length-4 c = c .before .before .before .before .before .before .before .before .before .before .before .before .before .make .kept .0 ∙ c .before .before .before .before .before .before .before .before .before .before .before .before .before .before .before .before .before .before .before .before .before .before .before .before .before .loop .inv .same-words
 
 same-length-5 : tie.Need-same-length-5 Inv-loop μ-loop
-same-length-5 c = room-kept (c .before .before .before .before .before .before .before .before .before) ∙ sym (c .before .before .before .before .before .before .before .before .before .before .before .before .before .before .before .before .before .before .before .before .before .before .before .before .before .pre .1)
+same-length-5 c = room-kept (c .before .before .before .before .before .before .before .before .before .before .before .before .before) ∙ sym (c .before .before .before .before .before .before .before .before .before .before .before .before .before .before .before .before .before .before .before .before .before .before .before .before .before .before .before .before .before .pre .1)
 
 same-length-6 : tie.Need-same-length-6 Inv-loop μ-loop
-same-length-6 c = c .before .before .before .before .before .before .before .before .before .make .kept .1 .1 .0 ∙ c .before .before .before .before .before .before .before .before .before .before .before .before .before .before .before .before .before .before .before .before .before .loop .inv .same-out
+same-length-6 c = c .before .before .before .before .before .before .before .before .before .before .before .before .before .make .kept .1 .1 .0 ∙ c .before .before .before .before .before .before .before .before .before .before .before .before .before .before .before .before .before .before .before .before .before .before .before .before .before .loop .inv .same-out
 
 returns-2 : tie.Need-returns-2 Inv-loop μ-loop
-returns-2 c =
-    λ z.
-    let s = stopped-by (not (c .before .write-notices .result)) (c .before .before .before .before .before .before .before .before .before .make .result .stopped) (c .if1 .taken) z in
-    let o = cases (c .before .before .before .before .before .before .before .before .before .make .result .full) (λ y. absurd (true≢false (sym s ∙ c .before .before .before .before .before .before .before .before .before .make .ensures .goes y))) (λ y. y) in
-    reading-ended _ _ _ _ _ _ _ _ (came (c .before .before .before .before .before .before .before .before .before)) (c .before .before .before .before .before .before .before .before .before .make .ensures .waits o)
+returns-2 c = piece-ended _ _ _ _ (c .before .before .before .before .before .before .before .before .before .before .before .before .before .make .result) (c .before .before .before .send .result) _ (c .end-of-piece .ensures) (came (c .before .before .before .before .before .before .before .before .before .before .before .before .before)) (c .before .before .before .before .before .before .before .before .before .before .before .before .before .make .ensures .waits) (c .before .before .before .before .before .before .before .before .before .before .before .before .before .make .ensures .goes) (c .before .if1 .taken)
 
 loop-less : tie.Need-loop-less Inv-loop μ-loop
 loop-less c = search needs
 
 loop-again : tie.Need-loop-again Inv-loop μ-loop
 loop-again c =
-    let s = or-both (not (c .before .write-notices .result)) (c .before .before .before .before .before .before .before .before .before .make .result .stopped) (c .if1 .left) in
+    let s = or-both (not (c .before .before .send .result)) (c .before .before .before .before .before .before .before .before .before .before .before .before .make .result .stopped) (c .if1 .left) in
     record {
-      same-words = c .before .before .before .before .before .before .before .before .before .make .kept .0 ∙ c .before .before .before .before .before .before .before .before .before .before .before .before .before .before .before .before .before .before .before .before .before .loop .inv .same-words;
-      room = room-kept (c .before .before .before .before .before .before .before .before .before);
-      same-out = c .before .before .before .before .before .before .before .before .before .make .kept .1 .1 .0 ∙ c .before .before .before .before .before .before .before .before .before .before .before .before .before .before .before .before .before .before .before .before .before .loop .inv .same-out;
-      reads = came (c .before .before .before .before .before .before .before .before .before);
-      waits = λ z. rw (s .1) at (c .before .before .before .before .before .before .before .before .before .make .ensures .waits z);
-      small = omega (arith, c .before .before .before .before .before .before .before .before .before .before .before .before .before .before .before .before .before .before .before .before .before .loop .inv .small, room-out (c .before .before .before .before .before .before .before .before .before), c .before .before .before .before .before .before .before .before .before .before .before .before .before .before .before .before .before .before .before .before .loop-test .taken);
+      same-words = c .before .before .before .before .before .before .before .before .before .before .before .before .make .kept .0 ∙ c .before .before .before .before .before .before .before .before .before .before .before .before .before .before .before .before .before .before .before .before .before .before .before .before .loop .inv .same-words;
+      room = room-kept (c .before .before .before .before .before .before .before .before .before .before .before .before);
+      same-out = c .before .before .before .before .before .before .before .before .before .before .before .before .make .kept .1 .1 .0 ∙ c .before .before .before .before .before .before .before .before .before .before .before .before .before .before .before .before .before .before .before .before .before .before .before .before .loop .inv .same-out;
+      reads = came (c .before .before .before .before .before .before .before .before .before .before .before .before);
+      waits = λ z. rw (s .1) at (c .before .before .before .before .before .before .before .before .before .before .before .before .make .ensures .waits z);
+      small = omega (arith, c .before .before .before .before .before .before .before .before .before .before .before .before .before .before .before .before .before .before .before .before .before .before .before .before .loop .inv .small, room-out (c .before .before .before .before .before .before .before .before .before .before .before .before), c .before .before .before .before .before .before .before .before .before .before .before .before .before .before .before .before .before .before .before .before .before .before .before .loop-test .taken);
     }
 
 same-length-7 : tie.Need-same-length-7 Inv-loop μ-loop
@@ -158,16 +149,16 @@ read-all-spec =
     sub-turns
     more-requires
     enum-known-f
-    unread-requires
+    end-of-input-requires
     same-length
     same-length-2
     same-length-3
     returns
     make-requires
-    slice-reshare-prefix-write-notices
-    slice-aggregate-write-notices
-    write-notices-requires
     add-total
+    notices-of-requires
+    send-requires
+    end-of-piece-requires
     same-length-4
     same-length-5
     same-length-6
