@@ -1,3 +1,2 @@
 -- What the contracts of program `brn` cite.
-pub mod Pieces
-pub mod Reading
+pub mod Warning

@@ -1,2 +1,2 @@
 -- What the contracts of program `posted` cite.
-pub mod Reading
+pub mod Posting

@@ -158,7 +158,7 @@ fn put_total(out: &mut [u8], at: usize, total: Cents)
 }
 
 // Writes the line after a bad entry, if there is one, and answers where it ends.
-fn put_stop(out: &mut [u8], at: usize, stopped: bool) -> usize
+pub fn put_stop(out: &mut [u8], at: usize, stopped: bool) -> usize
     requires { ⌜ at + 11 ≤ length (now out) ⌝ }
     ensures { λ r. ⌜ r ≡ at + length (stopLine stopped) ⌝ }
     ensures { λ _. ⌜ now (out .exit) ≡ put (now (out .entry)) at (stopLine stopped) ⌝ }

@@ -1,5 +1,4 @@
 -- `brn::main` ends and is safe: the buffers have the lengths that the reading asks for.
-use borrow.Author.Needs.{needs}
 use mathlib.Core.Path.{refl}
 use borrow.Author.Needs.{needs}
 use Rattle.brn.proofs.main.Statement.{statement}
@@ -14,20 +13,23 @@ explain-requires c κs = search needs
 returns : tie.Need-returns
 returns c = search needs
 
-slice-aggregate-read-all : tie.Need-slice-aggregate-read-all
-slice-aggregate-read-all c = search needs
+slice-aggregate-post-input : tie.Need-slice-aggregate-post-input
+slice-aggregate-post-input c = search needs
 
-slice-aggregate-read-all-2 : tie.Need-slice-aggregate-read-all-2
-slice-aggregate-read-all-2 c = search needs
+slice-aggregate-post-input-2 : tie.Need-slice-aggregate-post-input-2
+slice-aggregate-post-input-2 c = search needs
 
-read-all-requires : tie.Need-read-all-requires
-read-all-requires c κs = (refl, refl)
+slice-aggregate-post-input-3 : tie.Need-slice-aggregate-post-input-3
+slice-aggregate-post-input-3 c = search needs
 
-ends-bad-requires : tie.Need-ends-bad-requires
-ends-bad-requires c κs = search needs
+post-input-requires : tie.Need-post-input-requires
+post-input-requires c κs = (refl, refl, refl)
 
-warn-requires : tie.Need-warn-requires
-warn-requires c κs = search needs
+slice-aggregate-send : tie.Need-slice-aggregate-send
+slice-aggregate-send c = search needs
+
+send-requires : tie.Need-send-requires
+send-requires c κs = search needs
 
 returns-2 : tie.Need-returns-2
 returns-2 c = search needs
@@ -39,9 +41,10 @@ main-spec =
     arg-count-requires
     explain-requires
     returns
-    slice-aggregate-read-all
-    slice-aggregate-read-all-2
-    read-all-requires
-    ends-bad-requires
-    warn-requires
+    slice-aggregate-post-input
+    slice-aggregate-post-input-2
+    slice-aggregate-post-input-3
+    post-input-requires
+    slice-aggregate-send
+    send-requires
     returns-2)

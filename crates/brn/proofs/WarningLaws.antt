@@ -1,0 +1,59 @@
+-- What is written at the end is the line of the bytes that came. Assumes nothing.
+use Prim.Native.Nat.{ℕ, _+_, _≤_}
+use mathlib.Core.Path.{_≡_, refl, sym, ap, _∙_}
+use mathlib.Core.Bool.{Bool, true, false, not, _&&_}
+use mathlib.Core.List.{List, []}
+use native.Mathlib.Omega.{arith}
+use lib.IntN.{pos}
+use lib.ListN.{length, take, length-append}
+use Rattle.fields.specs.Put.{put, part}
+use Rattle.fields.proofs.PutLaws.{part-put}
+use Rattle.table.specs.Table.{stopLine}
+use Rattle.journal.specs.Journal.{endsBad}
+use Rattle.replay.specs.declared.End.{End}
+use Rattle.replay.specs.declared.output.Output.{Output}
+use Rattle.replay.specs.Reading.{Reads}
+use Rattle.brn.specs.Warning.{warningBy, Warns, Ends}
+
+size-put : (xs ys : List ℕ) → length ys ≤ length (put xs 0 ys)
+unfolding put
+size-put xs ys = simp length-append (omega arith)
+
+front : (xs ys : List ℕ) (k : ℕ) → k ≡ length ys → take k (put xs 0 ys) ≡ ys
+unfolding part
+front xs ys k e = part-put xs 0 ys k (omega arith) (sym e)
+
+pub warns : (e : End) (bad : Bool) (n : ℕ) (before after : List ℕ) → bad ≡ endsBad (e .stopped) (e .left) (e .seen)
+    → n ≡ 0 + length (stopLine (not (e .failed) && bad)) → after ≡ put before 0 (stopLine (not (e .failed) && bad))
+    → Warns e before after (record { descriptor = pos 2; length = n })
+warns e bad n before after b s q =
+    let line = ap (λ (k : Bool). stopLine (not (e .failed) && k)) b in
+    let bytes : after ≡ put before 0 (warningBy e) = q ∙ ap (put before 0) line in
+    let size : n ≡ length (warningBy e) = omega (arith, s, ap length line) in
+    record {
+      descriptor = refl;
+      bytes = bytes;
+      size = size;
+      within = omega (arith, size, ap length bytes, size-put before (warningBy e));
+    }
+
+module _ (ws buf out₀ out : List ℕ) (e : End) (o : Output) (x : e .failed ≡ false → Reads true ws buf e) (w : Warns e out₀ out o) where
+  told : take (o .length) out ≡ warningBy e
+  told = ap (take (o .length)) (w .bytes) ∙ front out₀ (warningBy e) (o .length) (w .size)
+
+  by-failed : (f : Bool) → e .failed ≡ f → take (o .length) out ≡ stopLine (not f && endsBad (e .stopped) (e .left) (e .seen))
+  by-failed f q = told ∙ ap (λ (b : Bool). stopLine (not b && endsBad (e .stopped) (e .left) (e .seen))) q
+
+  by : (f : Bool) → e .failed ≡ f → Ends out o
+  by true q = record { failed = true; bytes = []; descriptor = w .descriptor; told = by-failed true q; within = w .within }
+  by false q =
+      record {
+        failed = false;
+        bytes = x q .bytes;
+        descriptor = w .descriptor;
+        told = by-failed false q ∙ ap stopLine (x q .bad);
+        within = w .within;
+      }
+
+  pub ends : Ends out o
+  ends = by (e .failed) refl

@@ -1,0 +1,215 @@
+-- A journal that comes in pieces is read whole. Assumes nothing.
+use Prim.Native.Nat.{ℕ, _+_, _-_, _≤_}
+use mathlib.Core.Path.{_≡_, refl, sym, ap, ap₂, subst, _∙_}
+use mathlib.Core.Bool.{Bool, true, false, cond, not, _||_, true≢false}
+use mathlib.Core.List.{List, [], _∷_, _++_, append-assoc, append-nil}
+use native.Mathlib.Omega.{arith}
+use lib.ListN.{length, take, drop, length-append}
+use lib.Seq.{length-take-le, take-add}
+use Rattle.fields.proofs.BoolLaws.{cases}
+use Rattle.ledger.specs.declared.Ledger.{Ledger}
+use Rattle.ledger.specs.Books.{Book, book}
+use Rattle.ledger.specs.Sound.{soundLedger}
+use Rattle.units.specs.Calendar.{isDate, monthDays}
+use Rattle.words.specs.Layout as layout
+use Rattle.group.specs.Turns.{said}
+use Rattle.causes.specs.Causes.{startTests, freshCauses}
+use Rattle.calls.specs.Machine.{outcomes}
+use Rattle.calls.proofs.DayLaws.{fresh-sound}
+use Rattle.journal.specs.Journal.{Entry, Parsed, parse, parseUpTo, callOf, made, makes, noBook, ledgerOf, isBad}
+use Rattle.journal.specs.Made.{madeIn, madeAll, writtenBy, noticesOf, brnOf}
+use Rattle.journal.proofs.JournalLaws.{fed, parse-fed}
+use Rattle.journal.proofs.BeginLaws.{makes-append}
+use Rattle.engine.specs.Running.{behind}
+use Rattle.input.specs.declared.Filled as filled
+use Rattle.input.specs.declared.Filled.the-variants.{Ended}
+use Rattle.input.specs.Filled.{notEnded}
+use Rattle.input.proofs.FilledLaws.{ended}
+use Rattle.replay.specs.declared.End.{End}
+use Rattle.replay.specs.declared.Piece.{Piece}
+use Rattle.replay.specs.Reading.{firstLedger, Waits, Made, endOfInput, endOfPiece, Reads}
+
+-- ---- entries behind entries
+notices-append : (k : Book) (es fs : List Entry) → noticesOf k (es ++ fs) ≡ noticesOf k es ++ noticesOf (makes k es) fs
+unfolding noticesOf makes
+notices-append k [] fs = refl
+notices-append k (e ∷ es) fs =
+    let w = writtenBy (outcomes k (callOf (e .body) (e .bytes))) in
+    let j = made (e .body) (e .bytes) k in
+    ap (λ (xs : List ℕ). w ++ xs) (notices-append j es fs) ∙ sym (append-assoc w (noticesOf j es) (noticesOf (makes j es) fs))
+
+all-append : (l : Ledger) (es fs : List Entry) → madeAll l (es ++ fs) ≡ madeAll (madeAll l es) fs
+unfolding madeAll
+all-append l [] fs = refl
+all-append l (e ∷ es) fs = all-append (madeIn 64200 l (e .body) (e .bytes) .ledger) es fs
+
+behind-behind : (es fs : List Entry) (p : Parsed) → behind es (behind fs p) ≡ behind (es ++ fs) p
+behind-behind es fs p = rw (append-assoc es fs (p .entries))
+
+behind-fed : (es : List Entry) (fs : List Entry) (stopped : Bool) (rest ys : List ℕ)
+    → fed 0 (behind es (record { entries = fs; stopped = stopped; rest = rest })) ys
+    ≡ behind es (fed (length es) (record { entries = fs; stopped = stopped; rest = rest }) ys)
+behind-fed es fs true rest ys = refl
+behind-fed es fs false rest ys =
+    let n : 0 + length (es ++ fs) ≡ length es + length fs = omega (arith, length-append es fs) in
+    rw (n, append-assoc es fs (parse (length es + length fs) (rest ++ ys) .entries))
+
+-- what parses as entries behind which t is parsed still does when more bytes come
+parse-on : (s t : List ℕ) (es : List Entry) → parse 0 s ≡ behind es (parse (length es) t) → (ys : List ℕ)
+    → parse 0 (s ++ ys) ≡ behind es (parse (length es) (t ++ ys))
+parse-on s t es e ys =
+    let p = parse (length es) t in
+    parse-fed 0 s ys
+    ∙ ap (λ (q : Parsed). fed 0 q ys) e
+    ∙ behind-fed es (p .entries) (p .stopped) (p .rest) ys
+    ∙ ap (behind es) (sym (parse-fed (length es) t ys))
+
+-- ---- the reading so far
+-- some bytes came in pieces: they parse as the entries that were made, behind which the bytes held are parsed
+pub record Reading (writes : Bool) (ws buf : List ℕ) (seen have total : ℕ) : Type 0 where
+  pub bytes : List ℕ
+  pub done : List Entry
+  pub sound : soundLedger (layout.ledgerOf ws) ≡ true
+  pub within : have ≤ length buf
+  pub parsed : parse 0 bytes ≡ behind done (parse seen (take have buf))
+  pub ledger : layout.ledgerOf ws ≡ madeAll firstLedger done
+  pub books : book (layout.ledgerOf ws) ≡ makes noBook done
+  pub count : seen ≡ length done
+  pub size : total ≡ length (said writes (noticesOf noBook done))
+
+first-sound : soundLedger firstLedger ≡ true
+unfolding freshCauses startTests isDate monthDays firstLedger
+first-sound = fresh-sound (record { today = record { 0 = 19000101 }; tracking = 1; confirmation = 1 }) refl
+
+first-book : book firstLedger ≡ noBook
+unfolding firstLedger
+first-book = refl
+
+none-said : (writes : Bool) → 0 ≡ length (said writes [])
+none-said true = refl
+none-said false = refl
+
+pub reading-start : (writes : Bool) (ws buf : List ℕ) → layout.ledgerOf ws ≡ firstLedger → Reading writes ws buf 0 0 0
+unfolding madeAll makes noticesOf
+reading-start writes ws buf e =
+    record {
+      bytes = [];
+      done = [];
+      sound = ap soundLedger e ∙ first-sound;
+      within = omega arith;
+      parsed = refl;
+      ledger = e;
+      books = ap book e ∙ first-book;
+      count = refl;
+      size = none-said writes;
+    }
+
+pub waits-start : (buf : List ℕ) → Waits 0 (take 0 buf) false
+unfolding parse parseUpTo
+waits-start buf = refl
+
+-- the bytes held stay in the buffer
+pub reading-kept : (writes : Bool) (ws buf after : List ℕ) (seen have total : ℕ) → Reading writes ws buf seen have total → take have after ≡ take have buf
+    → length after ≡ length buf → Reading writes ws after seen have total
+reading-kept writes ws buf after seen have total x e n =
+    record {
+      bytes = x .bytes;
+      done = x .done;
+      sound = x .sound;
+      within = omega (arith, x .within);
+      parsed = rw e (x .parsed);
+      ledger = x .ledger;
+      books = x .books;
+      count = x .count;
+      size = x .size;
+    }
+
+said-append : (writes : Bool) (xs ys : List ℕ) → length (said writes (xs ++ ys)) ≡ length (said writes xs) + length (said writes ys)
+said-append true xs ys = length-append xs ys
+said-append false xs ys = refl
+
+-- ---- one piece more
+module _ (writes : Bool) (ws buf : List ℕ) (seen have total : ℕ) (x : Reading writes ws buf seen have total) (n : ℕ) (h : have ≤ n)
+    (out₀ ws₁ buf₁ out₁ : List ℕ) (p : Piece) (m : Made seen writes n ws buf out₀ ws₁ buf₁ out₁ p) where
+  abbrev more : List ℕ
+  more = take (n - have) (drop have buf)
+
+  abbrev all : List Entry
+  all = x .done ++ m .done
+
+  whole : parse 0 (x .bytes ++ more) ≡ behind all (parse (p .seen) (take (p .left) buf₁))
+  whole =
+      let i : n ≡ have + (n - have) = omega arith in
+      let t = take have buf in
+      parse-on (x .bytes) t (x .done) (x .parsed ∙ ap (λ (k : ℕ). behind (x .done) (parse k t)) (x .count)) more
+      ∙ ap₂ (λ (k : ℕ) (s : List ℕ). behind (x .done) (parse k s)) (sym (x .count)) (sym (ap (λ (j : ℕ). take j buf) i ∙ take-add have (n - have) buf))
+      ∙ ap (behind (x .done)) (m .parsed)
+      ∙ behind-behind (x .done) (m .done) (parse (p .seen) (take (p .left) buf₁))
+
+  notices : noticesOf noBook all ≡ noticesOf noBook (x .done) ++ noticesOf (book (layout.ledgerOf ws)) (m .done)
+  notices = notices-append noBook (x .done) (m .done) ∙ ap (λ (k : Book). noticesOf noBook (x .done) ++ noticesOf k (m .done)) (sym (x .books))
+
+  size-more : total + p .written ≡ length (said writes (noticesOf noBook all))
+  size-more =
+      let e = ap (λ (s : List ℕ). length (said writes s)) notices ∙ said-append writes (noticesOf noBook (x .done)) (noticesOf (book (layout.ledgerOf ws)) (m .done)) in
+      omega (arith, e, x .size, m .written)
+
+  pub reading-more : Reading writes ws₁ buf₁ (p .seen) (p .left) (total + p .written)
+  reading-more =
+      record {
+        bytes = x .bytes ++ more;
+        done = all;
+        sound = m .sound;
+        within = m .within;
+        parsed = whole;
+        ledger = m .ledger ∙ ap (λ (l : Ledger). madeAll l (m .done)) (x .ledger) ∙ sym (all-append firstLedger (x .done) (m .done));
+        books = m .books ∙ ap (λ (k : Book). makes k (m .done)) (x .books) ∙ sym (makes-append noBook (x .done) (m .done));
+        count = omega (arith, m .count, x .count, length-append (x .done) (m .done));
+        size = size-more;
+      }
+
+-- ---- the end
+-- where no entry stands whole in the bytes held the reading has come to its end
+pub reading-ended : (writes : Bool) (ws buf : List ℕ) (seen have total : ℕ) (stopped failed : Bool) → Reading writes ws buf seen have total
+    → Waits seen (take have buf) stopped
+    → Reads writes ws buf (record { seen = seen; stopped = stopped; left = have; total = total; failed = failed })
+unfolding ledgerOf isBad brnOf
+reading-ended writes ws buf seen have total stopped failed x w =
+    let e = x .parsed ∙ ap (behind (x .done)) w in
+    let entries : parse 0 (x .bytes) .entries ≡ x .done = ap (λ (p : Parsed). p .entries) e ∙ append-nil (x .done) in
+    let bad : stopped ≡ parse 0 (x .bytes) .stopped = sym (ap (λ (p : Parsed). p .stopped) e) in
+    let rest : take have buf ≡ parse 0 (x .bytes) .rest = sym (ap (λ (p : Parsed). p .rest) e) in
+    let count : seen ≡ length (parse 0 (x .bytes) .entries) = x .count ∙ sym (ap length entries) in
+    let left : have ≡ length (parse 0 (x .bytes) .rest) = sym (length-take-le have buf (x .within)) ∙ ap length rest in
+    record {
+      bytes = x .bytes;
+      sound = x .sound;
+      ledger = x .ledger ∙ sym (ap (madeAll firstLedger) entries);
+      books = x .books ∙ sym (ap (makes noBook) entries);
+      seen = count;
+      stopped = bad;
+      rest = rest;
+      within = x .within;
+      bad = rw (bad, left, count);
+      total = x .size ∙ sym (ap (λ (es : List Entry). length (said writes (noticesOf noBook es))) entries);
+    }
+
+-- the input has ended
+pub input-ended : (writes : Bool) (ws buf : List ℕ) (seen have total : ℕ) (f : filled.Filled) (e : End) → e ≡ endOfInput f seen have total
+    → Reading writes ws buf seen have total → (f ≡ Ended → Waits seen (take have buf) false) → e .failed ≡ false → Reads writes ws buf e
+input-ended writes ws buf seen have total f e q x w z =
+    let none = ended f (sym (ap (λ (k : End). k .failed) q) ∙ z) in
+    subst (Reads writes ws buf) (sym q) (reading-ended writes ws buf seen have total false (notEnded f) x (w none))
+
+stopped-by : (a b : Bool) → (not a || b) ≡ true → not a ≡ false → b ≡ true
+stopped-by true b h z = h
+stopped-by false b h z = absurd (true≢false z)
+
+-- a bad entry has stopped it
+pub piece-ended : (writes : Bool) (ws buf : List ℕ) (total : ℕ) (p : Piece) (written : Bool) (e : End) → e ≡ endOfPiece p total written
+    → Reading writes ws buf (p .seen) (p .left) total → (p .full ≡ false → Waits (p .seen) (take (p .left) buf) (p .stopped))
+    → (p .full ≡ true → p .stopped ≡ false) → (not written || p .stopped) ≡ true → e .failed ≡ false → Reads writes ws buf e
+piece-ended writes ws buf total p written e q x w goes h z =
+    let s = stopped-by written (p .stopped) h (sym (ap (λ (k : End). k .failed) q) ∙ z) in
+    let o = cases (p .full) (λ y. absurd (true≢false (sym s ∙ goes y))) (λ y. y) in
+    subst (Reads writes ws buf) (sym q) (reading-ended writes ws buf (p .seen) (p .left) total (p .stopped) (not written) x (w o))

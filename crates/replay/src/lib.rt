@@ -1,0 +1,152 @@
+// A journal on standard input, read in pieces: one loop for the programs. Each piece's entries are made on a ledger that is lent as words, and their notices
+// are written to standard output if the caller asks for them.
+ghost use mathlib.Core.Path.{_≡_};
+ghost use mathlib.Core.Bool.{true, false, cond};
+ghost use Prim.Native.Nat.{_≤_};
+ghost use lib.ListN.{length};
+ghost use Rattle.ledger.specs.Sound.{soundLedger};
+ghost use Rattle.words.specs.Layout.{ledgerSize, ledgerOf};
+ghost use Rattle.replay.specs.Reading.{firstLedger, FillsMore, Made, noticesOutput, endOfInput, endOfPiece, Reads};
+use engine::run;
+use input::Filled;
+use ledger::Ledger;
+use libc::STDOUT_FILENO;
+use output::Output;
+use units::Date;
+
+pub mod output;
+
+// Where the reading ended: how many entries came, whether a bad one stopped it, how many bytes are left at the start of the buffer, how many bytes of notices
+// were written, and whether a read or a write failed.
+pub struct End {
+    pub seen: u64,
+    pub stopped: bool,
+    pub left: usize,
+    pub total: usize,
+    pub failed: bool,
+}
+
+// What a piece came to: how many entries came by now, how many bytes are left at the start of the buffer, how many bytes of notices stand in the output,
+// whether it has no room for another entry's, and whether a bad entry stands there.
+pub struct Piece {
+    pub seen: u64,
+    pub left: usize,
+    pub written: usize,
+    pub full: bool,
+    pub stopped: bool,
+}
+
+// Writes the words of the ledger before the first entry: no bill, both numbers 1.
+pub fn start(ws: &mut [u64])
+    requires { ⌜ length (now ws) ≡ ledgerSize ⌝ }
+    ensures { λ _. ⌜ ledgerOf (now (ws .exit)) ≡ firstLedger ⌝ }
+{
+    words::write(ws, Ledger::empty(Date(19000101), 1, 1));
+}
+
+// Reads on where all entries that were read are made.
+fn more(buf: &mut [u8], have: usize, full: bool) -> Filled
+    requires { ⌜ have ≤ length (now buf) ⌝ }
+    ensures { λ r. ⌜ FillsMore have full (now (buf .entry)) (now (buf .exit)) r ⌝ }
+{
+    if full {
+        return Filled::Bytes(have);
+    }
+    input::fill(buf, have)
+}
+
+// So many where bytes are written, else none.
+fn counted(writes: bool, n: usize) -> usize
+    ensures { λ r. ⌜ r ≡ cond writes n 0 ⌝ }
+{
+    if writes { n } else { 0 }
+}
+
+// Makes the entries of the first n bytes and keeps the bytes that are left at the start.
+fn make(ws: &mut [u64], buf: &mut [u8], out: &mut [u8], writes: bool, n: usize, seen: u64) -> Piece
+    requires { ⌜ (soundLedger (ledgerOf (now ws)) ≡ true) × (n ≤ length (now buf)) ⌝ }
+    ensures { λ p. ⌜ Made seen writes n (now (ws .entry)) (now (buf .entry)) (now (out .entry)) (now (ws .exit)) (now (buf .exit)) (now (out .exit)) p ⌝ }
+{
+    let r = run::run(ws, out, writes, &buf[..n], seen);
+    let left = journal::keep(buf, r.used, n);
+    let written = counted(writes, r.written);
+    Piece {
+        seen: r.seen,
+        left,
+        written,
+        full: r.full,
+        stopped: r.stopped,
+    }
+}
+
+// What is written of a piece: its notices, to standard output.
+fn notices_of(p: Piece) -> Output
+    ensures { λ o. ⌜ o ≡ noticesOutput p ⌝ }
+{
+    Output {
+        descriptor: STDOUT_FILENO,
+        length: p.written,
+    }
+}
+
+// How the reading ends where a read brought no bytes: the input has ended, or the read failed.
+fn end_of_input(f: Filled, seen: u64, left: usize, total: usize) -> End
+    ensures { λ e. ⌜ e ≡ endOfInput f seen left total ⌝ }
+{
+    let failed = input::unread(f);
+    End {
+        seen,
+        stopped: false,
+        left,
+        total,
+        failed,
+    }
+}
+
+// How the reading ends after a piece: at a bad entry, or since its notices could not be written.
+fn end_of_piece(p: Piece, total: usize, written: bool) -> End
+    ensures { λ e. ⌜ e ≡ endOfPiece p total written ⌝ }
+{
+    End {
+        seen: p.seen,
+        stopped: p.stopped,
+        left: p.left,
+        total,
+        failed: !written,
+    }
+}
+
+// Reads standard input in pieces and makes its entries. A billion entries have fewer bytes than there are turns.
+pub fn read_all(ws: &mut [u64], buf: &mut [u8], out: &mut [u8], writes: bool) -> End
+    requires { ⌜ (ledgerOf (now ws) ≡ firstLedger) × (length (now buf) ≡ 262144) × (length (now out) ≤ 262144) ⌝ }
+    ensures { λ e. ⌜ (e .failed ≡ false → Reads writes (now (ws .exit)) (now (buf .exit)) e) ⌝ }
+{
+    let mut seen = 0;
+    let mut left = 0;
+    let mut total = 0;
+    let mut full = false;
+    let mut turns = 70000000000000u64;
+    while 0 < turns {
+        turns -= 1;
+        let f = more(buf, left, full);
+        let Filled::Bytes(n) = f else {
+            return end_of_input(f, seen, left, total);
+        };
+        let p = make(ws, buf, out, writes, n, seen);
+        total += p.written;
+        let is_written = output::send(notices_of(p), out);
+        if !is_written | p.stopped {
+            return end_of_piece(p, total, is_written);
+        }
+        seen = p.seen;
+        left = p.left;
+        full = p.full;
+    }
+    End {
+        seen,
+        stopped: false,
+        left,
+        total,
+        failed: true,
+    }
+}
