@@ -3,9 +3,9 @@
  * to libclearing_c.a (`rt staticlib clearing_c`, then target/staticlib/), for C and C++ on x86-64 Linux.
  *
  * Every function returns 0 if the call is carried out, else one of the causes below; then all that was lent to it
- * (ledger, out, change, counts, place, amounts, told) holds what it held before. Output past the bytes written is
- * untouched. Nothing is kept between calls, and nothing but what was lent is read or written. A call needs no heap and
- * less than 512 KB of stack (tested).
+ * (ledger, out, change, counts, place, amounts, written, told) holds what it held before, but for the told of
+ * clearing_entry, which is always written. Output past the bytes written is untouched. Nothing is kept between calls,
+ * and nothing but what was lent is read or written. A call needs no heap and less than 512 KB of stack (tested).
  *
  * Pointers may not be null, must be aligned for their type and may not overlap one another; a pointer with a length
  * must have that many elements, and for an empty one (length 0) any pointer that is not null will do.
@@ -80,7 +80,7 @@ enum {
     CLEARING_DATE_NOT_AFTER_TODAY = 10,
     CLEARING_BAD_FILE = 11,
     CLEARING_NUMBERS_USED_UP = 12,
-    CLEARING_BAD_ENTRY = 13 /* of a journal; stands in told[1] only */
+    CLEARING_BAD_ENTRY = 13 /* of a journal; clearing_table and clearing_notices tell it in told[1] only */
 };
 
 /*
@@ -125,6 +125,25 @@ uint64_t clearing_open_bill(const uint64_t *ledger, size_t ledger_len, uint64_t 
 /* amounts: charge, applied and owed of one bill; zeros for none, owed the charge for Bill Ready. Refused: 2, 4. */
 uint64_t clearing_amounts(const uint64_t *ledger, size_t ledger_len, uint64_t account, uint64_t key,
                           uint64_t amounts[3]);
+
+/* The posted table of the ledger: heading, a line a bill, total, as clearing_table writes it, but without `stopped,13`.
+   written: its bytes. Refused: 2, 1 for out_len under CLEARING_TABLE_BYTES. */
+uint64_t clearing_ledger_table(const uint64_t *ledger, size_t ledger_len, uint8_t *out, size_t out_len,
+                               uint64_t *written);
+
+/*
+ * One entry of a journal, so that a program can stream one of any length: makes the call of the entry that begins the
+ * bytes lent, before which `seen` entries came (0: it is the first). told is always written:
+ *   told[0]  the bytes of the entry (3 and its body), after which the next begins; 0 if no whole good entry is there
+ *   told[1]  1 if the bytes end before the entry does: lend more of the journal (at its end, it is cut short); else 0
+ * Refused: 13 if told[0] is 0: the entry is cut short, or it is bad and stops the journal (an unknown tag, a wrong
+ * length, tag 0 elsewhere than first or another first, seen at 1,000,000,000 or over, which the first three bytes show,
+ * or a fresh that is refused). Else what the entry's call is refused for on this ledger and this output; a body whose
+ * fields are not digits is 2. A journal's calls have CLEARING_FILE_BYTES of output, which is always enough; a refused
+ * call is passed over. A good fresh reads no ledger, but asks for its length (2).
+ */
+uint64_t clearing_entry(uint64_t *ledger, size_t ledger_len, const uint8_t *journal, size_t journal_len, uint64_t seen,
+                        uint8_t *out, size_t out_len, int64_t *change, uint64_t counts[4], uint64_t told[2]);
 
 /*
  * Whole journals (their bytes). A bad entry stops a journal, and what came before it counts: the call is carried out

@@ -1,4 +1,4 @@
-//! What a journal must give: its table and its notices, checked on the way against the history.
+//! What a journal must give: its table, its notices and its trace, checked on the way against the history.
 
 use std::io;
 
@@ -7,22 +7,27 @@ use crate::history::{Call, History};
 use crate::journal::{self, Effect, Entries, Entry, Next};
 use crate::ledger::Ledger;
 use crate::table::table;
+use crate::trace::trace;
 
 pub struct Expected {
     pub table: Vec<u8>,
     pub notices: Vec<u8>,
+    pub trace: Vec<u8>,
     /// Calls carried out or refused after fresh.
     pub calls: u64,
 }
 
-/// Replays a journal twice and works out its history. An error tells how the reference disagrees with itself.
+/// Replays a journal three times and works out its history. An error tells how the reference disagrees with itself.
 pub fn expect(journal: &[u8]) -> Result<Expected, String> {
     let mut history = history_of(journal);
     let (mut notices, mut out) = (Vec::new(), vec![0; FILE_LIMIT]);
     let (mut changes, mut calls) = (0, 0);
+    let mut outcomes = history.as_ref().map_or(vec![], |_| vec!["00".to_string()]);
     let replayed = journal::follow(journal, |ledger, entry| {
         let history = history.as_mut().ok_or_else(|| fault("the history refuses fresh, the ledger does not".into()))?;
-        let effect = both(ledger, history, entry, &mut out).map_err(|told| fault(format!("call {calls}: {told}")))?;
+        let (effect, outcome) =
+            both(ledger, history, entry, &mut out).map_err(|told| fault(format!("call {calls}: {told}")))?;
+        outcomes.extend(outcome);
         notices.extend_from_slice(&out[..effect.written]);
         changes += effect.change;
         calls += 1;
@@ -38,7 +43,10 @@ pub fn expect(journal: &[u8]) -> Result<Expected, String> {
     if (sum, changes) != (total, total as i64) {
         return Err(format!("total {total}, the history's sum {sum}, the changes add up to {changes}"));
     }
-    Ok(Expected { table: table(&replayed), notices, calls })
+    let mut lines = Vec::new();
+    trace(journal, &mut lines).map_err(|error| error.to_string())?;
+    same_outcomes(&lines, &outcomes, replayed.stopped)?;
+    Ok(Expected { table: table(&replayed), notices, trace: lines, calls })
 }
 
 /// The history after fresh, if the journal begins with a good one.
@@ -49,8 +57,11 @@ fn history_of(journal: &[u8]) -> Option<History> {
     }
 }
 
+/// A call's cause and, for a file carried out, ACF or the code of each group, as a trace shows them.
+type Outcome = Vec<String>;
+
 /// Gives one call to the ledger and to the history; both must name the same cause and the same codes.
-fn both(ledger: &mut Ledger, history: &mut History, entry: Entry, out: &mut [u8]) -> Result<Effect, String> {
+fn both(ledger: &mut Ledger, history: &mut History, entry: Entry, out: &mut [u8]) -> Result<(Effect, Outcome), String> {
     let call = match entry {
         Entry::Request(body) => Call::Request(body),
         Entry::File(file) => Call::File(file),
@@ -65,10 +76,33 @@ fn both(ledger: &mut Ledger, history: &mut History, entry: Entry, out: &mut [u8]
         return Err(format!("cause {cause:?}, but {past:?} by the history"));
     }
     let effect = result.unwrap_or_default();
+    let mut outcome = vec![format!("{:02}", past.unwrap_or(0))];
     if let (Entry::File(_), None) = (entry, cause) {
         same_verdicts(&out[..effect.written], effect.accepted, history.verdicts())?;
+        let shown = |code: &Option<u8>| code.map_or("ACF".into(), |code| format!("BR{code:02}"));
+        outcome.extend(history.verdicts().iter().map(shown));
     }
-    Ok(effect)
+    Ok((effect, outcome))
+}
+
+/// Compares the causes and codes of a trace with the history's, and its last line with the end of the journal.
+fn same_outcomes(trace: &[u8], outcomes: &[String], stopped: bool) -> Result<(), String> {
+    let text = std::str::from_utf8(trace).map_err(|error| error.to_string())?;
+    let lines = text.strip_suffix("stopped,13\n");
+    if lines.is_some() != stopped {
+        return Err(format!("the trace {}", if stopped { "is not stopped" } else { "is stopped" }));
+    }
+    let shown: Vec<&str> = lines.unwrap_or(text).lines().map(outcome).collect();
+    if shown != outcomes {
+        return Err(format!("the trace shows {shown:?}, but {outcomes:?} by the history"));
+    }
+    Ok(())
+}
+
+/// The cause of an entry's line, or what became of a group.
+fn outcome(line: &str) -> &str {
+    let field = if line.starts_with("group,") { line.rsplit(',').next() } else { line.split(',').nth(2) };
+    field.unwrap_or_default()
 }
 
 /// Compares a file's notices with the history's verdicts: a header each, and the code of a REJ's details.

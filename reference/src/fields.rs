@@ -20,6 +20,13 @@ pub fn put_number(field: &mut [u8], mut number: u64) {
     }
 }
 
+/// Adds a number zero-filled to a width.
+pub fn push_number(text: &mut Vec<u8>, width: usize, number: u64) {
+    let from = text.len();
+    text.resize(from + width, b'0');
+    put_number(&mut text[from..], number);
+}
+
 /// Whole cents, 13 digits.
 #[derive(Clone, Copy, Debug, PartialEq, Eq)]
 pub struct Cents(pub u64);

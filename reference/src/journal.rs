@@ -4,7 +4,7 @@ use std::io::{self, BufReader, ErrorKind, Read, Write};
 
 use crate::cause::Cause;
 use crate::file::FILE_LIMIT;
-use crate::ledger::{Ledger, Request};
+use crate::ledger::{Done, FileDone, Ledger, Request};
 
 /// Any entry after this one is bad.
 pub const ENTRY_LIMIT: u64 = 1_000_000_000;
@@ -56,8 +56,7 @@ impl<R: Read> Entries<R> {
             return Ok(Next::Bad);
         }
         let length = usize::from(u16::from_be_bytes(length));
-        let first = self.read == 0;
-        if first != (tag[0] == FRESH) || !length_is_right(tag[0], length) || self.read == ENTRY_LIMIT {
+        if !head_is_right(tag[0], length, self.read) {
             return Ok(Next::Bad);
         }
         let body = &mut self.body[..length];
@@ -67,6 +66,35 @@ impl<R: Read> Entries<R> {
         self.read += 1;
         Ok(entry(tag[0], body).map_or(Next::Bad, Next::Entry))
     }
+}
+
+/// What stands at the start of some bytes of a journal.
+pub enum Start<'a> {
+    /// An entry, and its bytes with tag and length.
+    Entry(Entry<'a>, usize),
+    /// The bytes end before the entry does.
+    Short,
+    Bad,
+}
+
+/// The entry that begins these bytes, before which so many came; a refused fresh is a bad entry.
+pub fn start(bytes: &[u8], seen: u64) -> Start<'_> {
+    let [tag, high, low, rest @ ..] = bytes else { return Start::Short };
+    let length = usize::from(u16::from_be_bytes([*high, *low]));
+    if !head_is_right(*tag, length, seen) {
+        return Start::Bad;
+    }
+    let Some(body) = rest.get(..length) else { return Start::Short };
+    match entry(*tag, body) {
+        Some(Entry::Fresh(body)) if fresh(body).is_err() => Start::Bad,
+        Some(entry) => Start::Entry(entry, 3 + length),
+        None => Start::Bad,
+    }
+}
+
+/// Fresh is the first entry and no other; no entry comes after the 1,000,000,000th.
+fn head_is_right(tag: u8, length: usize, seen: u64) -> bool {
+    (seen == 0) == (tag == FRESH) && length_is_right(tag, length) && seen < ENTRY_LIMIT
 }
 
 /// A tag that is none has no right length.
@@ -107,6 +135,22 @@ pub struct Effect {
     pub change: i64,
     pub written: usize,
     pub accepted: usize,
+    pub rejected: usize,
+    /// Bills that a close found open and left otherwise.
+    pub closed: usize,
+}
+
+impl From<Done> for Effect {
+    fn from(done: Done) -> Effect {
+        Effect { change: done.change, written: done.written, ..Effect::default() }
+    }
+}
+
+impl From<FileDone> for Effect {
+    fn from(done: FileDone) -> Effect {
+        let FileDone { accepted, rejected, change, written } = done;
+        Effect { change, written, accepted, rejected, closed: 0 }
+    }
 }
 
 /// Carries out one entry after fresh. None for `out`: the notices are dropped, so they need not be built.
@@ -114,19 +158,10 @@ pub fn carry_out(ledger: &mut Ledger, entry: Entry, out: Option<&mut [u8]>) -> R
     match entry {
         // Entries hands out fresh as the first entry only.
         Entry::Fresh(_) => Err(Cause::BadEntry),
-        Entry::Request(body) => {
-            let done = ledger.request(&Request::read(body)?, out)?;
-            Ok(Effect { change: done.change, written: done.written, accepted: 0 })
-        }
-        Entry::File(body) => {
-            let done = ledger.file(body, out)?;
-            Ok(Effect { change: done.change, written: done.written, accepted: done.accepted })
-        }
-        Entry::Cancel(body) => {
-            let done = ledger.cancel(&body[..12], &body[12..], out)?;
-            Ok(Effect { change: done.change, written: done.written, accepted: 0 })
-        }
-        Entry::Close(body) => ledger.close(body).map(|_| Effect::default()),
+        Entry::Request(body) => Ok(ledger.request(&Request::read(body)?, out)?.into()),
+        Entry::File(body) => Ok(ledger.file(body, out)?.into()),
+        Entry::Cancel(body) => Ok(ledger.cancel(&body[..12], &body[12..], out)?.into()),
+        Entry::Close(body) => Ok(Effect { closed: ledger.close(body)?, ..Effect::default() }),
     }
 }
 

@@ -103,6 +103,13 @@ pub struct FileDone {
     pub written: usize,
 }
 
+/// What became of a group: the Confirmation Number that it took, and its error code if it was rejected.
+pub struct Decided<'a> {
+    pub group: Group<'a>,
+    pub confirmation: u32,
+    pub code: Option<Code>,
+}
+
 #[derive(Clone, Debug, PartialEq, Eq)]
 pub struct Ledger {
     today: Date,
@@ -155,7 +162,17 @@ impl Ledger {
     }
 
     /// File: the groups are decided in order, each on the ledger the one before left.
-    pub fn file(&mut self, file: &[u8], mut out: Option<&mut [u8]>) -> Result<FileDone, Cause> {
+    pub fn file(&mut self, file: &[u8], out: Option<&mut [u8]>) -> Result<FileDone, Cause> {
+        self.file_telling(file, out, |_| {})
+    }
+
+    /// File, telling what became of each group, in order; of a file that is refused nothing is told.
+    pub fn file_telling(
+        &mut self,
+        file: &[u8],
+        mut out: Option<&mut [u8]>,
+        mut tell: impl FnMut(Decided),
+    ) -> Result<FileDone, Cause> {
         let groups = file::groups(file::records(file)?);
         ask_output(&out, file.len())?;
         let supplements = groups.iter().filter(|group| group.notification() == b"SUP").count();
@@ -165,6 +182,7 @@ impl Ledger {
         let mut done = FileDone::default();
         for (group, claim) in groups.iter().zip(claims) {
             let verdict = claim.and_then(|claim| verdict::decide(self, group, claim, &twins));
+            tell(Decided { group: *group, confirmation: self.next_confirmation, code: verdict.err() });
             let room = out.as_deref_mut().map(|out| &mut out[done.written..]);
             match verdict {
                 Ok(accepted) => {

@@ -20,6 +20,7 @@ pub mod show;
 pub mod shrink;
 pub mod sound;
 pub mod table;
+pub mod trace;
 pub mod verdict;
 pub mod words;
 pub mod workload;

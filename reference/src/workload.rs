@@ -95,14 +95,24 @@ impl<W: Write> Workload<W> {
 
     /// Empty files up to so many entries in all: three bytes each.
     pub fn empty_files(&mut self, entries: u64) -> io::Result<()> {
-        let many = [FILE, 0, 0].repeat(10_000);
-        let mut rest = entries - self.entries;
+        self.repeat(&groups::entry(FILE, &[]), entries)
+    }
+
+    /// Closes on the day that it is already, which are refused with 10, up to so many entries in all.
+    pub fn refused_closes(&mut self, entries: u64) -> io::Result<()> {
+        self.repeat(&groups::entry(CLOSE, FIRST_DAY), entries)
+    }
+
+    /// An entry that changes nothing, over and over.
+    fn repeat(&mut self, entry: &[u8], entries: u64) -> io::Result<()> {
+        let many = entry.repeat(10_000);
+        let mut rest = entries.saturating_sub(self.entries);
+        self.entries += rest;
         while rest > 0 {
             let now = rest.min(10_000);
-            self.out.write_all(&many[..3 * now as usize])?;
+            self.out.write_all(&many[..entry.len() * now as usize])?;
             rest -= now;
         }
-        self.entries = entries;
         Ok(())
     }
 

@@ -5,7 +5,7 @@ use std::io::{self, Read};
 use reference::coverage::Coverage;
 use reference::expect::expect;
 use reference::groups::entry;
-use reference::journal::{self, CLOSE, FILE, FRESH, REQUEST};
+use reference::journal::{self, Entry, Start, CLOSE, FILE, FRESH, REQUEST};
 use reference::prng::Prng;
 use reference::sound::is_sound;
 use reference::{generator, table};
@@ -105,14 +105,38 @@ fn pieces_equal_whole() {
     }
 }
 
+/// The entries one by one from the bytes, with any number of bytes after them, as a program that streams takes them.
+#[test]
+fn entries_from_bytes() {
+    for seed in 0..100 {
+        let journal = generator::make(seed);
+        let (mut at, mut seen, mut ledger) = (0, 0, None);
+        while let Start::Entry(entry, length) = journal::start(&journal[at..], seen) {
+            match (entry, &mut ledger) {
+                (Entry::Fresh(body), None) => ledger = Some(journal::fresh(body).unwrap()),
+                (entry, Some(ledger)) => drop(journal::carry_out(ledger, entry, None)),
+                _ => panic!("seed {seed}: an entry before fresh"),
+            }
+            let alone = &journal[at..at + length];
+            assert!(matches!(journal::start(alone, seen), Start::Entry(_, bytes) if bytes == length));
+            assert!(matches!(journal::start(&alone[..length - 1], seen), Start::Short));
+            assert!(matches!(journal::start(alone, journal::ENTRY_LIMIT), Start::Bad));
+            (at, seen) = (at + length, seen + 1);
+        }
+        let replayed = journal::replay(&journal[..]).unwrap();
+        assert!(ledger == replayed.ledger && replayed.stopped == (at < journal.len() || journal.is_empty()));
+    }
+}
+
 #[test]
 fn history_over_seeds() {
     let mut coverage = Coverage::default();
     for seed in 0..400 {
         let journal = generator::make(seed);
         assert!(journal == generator::make(seed), "the same seed gives the same journal");
-        expect(&journal).unwrap_or_else(|told| panic!("seed {seed}: {told}"));
+        let expected = expect(&journal).unwrap_or_else(|told| panic!("seed {seed}: {told}"));
         coverage.merge(&Coverage::of(&journal));
+        coverage.trace(&expected.trace);
     }
     assert_eq!(coverage.missing(), Vec::<String>::new());
 }

@@ -33,6 +33,8 @@ fn the_example() {
     assert!(good && table == TABLE.as_bytes());
     let (notices, good) = run(env!("CARGO_BIN_EXE_brn-ref"), &[], &journal);
     assert!(good && notices.len() == 3 * 321 && &notices[642 + 30..642 + 33] == b"ACF");
+    let (trace, good) = run(env!("CARGO_BIN_EXE_trace-ref"), &[], &journal);
+    assert!(good && trace.ends_with(b"001,000,000\ngroup,000000002,123456780019,0007,RSP,ACF\n"));
 }
 
 #[test]
@@ -42,6 +44,7 @@ fn seeds_through_the_programs() {
         let expected = expect(&journal).unwrap();
         assert!(run(env!("CARGO_BIN_EXE_posted-ref"), &[], &journal).0 == expected.table);
         assert!(run(env!("CARGO_BIN_EXE_brn-ref"), &[], &journal).0 == expected.notices);
+        assert!(run(env!("CARGO_BIN_EXE_trace-ref"), &[], &journal).0 == expected.trace);
         assert!(run(env!("CARGO_BIN_EXE_compare"), &["--make", &seed.to_string()], b"").0 == journal);
     }
 }
@@ -49,15 +52,18 @@ fn seeds_through_the_programs() {
 #[test]
 fn compare_tells_a_difference() {
     let (posted, brn) = (env!("CARGO_BIN_EXE_posted-ref"), env!("CARGO_BIN_EXE_brn-ref"));
-    let compare = |posted: &str, brn: &str| {
-        let words = ["--posted", posted, "--brn", brn, "--seeds", "0", "20"];
+    let trace = env!("CARGO_BIN_EXE_trace-ref");
+    let compare = |posted: &str, brn: &str, trace: &str| {
+        let words = ["--posted", posted, "--brn", brn, "--trace", trace, "--seeds", "0", "20"];
         run(env!("CARGO_BIN_EXE_compare"), &words, b"")
     };
-    assert!(compare(posted, brn).1);
-    let (told, good) = compare(posted, posted);
-    assert!(!good && told.starts_with(b"DIFFERENCE at seed"));
+    assert!(compare(posted, brn, trace).1);
+    for (posted, brn, trace) in [(trace, brn, trace), (posted, posted, trace), (posted, brn, posted)] {
+        let (told, good) = compare(posted, brn, trace);
+        assert!(!good && told.starts_with(b"DIFFERENCE at seed"));
+    }
     // Writes its argument to standard output.
-    let (told, good) = compare(posted, "echo");
+    let (told, good) = compare(posted, "echo", trace);
     assert!(!good && told.starts_with(b"USAGE: echo --help"));
 }
 

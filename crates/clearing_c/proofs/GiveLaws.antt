@@ -1,94 +1,205 @@
--- What a call gives back, by its two ends, and that every call fits the words. Assumes nothing.
-use Prim.Native.Nat.{ℕ}
-use mathlib.Core.Path.{_≡_, refl, _∙_, sym, ap, subst}
-use mathlib.Core.Bool.{Bool, true, false, true≢false}
+-- A call on words that may hold anything, by what it was refused for or what the engine left. Assumes nothing.
+use Prim.Native.Nat.{ℕ, _-_}
+use mathlib.Core.Path.{_≡_, refl, _∙_, sym, ap}
+use mathlib.Core.Bool.{true, false}
+use mathlib.Core.Logic.{⊎-elim}
 use mathlib.Core.List.{List, [], _∷_}
-use lib.ListN.{length}
+use native.Mathlib.Omega.{arith}
+use lib.ListN.{length, take, drop}
 use lib.IntN.{ℤ}
 use borrow.Author.Tests.{ne-eqb}
-use Rattle.ledger.specs.declared.Ledger.{Ledger}
+use types.Run.{OneOf}
+use denote.Enum.Declared.{tagOf}
+use Rattle.fields.specs.Put.{put, part}
+use Rattle.fields.proofs.PutLaws.{put-nil}
 use Rattle.ledger.specs.Sound.{soundLedger}
 use Rattle.words.specs.Layout.{holdsLedger, ledgerWords, ledgerOf}
-use Rattle.words.proofs.WordLaws.{no-ledger, words-long}
+use Rattle.words.proofs.WordLaws.{words-ledger, sound-holds}
 use Rattle.verdict.specs.declared.Check.{Check}
 use Rattle.verdict.specs.declared.Check.the-variants.{Clear, Stop}
-use Rattle.verdict.specs.Rules.{first}
 use Rattle.causes.specs.declared.Start.{Start}
+use Rattle.causes.specs.Causes.{Call, request, file, cancel, close}
 use Rattle.calls.specs.declared.Called.{Called}
 use Rattle.calls.specs.declared.Returned.{Returned}
 use Rattle.calls.specs.declared.Answer.{Answer}
 use Rattle.calls.specs.declared.Answer.the-variants.{Done, Refused}
-use Rattle.causes.specs.Causes.{Call, freshCauses}
 use Rattle.calls.specs.Machine.{causeIn, stepIn, leftBy, answerBy, called}
-use Rattle.calls.specs.Days.{freshBy, freshCalled}
-use Rattle.calls.proofs.CallLaws.{clear-sound}
-use Rattle.clearing_c.specs.Boundary.{numberOf, wordsLeft, changeLeft, countsLeft, Gives, freshIn, FitsBy}
+use Rattle.calls.specs.Days.{freshCalled}
+use Rattle.calls.proofs.CallLaws.{Stopped, stopped, cause-unsound}
+use Rattle.journal.specs.declared.Body.{Body}
+use Rattle.journal.specs.declared.Body.the-variants as body
+use Rattle.journal.specs.declared.Head.{Head}
+use Rattle.journal.specs.declared.Head.the-variants.{Cut, Bad, Whole}
+use Rattle.journal.specs.Entries.{headOf}
+use Rattle.journal.specs.Made.{madeIn, writtenIn}
+use Rattle.journal.proofs.Body as declared
+use Rattle.journal.proofs.MadeLaws.{Taken}
+use Rattle.engine.specs.InWords.{MadeIn, wordsLeft}
+use Rattle.clearing_c.specs.Boundary.{numberOf, changeLeft, countsLeft, Stores, Gives, freshIn, entryIn, Leaves, headCalled, headWritten, headTold}
 
--- ---- the two ends
-module _ (c : Called) (ws : List ℕ) (x : ℤ) (ks : List ℕ) (f : FitsBy ws (c .ledger) (c .answer)) where
-  pub gives-refused : (n : ℕ) → c .answer ≡ Refused n → Gives c ws x ks ws x ks n
-  gives-refused n a =
+-- ---- a call that is no fresh
+abbrev pub NoFresh : Body → Type 0
+NoFresh (body.Fresh s) = ⊥
+NoFresh (body.Request r) = Unit {0}
+NoFresh body.File = Unit {0}
+NoFresh (body.Cancel id) = Unit {0}
+NoFresh (body.Close d) = Unit {0}
+NoFresh body.Unread = Unit {0}
+
+not-zero : OneOf (1 ∷ 2 ∷ 3 ∷ 4 ∷ 5 ∷ []) 0 → ⊥
+not-zero = ⊎-elim (λ e. omega arith) (⊎-elim (λ e. omega arith) (⊎-elim (λ e. omega arith) (⊎-elim (λ e. omega arith) (λ e. omega arith))))
+
+-- a body with another variant's number
+pub no-fresh : (b : Body) → OneOf (1 ∷ 2 ∷ 3 ∷ 4 ∷ 5 ∷ []) (tagOf declared.the-type b) → NoFresh b
+no-fresh (body.Fresh s) h = not-zero h
+no-fresh (body.Request r) h = tt
+no-fresh body.File h = tt
+no-fresh (body.Cancel id) h = tt
+no-fresh (body.Close d) h = tt
+no-fresh body.Unread h = tt
+
+pub no-fresh-taken : (b : Body) → NoFresh b → Taken b
+no-fresh-taken (body.Fresh s) h = absurd h
+no-fresh-taken (body.Request r) h = tt
+no-fresh-taken body.File h = tt
+no-fresh-taken (body.Cancel id) h = tt
+no-fresh-taken (body.Close d) h = tt
+no-fresh-taken body.Unread h = tt
+
+-- ---- "Returned is the number alone; ledger and output stay as they were."
+pub refused-leaves : (ws out : List ℕ) (n : ℕ) → Leaves (record { ledger = ledgerOf ws; answer = Refused n }) [] ws out ws out (Refused n)
+refused-leaves ws out n = record { answer = refl; words = refl; ledger = refl; bytes = put-nil out 0 }
+
+-- ---- fresh
+module _ (ws : List ℕ) (s : Start) where
+  pub fresh-long : length ws ≡ 2436 → freshCalled (ledgerOf ws) s ≡ freshIn ws s
+  unfolding freshIn
+  fresh-long e = rw e
+
+  pub fresh-short : (out : List ℕ) → (length ws ≡ 2436 → ⊥) → Leaves (freshIn ws s) [] ws out ws out (Refused 2)
+  unfolding freshIn
+  fresh-short out e = rw (ne-eqb (length ws) 2436 e) (refused-leaves ws out 2)
+
+  pub fresh-leaves : length ws ≡ 2436 → (out ws₁ : List ℕ) (a : Answer) → ledgerOf ws₁ ≡ freshCalled (ledgerOf ws) s .ledger
+      → a ≡ freshCalled (ledgerOf ws) s .answer
+      → ws₁ ≡ wordsLeft ws (freshCalled (ledgerOf ws) s .ledger) (freshCalled (ledgerOf ws) s .answer)
+      → Leaves (freshIn ws s) [] ws out ws₁ out a
+  fresh-leaves long out ws₁ a e f g =
+      rw (sym (fresh-long long)) (record { answer = f; words = g; ledger = e; bytes = put-nil out 0 })
+
+-- ---- any other call
+module _ (room : ℕ) (ws out s : List ℕ) where
+  stopped-leaves : (c : Call) → soundLedger (ledgerOf ws) ≡ false
+      → Leaves (called (ledgerOf ws) c) (stepIn (ledgerOf ws) c .written) ws out ws out (Refused 2)
+  stopped-leaves c h =
+      let x : Stopped (ledgerOf ws) c 2 = stopped (ledgerOf ws) c 2 (cause-unsound (ledgerOf ws) c h) in
       record {
-        number = sym (ap numberOf a);
-        words = sym (ap (wordsLeft ws (c .ledger)) a);
-        ledger = sym (subst (FitsBy ws (c .ledger)) a f);
-        change = sym (ap (changeLeft x) a);
-        counts = sym (ap (countsLeft ks) a);
+        answer = x .answer;
+        words = ap (wordsLeft ws (called (ledgerOf ws) c .ledger)) (x .answer);
+        ledger = x .ledger;
+        bytes = put-nil out 0 ∙ ap (put out 0) (x .bytes);
       }
 
-  pub gives-done : (r : Returned) (ws₁ : List ℕ) (x₁ : ℤ) → c .answer ≡ Done r → ws₁ ≡ ledgerWords (c .ledger)
-      → ledgerOf ws₁ ≡ c .ledger
-      → x₁ ≡ r .change
-      → Gives c ws x ks ws₁ x₁ (r .written ∷ r .accepted ∷ r .rejected ∷ r .closed ∷ []) 0
-  gives-done r ws₁ x₁ a w l y =
-      record {
-        number = sym (ap numberOf a);
-        words = w ∙ sym (ap (wordsLeft ws (c .ledger)) a);
-        ledger = l;
-        change = y ∙ sym (ap (changeLeft x) a);
-        counts = sym (ap (countsLeft ks) a);
-      }
+  close-written : (c : Call) (ys ws₁ out₁ : List ℕ) (a : Answer) → [] ≡ ys → Leaves (called (ledgerOf ws) c) ys ws out ws₁ out₁ a
+      → Leaves (called (ledgerOf ws) c) [] ws out ws₁ out₁ a
+  close-written c ys ws₁ out₁ a e x =
+      record { answer = x .answer; words = x .words; ledger = x .ledger; bytes = x .bytes ∙ ap (put out 0) (sym e) }
 
-pub fits-long : (c : Called) (ws : List ℕ) → FitsBy ws (c .ledger) (c .answer) → (r : Returned) → c .answer ≡ Done r → length ws ≡ 2436
-fits-long c ws f r a = subst (FitsBy ws (c .ledger)) a f
+  -- words that hold no sound ledger
+  pub unsound-leaves : (b : Body) → NoFresh b → soundLedger (ledgerOf ws) ≡ false
+      → Leaves (entryIn room ws b s) (writtenIn room (ledgerOf ws) b s) ws out ws out (Refused 2)
+  unsound-leaves (body.Fresh x) n h = absurd n
+  unsound-leaves (body.Request r) n h = stopped-leaves (request r room) h
+  unsound-leaves body.File n h = stopped-leaves (file s room) h
+  unsound-leaves (body.Cancel id) n h = stopped-leaves (cancel id room) h
+  unsound-leaves (body.Close d) n h =
+      close-written (close d) _ ws out (Refused 2) (stopped (ledgerOf ws) (close d) 2 (cause-unsound (ledgerOf ws) (close d) h) .bytes)
+      (stopped-leaves (close d) h)
+  unsound-leaves body.Unread n h = refused-leaves ws out 2
 
--- the same of an equal call
-pub gives-as : {c d : Called} {ws ks ws₁ ks₁ : List ℕ} {x x₁ : ℤ} {n : ℕ} → c ≡ d → Gives c ws x ks ws₁ x₁ ks₁ n → Gives d ws x ks ws₁ x₁ ks₁ n
-gives-as {ws} {ks} {ws₁} {ks₁} {x} {x₁} {n} e g = subst (λ (k : Called). Gives k ws x ks ws₁ x₁ ks₁ n) e g
-
-pub fits-as : (ws : List ℕ) {c d : Called} → c ≡ d → FitsBy ws (d .ledger) (d .answer) → FitsBy ws (c .ledger) (c .answer)
-fits-as ws e f = subst (λ (k : Called). FitsBy ws (k .ledger) (k .answer)) (sym e) f
-
--- ---- every call fits: one that was carried out read a sound ledger, so the words hold one
-module _ (ws : List ℕ) where
-  pub sound-long : soundLedger (ledgerOf ws) ≡ true → length ws ≡ 2436
-  sound-long h = go (holdsLedger ws) refl
-    where
-      go : (b : Bool) → holdsLedger ws ≡ b → length ws ≡ 2436
-      go true e = words-long ws e
-      go false e = absurd (true≢false (sym h ∙ no-ledger ws e))
-
-  pub fits-call : (c : Call) → FitsBy ws (called (ledgerOf ws) c .ledger) (called (ledgerOf ws) c .answer)
+  -- a call that is refused leaves the ledger
+  call-kept : (c : Call) (n : ℕ) → called (ledgerOf ws) c .answer ≡ Refused n → called (ledgerOf ws) c .ledger ≡ ledgerOf ws
   unfolding called leftBy answerBy
-  fits-call c = go (causeIn (ledgerOf ws) c) refl
+  call-kept c n e = go (causeIn (ledgerOf ws) c) e
     where
-      go : (v : Check) → causeIn (ledgerOf ws) c ≡ v
-          → FitsBy ws (leftBy (ledgerOf ws) c v) (answerBy (stepIn (ledgerOf ws) c) v)
-      go Clear e = sound-long (clear-sound (ledgerOf ws) c e)
-      go (Stop n) e = refl
+      go : (v : Check) → answerBy (stepIn (ledgerOf ws) c) v ≡ Refused n → leftBy (ledgerOf ws) c v ≡ ledgerOf ws
+      go Clear f = let z : _≡_ {A = ℕ} 0 1 = cc in absurd (omega arith)
+      go (Stop m) f = refl
 
-  pub fits-fresh : (s : Start) → length ws ≡ 2436 → FitsBy ws (freshCalled (ledgerOf ws) s .ledger) (freshCalled (ledgerOf ws) s .answer)
-  unfolding freshCalled freshBy
-  fits-fresh s e = go (first (freshCauses s))
+  kept : (b : Body) → NoFresh b → (n : ℕ) → madeIn room (ledgerOf ws) b s .answer ≡ Refused n → madeIn room (ledgerOf ws) b s .ledger ≡ ledgerOf ws
+  kept (body.Fresh x) h n e = absurd h
+  kept (body.Request r) h n e = call-kept (request r room) n e
+  kept body.File h n e = call-kept (file s room) n e
+  kept (body.Cancel id) h n e = call-kept (cancel id room) n e
+  kept (body.Close d) h n e = call-kept (close d) n e
+  kept body.Unread h n e = refl
+
+  entry-made : (b : Body) → NoFresh b → madeIn room (ledgerOf ws) b s ≡ entryIn room ws b s
+  entry-made (body.Fresh x) h = absurd h
+  entry-made (body.Request r) h = refl
+  entry-made body.File h = refl
+  entry-made (body.Cancel id) h = refl
+  entry-made (body.Close d) h = refl
+  entry-made body.Unread h = refl
+
+  -- the words of the ledger that it leaves, or those that were lent
+  words-left : (ws₁ : List ℕ) (k : Called) → holdsLedger ws ≡ true → holdsLedger ws₁ ≡ true → ledgerOf ws₁ ≡ k .ledger
+      → ((n : ℕ) → k .answer ≡ Refused n → k .ledger ≡ ledgerOf ws) → ws₁ ≡ wordsLeft ws (k .ledger) (k .answer)
+  words-left ws₁ k h h₁ e f = go (k .answer) refl
     where
-      go : (v : Check) → FitsBy ws (freshBy (ledgerOf ws) s v .ledger) (freshBy (ledgerOf ws) s v .answer)
-      go Clear = e
-      go (Stop n) = refl
+      go : (a : Answer) → k .answer ≡ a → ws₁ ≡ wordsLeft ws (k .ledger) a
+      go (Done r) q = sym (words-ledger ws₁ h₁) ∙ ap ledgerWords e
+      go (Refused n) q = sym (words-ledger ws₁ h₁) ∙ ap ledgerWords (e ∙ f n q) ∙ words-ledger ws h
 
-  pub fresh-long : (s : Start) → length ws ≡ 2436 → freshCalled (ledgerOf ws) s ≡ freshIn ws s
-  unfolding freshIn
-  fresh-long s e = rw e
+  -- words that hold one: what the engine left
+  pub sound-leaves : (b : Body) → NoFresh b → soundLedger (ledgerOf ws) ≡ true → (ws₁ out₁ : List ℕ) (a : Answer)
+      → MadeIn true room b s ws out ws₁ out₁ a → Leaves (entryIn room ws b s) (writtenIn room (ledgerOf ws) b s) ws out ws₁ out₁ a
+  sound-leaves b n h ws₁ out₁ a m =
+      rw (sym (entry-made b n))
+      (record {
+        answer = m .answer;
+        words = words-left ws₁ (madeIn room (ledgerOf ws) b s) (sound-holds ws h) (sound-holds ws₁ (m .sound)) (m .ledger) (kept b n);
+        ledger = m .ledger;
+        bytes = m .bytes;
+      })
 
-  pub fresh-short : (s : Start) (x : ℤ) (ks : List ℕ) → (length ws ≡ 2436 → ⊥) → Gives (freshIn ws s) ws x ks ws x ks 2
-  unfolding freshIn
-  fresh-short s x ks e = rw (ne-eqb (length ws) 2436 e) (record { number = refl; words = refl; ledger = refl; change = refl; counts = refl })
+-- ---- what is given back
+pub gives : (c : Called) (ys ws out ws₁ out₁ : List ℕ) (a : Answer) → Leaves c ys ws out ws₁ out₁ a → (x : ℤ) (ks : List ℕ) (x₁ : ℤ) (ks₁ : List ℕ) (n : ℕ)
+    → Stores a x ks x₁ ks₁ n → Gives c ws x ks ws₁ x₁ ks₁ n
+gives c ys ws out ws₁ out₁ a l x ks x₁ ks₁ n g =
+    record {
+      number = g .number ∙ ap numberOf (l .answer);
+      words = l .words;
+      ledger = l .ledger;
+      change = g .change ∙ ap (changeLeft x) (l .answer);
+      counts = g .counts ∙ ap (countsLeft ks) (l .answer);
+    }
+
+-- an answer that was carried out
+pub stores-done : (a : Answer) (r : Returned) → a ≡ Done r → (x : ℤ) (ks : List ℕ) (x₁ : ℤ) → x₁ ≡ r .change
+    → Stores a x ks x₁ (r .written ∷ r .accepted ∷ r .rejected ∷ r .closed ∷ []) 0
+stores-done a r e x ks x₁ y =
+    record { number = sym (ap numberOf e); change = y ∙ sym (ap (changeLeft x) e); counts = sym (ap (countsLeft ks) e) }
+
+-- ---- the entry at the start of a journal
+module _ (room seen : ℕ) (src ws : List ℕ) (x : ℤ) (ks out : List ℕ) where
+  -- what is given, written and told of what stands there
+  abbrev pub Headed : Head → List ℕ → ℤ → List ℕ → List ℕ → List ℕ → ℕ → Type 0
+  Headed h ws₁ x₁ ks₁ out₁ ts n =
+      Gives (headCalled room ws src h) ws x ks ws₁ x₁ ks₁ n × ((out₁ ≡ put out 0 (headWritten room ws src h)) × (ts ≡ headTold h))
+
+  refused : Gives (record { ledger = ledgerOf ws; answer = Refused 13 }) ws x ks ws x ks 13
+  refused = record { number = refl; words = refl; ledger = refl; change = refl; counts = refl }
+
+  pub entry-cut : headOf seen src ≡ Cut → Headed (headOf seen src) ws x ks out (0 ∷ 1 ∷ []) 13
+  entry-cut e = rw e (refused, (put-nil out 0, refl))
+
+  pub entry-bad : headOf seen src ≡ Bad → Headed (headOf seen src) ws x ks out (0 ∷ 0 ∷ []) 13
+  entry-bad e = rw e (refused, (put-nil out 0, refl))
+
+  pub entry-whole : (b : Body) (n : ℕ) → headOf seen src ≡ Whole b n → (ws₁ : List ℕ) (x₁ : ℤ) (ks₁ out₁ : List ℕ) (k : ℕ)
+      → Gives (entryIn room ws b (take (n - 3) (drop 3 src))) ws x ks ws₁ x₁ ks₁ k
+      → out₁ ≡ put out 0 (writtenIn room (ledgerOf ws) b (take (n - 3) (drop 3 src)))
+      → Headed (headOf seen src) ws₁ x₁ ks₁ out₁ (n ∷ 0 ∷ []) k
+  unfolding part
+  entry-whole b n e ws₁ x₁ ks₁ out₁ k g w = rw e (g, (w, refl))

@@ -1,12 +1,12 @@
 -- Demand 3 through the boundary. Assumes nothing.
 use Prim.Native.Nat.{ℕ}
-use mathlib.Core.Path.{_≡_, refl, sym, ap, _∙_, subst}
+use mathlib.Core.Path.{_≡_, sym, ap, _∙_, subst}
 use mathlib.Core.List.{List, [], _∷_}
 use Rattle.ledger.specs.declared.Ledger.{Ledger}
 use Rattle.words.specs.Layout.{ledgerOf}
 use Rattle.calls.specs.declared.Called.{Called}
 use Rattle.causes.specs.Causes.{Call}
-use Rattle.calls.specs.Machine.{called, ran}
+use Rattle.calls.specs.Machine.{ran}
 use Rattle.history.specs.History.{begun}
 use Rattle.history.specs.Claim.{ByValue}
 use Rattle.history.proofs.ClaimProof.{claim-by-value}

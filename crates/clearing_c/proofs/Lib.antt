@@ -1,5 +1,5 @@
 -- Laws that belong to no one function.
 pub mod GiveLaws
-pub mod WholeJournalLaws
 pub mod InWordsProof
 pub mod NumberLaws
+pub mod WholeJournalLaws

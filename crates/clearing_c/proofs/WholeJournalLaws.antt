@@ -5,7 +5,7 @@ use mathlib.Core.List.{List}
 use Rattle.report.specs.declared.Reported.{Reported}
 use Rattle.report.specs.Report.{Reports}
 use Rattle.report.specs.NoticesOf.{ReportsNotices}
-use Rattle.clearing_c.specs.Boundary.{reportNumber, toldLeft, Tables, Notices}
+use Rattle.clearing_c.specs.WholeJournals.{reportNumber, toldLeft, Tables, Notices}
 
 module _ (s out₀ ts out ts₁ : List ℕ) (n : ℕ) (r : Reported) (e : n ≡ reportNumber (r .report)) (t : ts₁ ≡ toldLeft ts (r .stopped) (r .report)) where
   pub tables : Reports s out₀ out r → Tables s out₀ ts out ts₁ n

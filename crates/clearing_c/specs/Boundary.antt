@@ -1,16 +1,16 @@
 -- The boundary to C and Rust: the calls on a ledger that is lent as words (words/specs/Layout), answered by numbers. Assumes nothing.
-use Prim.Native.Nat.{ℕ}
+use Prim.Native.Nat.{ℕ, _-_}
 use mathlib.Core.Path.{_≡_}
-use mathlib.Core.Bool.{Bool, cond}
+use mathlib.Core.Bool.{false, cond}
 use mathlib.Core.List.{List, [], _∷_}
 use lib.Dec.{eqb}
 use lib.ListN.{length, getD}
 use lib.IntN.{ℤ}
-use Rattle.fields.specs.Put.{put}
+use Rattle.fields.specs.Put.{put, part}
 use Rattle.units.specs.declared.Date.{Date}
 use Rattle.ledger.specs.declared.Identity.{Identity}
 use Rattle.ledger.specs.declared.Ledger.{Ledger}
-use Rattle.words.specs.Layout.{ledgerWords, ledgerOf}
+use Rattle.words.specs.Layout.{ledgerOf}
 use Rattle.causes.specs.declared.Start.{Start}
 use Rattle.causes.specs.declared.CodeField.{CodeField}
 use Rattle.causes.specs.declared.Request.{Request}
@@ -23,11 +23,15 @@ use Rattle.calls.specs.declared.lookups.Amounts.{Amounts}
 use Rattle.calls.specs.declared.lookups.Amounts.the-variants as amounts
 use Rattle.calls.specs.Days.{freshCalled}
 use Rattle.calls.specs.Lookups.{OpenBill}
-use Rattle.journal.specs.Journal.{isBad}
-use Rattle.report.specs.declared.Report.{Report}
-use Rattle.report.specs.declared.Report.the-variants as report
-use Rattle.report.specs.Report.{Claimed, reportOf, reported}
-use Rattle.report.specs.NoticesOf.{noticesReport, noticed}
+use Rattle.journal.specs.declared.Body.{Body}
+use Rattle.journal.specs.declared.Body.the-variants as body
+use Rattle.journal.specs.declared.Head.{Head}
+use Rattle.journal.specs.declared.Head.the-variants.{Cut, Bad, Whole}
+use Rattle.journal.specs.Made.{madeIn, writtenIn}
+use Rattle.engine.specs.InWords.{wordsLeft}
+use Rattle.table.specs.declared.Printed.{Printed}
+use Rattle.table.specs.declared.Printed.the-variants as table
+use Rattle.table.specs.Table.{printedBy, printed}
 
 -- ---- the calls' arguments from numbers
 abbrev pub dateOf : ℕ → Date
@@ -61,12 +65,8 @@ abbrev pub numberOf : Answer → ℕ
 numberOf (answer.Done r) = 0
 numberOf (answer.Refused n) = n
 
--- "changed only by a call that succeeds": the words of the ledger that it leaves, the signed change, and the counts: bytes written, groups
--- accepted and rejected, bills closed; else each lent buffer holds what it held
-abbrev pub wordsLeft : List ℕ → Ledger → Answer → List ℕ
-wordsLeft ws l (answer.Done r) = ledgerWords l
-wordsLeft ws l (answer.Refused n) = ws
-
+-- "changed only by a call that succeeds": the words of the ledger that it leaves (wordsLeft), the signed change, and the counts: bytes written,
+-- groups accepted and rejected, bills closed; else each lent buffer holds what it held
 abbrev pub changeLeft : ℤ → Answer → ℤ
 changeLeft x (answer.Done r) = r .change
 changeLeft x (answer.Refused n) = x
@@ -74,6 +74,12 @@ changeLeft x (answer.Refused n) = x
 abbrev pub countsLeft : List ℕ → Answer → List ℕ
 countsLeft xs (answer.Done r) = r .written ∷ r .accepted ∷ r .rejected ∷ r .closed ∷ []
 countsLeft xs (answer.Refused n) = xs
+
+-- the number answered, the change and the counts after an answer; they held x and ks before
+pub record Stores (a : Answer) (x : ℤ) (ks : List ℕ) (x₁ : ℤ) (ks₁ : List ℕ) (n : ℕ) : Type 0 where
+  pub number : n ≡ numberOf a
+  pub change : x₁ ≡ changeLeft x a
+  pub counts : ks₁ ≡ countsLeft ks a
 
 -- the number answered, and the words, the change and the counts after a call that by value gives c; they held ws, x and ks before. The words
 -- after hold the ledger that the call leaves
@@ -88,10 +94,40 @@ pub record Gives (c : Called) (ws : List ℕ) (x : ℤ) (ks ws₁ : List ℕ) (x
 unfoldable pub freshIn : List ℕ → Start → Called
 freshIn ws s = cond (eqb (length ws) 2436) (freshCalled (ledgerOf ws) s) (record { ledger = ledgerOf ws; answer = answer.Refused 2 })
 
--- what a call by value comes to fits the words: it was carried out on words that hold a ledger, or it left their ledger as it was
-abbrev pub FitsBy : List ℕ → Ledger → Answer → Type 0
-FitsBy ws l (answer.Done r) = length ws ≡ 2436
-FitsBy ws l (answer.Refused n) = l ≡ ledgerOf ws
+-- the call of an entry on any words, with so much room: a fresh as above; any other refuses a ledger that isn't sound (2)
+abbrev pub entryIn : ℕ → List ℕ → Body → List ℕ → Called
+entryIn room ws (body.Fresh s) bytes = freshIn ws s
+entryIn room ws (body.Request r) bytes = madeIn room (ledgerOf ws) (body.Request r) bytes
+entryIn room ws body.File bytes = madeIn room (ledgerOf ws) body.File bytes
+entryIn room ws (body.Cancel id) bytes = madeIn room (ledgerOf ws) (body.Cancel id) bytes
+entryIn room ws (body.Close d) bytes = madeIn room (ledgerOf ws) (body.Close d) bytes
+entryIn room ws body.Unread bytes = madeIn room (ledgerOf ws) body.Unread bytes
+
+-- what is answered, the words and the output after a call that by value gives c and writes ys
+pub record Leaves (c : Called) (ys ws out₀ ws₁ out : List ℕ) (a : Answer) : Type 0 where
+  pub answer : a ≡ c .answer
+  pub words : ws₁ ≡ wordsLeft ws (c .ledger) (c .answer)
+  pub ledger : ledgerOf ws₁ ≡ c .ledger
+  pub bytes : out ≡ put out₀ 0 ys
+
+-- ---- the entry at the start of a journal
+-- its call; no whole good entry stands there: 13
+abbrev pub headCalled : ℕ → List ℕ → List ℕ → Head → Called
+headCalled room ws src Cut = record { ledger = ledgerOf ws; answer = answer.Refused 13 }
+headCalled room ws src Bad = record { ledger = ledgerOf ws; answer = answer.Refused 13 }
+headCalled room ws src (Whole b n) = entryIn room ws b (part src 3 (n - 3))
+
+-- the bytes that it writes
+abbrev pub headWritten : ℕ → List ℕ → List ℕ → Head → List ℕ
+headWritten room ws src Cut = []
+headWritten room ws src Bad = []
+headWritten room ws src (Whole b n) = writtenIn room (ledgerOf ws) b (part src 3 (n - 3))
+
+-- what is told: the bytes of the entry, 0 if no whole good one stands there; and 1 if it is cut short, else 0
+abbrev pub headTold : Head → List ℕ
+headTold Cut = 0 ∷ 1 ∷ []
+headTold Bad = 0 ∷ 0 ∷ []
+headTold (Whole b n) = n ∷ 0 ∷ []
 
 -- ---- the lookups
 abbrev pub placeNumber : Place → ℕ
@@ -118,26 +154,17 @@ abbrev pub amountsLeft : List ℕ → Amounts → List ℕ
 amountsLeft xs (amounts.Posted charge applied owed) = charge .0 ∷ applied .0 ∷ owed .0 ∷ []
 amountsLeft xs (amounts.Refused n) = xs
 
--- ---- a whole journal
--- 1: "output under .."
-abbrev pub reportNumber : Report → ℕ
-reportNumber (report.Written n) = 0
-reportNumber report.TooSmall = 1
+-- ---- the table of a ledger
+abbrev pub printedNumber : Printed → ℕ
+printedNumber (table.Table n) = 0
+printedNumber (table.Refused n) = n
 
--- the bytes written, and 13 if the journal ended bad (its table says `stopped,13`)
-abbrev pub toldLeft : List ℕ → Bool → Report → List ℕ
-toldLeft ts bad (report.Written n) = n ∷ cond bad 13 0 ∷ []
-toldLeft ts bad report.TooSmall = ts
+abbrev pub printedLeft : ℕ → Printed → ℕ
+printedLeft x (table.Table n) = n
+printedLeft x (table.Refused n) = x
 
--- the number answered, the output and what is told of the table of the journal s, with the claim for its calls
-pub record Tables (s out₀ ts out ts₁ : List ℕ) (n : ℕ) : Type 0 where
-  pub number : n ≡ reportNumber (reportOf (length out₀) s)
-  pub told : ts₁ ≡ toldLeft ts (isBad s) (reportOf (length out₀) s)
-  pub bytes : out ≡ put out₀ 0 (reported (length out₀) s)
-  pub claimed : Claimed s
-
--- and of its notices
-pub record Notices (s out₀ ts out ts₁ : List ℕ) (n : ℕ) : Type 0 where
-  pub number : n ≡ reportNumber (noticesReport (length out₀) s)
-  pub told : ts₁ ≡ toldLeft ts (isBad s) (noticesReport (length out₀) s)
-  pub bytes : out ≡ put out₀ 0 (noticed (length out₀) s)
+-- the number answered, the output and the bytes written after the table of l was asked for
+pub record Prints (l : Ledger) (out₀ : List ℕ) (x : ℕ) (out : List ℕ) (x₁ n : ℕ) : Type 0 where
+  pub number : n ≡ printedNumber (printedBy l false (length out₀))
+  pub written : x₁ ≡ printedLeft x (printedBy l false (length out₀))
+  pub bytes : out ≡ put out₀ 0 (printed l false (length out₀))

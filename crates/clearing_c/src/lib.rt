@@ -1,6 +1,8 @@
 // The calls for C and Rust programs: numbers and lent slices only, the ledger lent as 2,436 words (crate words). include/clearing.h is the
-// header. Each answers 0 if it was carried out, else the number of its cause, and then every lent buffer holds what it held.
-mod give;
+// header. Each answers 0 if it was carried out, else the number of its cause, and then every lent buffer holds what it held (but for what
+// clearing_entry tells of the entry).
+mod call;
+pub mod journals;
 
 ghost use mathlib.Core.Path.{_≡_};
 ghost use lib.ListN.{length};
@@ -9,13 +11,18 @@ ghost use Rattle.words.specs.Layout.{ledgerOf};
 ghost use Rattle.causes.specs.Causes.{request, file, cancel, close};
 ghost use Rattle.calls.specs.Machine.{stepIn, called};
 ghost use Rattle.calls.specs.Lookups.{amountsIn};
-ghost use Rattle.clearing_c.specs.Boundary.{dateOf, startOf, identityOf, requestOf, freshIn, Gives, Opens, amountsNumber, amountsLeft, Tables, Notices};
+ghost use Rattle.journal.specs.Entries.{headOf};
+ghost use Rattle.clearing_c.specs.Boundary.{dateOf, startOf, identityOf, requestOf, freshIn, Gives, headCalled, headWritten, headTold, Opens, amountsNumber, amountsLeft, Prints};
 use calls::lookups::Amounts;
 use calls::lookups::Place;
 use causes::CodeField;
 use causes::Request;
 use causes::Start;
+use engine::lookup;
+use journal::Body;
+use journal::Head;
 use ledger::Identity;
+use table::Printed;
 use units::Ccf;
 use units::Date;
 
@@ -31,16 +38,13 @@ pub extern "C" fn clearing_fresh(
 ) -> u64
     ensures { λ n. ⌜ Gives (freshIn (now (ledger .entry)) (startOf today tracking confirmation)) (now (ledger .entry)) (now (change .entry)) (now (counts .entry)) (now (ledger .exit)) (now (change .exit)) (now (counts .exit)) n ⌝ }
 {
-    if ledger.len() != 2436 {
-        return 2;
-    }
-    let s = Start {
+    let start = Start {
         today: Date(today),
         tracking,
         confirmation,
     };
-    let c = calls::days::fresh(words::read(ledger), s);
-    give::give(ledger, change, counts, c)
+    let mut none = [0];
+    call::call(ledger, &mut none, change, counts, Body::Fresh(start), b"")
 }
 
 // Close of day.
@@ -53,8 +57,15 @@ pub extern "C" fn clearing_close(
 ) -> u64
     ensures { λ n. ⌜ Gives (called (ledgerOf (now (ledger .entry))) (close (dateOf today))) (now (ledger .entry)) (now (change .entry)) (now (counts .entry)) (now (ledger .exit)) (now (change .exit)) (now (counts .exit)) n ⌝ }
 {
-    let c = calls::days::close_day(words::read(ledger), Date(today));
-    give::give(ledger, change, counts, c)
+    let mut none = [0];
+    call::call(
+        ledger,
+        &mut none,
+        change,
+        counts,
+        Body::Close(Date(today)),
+        b"",
+    )
 }
 
 // Request: the rate code in five bytes, the product as B or P.
@@ -91,8 +102,7 @@ pub extern "C" fn clearing_request(
         consumption: Ccf(consumption),
         scheduled: Date(scheduled),
     };
-    let c = calls::bills::request_bill(words::read(ledger), out, r);
-    give::give(ledger, change, counts, c)
+    call::call(ledger, out, change, counts, Body::Request(r), b"")
 }
 
 // A supplier file: its answers go to out.
@@ -107,8 +117,7 @@ pub extern "C" fn clearing_file(
     ensures { λ n. ⌜ Gives (called (ledgerOf (now (ledger .entry))) (file (now (s .entry)) (length (now (out .entry))))) (now (ledger .entry)) (now (change .entry)) (now (counts .entry)) (now (ledger .exit)) (now (change .exit)) (now (counts .exit)) n ⌝ }
     ensures { λ _. ⌜ now (out .exit) ≡ put (now (out .entry)) 0 (stepIn (ledgerOf (now (ledger .entry))) (file (now (s .entry)) (length (now (out .entry)))) .written) ⌝ }
 {
-    let c = calls::files::take_file(words::read(ledger), out, s);
-    give::give(ledger, change, counts, c)
+    call::call(ledger, out, change, counts, Body::File, s)
 }
 
 // Cancel.
@@ -124,8 +133,8 @@ pub extern "C" fn clearing_cancel(
     ensures { λ n. ⌜ Gives (called (ledgerOf (now (ledger .entry))) (cancel (identityOf account key) (length (now (out .entry))))) (now (ledger .entry)) (now (change .entry)) (now (counts .entry)) (now (ledger .exit)) (now (change .exit)) (now (counts .exit)) n ⌝ }
     ensures { λ _. ⌜ now (out .exit) ≡ put (now (out .entry)) 0 (stepIn (ledgerOf (now (ledger .entry))) (cancel (identityOf account key) (length (now (out .entry)))) .written) ⌝ }
 {
-    let c = calls::bills::cancel_bill(words::read(ledger), out, Identity { account, key });
-    give::give(ledger, change, counts, c)
+    let id = Identity { account, key };
+    call::call(ledger, out, change, counts, Body::Cancel(id), b"")
 }
 
 // Lookup: the place of an open bill of an account.
@@ -133,7 +142,7 @@ pub extern "C" fn clearing_cancel(
 pub extern "C" fn clearing_open_bill(ledger: &[u64], account: u64, place: &mut u64) -> u64
     ensures { λ n. ⌜ Opens (ledgerOf (now (ledger .entry))) account (now (place .entry)) (now (place .exit)) n ⌝ }
 {
-    let found = calls::lookups::open_bill_of(words::read(ledger), account);
+    let found = lookup::open_bill_in(ledger, account);
     match found {
         Place::At(p) => {
             *place = p as u64;
@@ -154,7 +163,7 @@ pub extern "C" fn clearing_amounts(
     ensures { λ n. ⌜ n ≡ amountsNumber (amountsIn (ledgerOf (now (ledger .entry))) (identityOf account key)) ⌝ }
     ensures { λ _. ⌜ now (amounts .exit) ≡ amountsLeft (now (amounts .entry)) (amountsIn (ledgerOf (now (ledger .entry))) (identityOf account key)) ⌝ }
 {
-    let found = calls::lookups::amounts_of(words::read(ledger), Identity { account, key });
+    let found = lookup::amounts_in(ledger, Identity { account, key });
     match found {
         Amounts::Posted {
             charge,
@@ -169,20 +178,50 @@ pub extern "C" fn clearing_amounts(
     }
 }
 
-// The posted table of a whole journal; told are the bytes written, and 13 if the journal ended bad, else 0.
+// The posted table of a ledger, without a line after a bad entry; written are its bytes.
 #[no_mangle]
-pub extern "C" fn clearing_table(journal: &[u8], out: &mut [u8], told: &mut [u64; 2]) -> u64
-    ensures { λ n. ⌜ Tables (now (journal .entry)) (now (out .entry)) (now (told .entry)) (now (out .exit)) (now (told .exit)) n ⌝ }
+pub extern "C" fn clearing_ledger_table(ledger: &[u64], out: &mut [u8], written: &mut u64) -> u64
+    ensures { λ n. ⌜ Prints (ledgerOf (now (ledger .entry))) (now (out .entry)) (now (written .entry)) (now (out .exit)) (now (written .exit)) n ⌝ }
 {
-    let r = report::post_table(journal, out);
-    give::tell(told, r)
+    let p = table::print_words(out, ledger, false);
+    match p {
+        Printed::Table(n) => {
+            *written = n as u64;
+            0
+        }
+        Printed::Refused(n) => n,
+    }
 }
 
-// The notices of a whole journal; told are the bytes written, and 13 if the journal ended bad, else 0.
+// The journal entry at the start of some bytes, before which so many entries came; told are its bytes, 0 where no whole good one stands there
+// (13), and 1 if it is cut short, else 0.
 #[no_mangle]
-pub extern "C" fn clearing_notices(journal: &[u8], out: &mut [u8], told: &mut [u64; 2]) -> u64
-    ensures { λ n. ⌜ Notices (now (journal .entry)) (now (out .entry)) (now (told .entry)) (now (out .exit)) (now (told .exit)) n ⌝ }
+pub extern "C" fn clearing_entry(
+    ledger: &mut [u64],
+    journal: &[u8],
+    seen: u64,
+    out: &mut [u8],
+    change: &mut i64,
+    counts: &mut [u64; 4],
+    told: &mut [u64; 2],
+) -> u64
+    ensures { λ n. ⌜ Gives (headCalled (length (now (out .entry))) (now (ledger .entry)) (now (journal .entry)) (headOf seen (now (journal .entry)))) (now (ledger .entry)) (now (change .entry)) (now (counts .entry)) (now (ledger .exit)) (now (change .exit)) (now (counts .exit)) n ⌝ }
+    ensures { λ _. ⌜ now (out .exit) ≡ put (now (out .entry)) 0 (headWritten (length (now (out .entry))) (now (ledger .entry)) (now (journal .entry)) (headOf seen (now (journal .entry)))) ⌝ }
+    ensures { λ _. ⌜ now (told .exit) ≡ headTold (headOf seen (now (journal .entry))) ⌝ }
 {
-    let r = report::brn_file::post_notices(journal, out);
-    give::tell(told, r)
+    let h = journal::head_at(journal, seen);
+    match h {
+        Head::Cut => {
+            *told = [0, 1];
+            13
+        }
+        Head::Bad => {
+            *told = [0, 0];
+            13
+        }
+        Head::Whole(body, n) => {
+            *told = [n as u64, 0];
+            call::call(ledger, out, change, counts, body, &journal[3..n])
+        }
+    }
 }

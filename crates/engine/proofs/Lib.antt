@@ -2,3 +2,5 @@
 pub mod WordCalls
 pub mod MadeParts
 pub mod LookupLaws
+pub mod RunLaws
+pub mod RanLaws

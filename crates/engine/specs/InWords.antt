@@ -4,11 +4,13 @@ use mathlib.Core.Path.{_≡_}
 use mathlib.Core.Bool.{Bool, true}
 use mathlib.Core.List.{List}
 use Rattle.fields.specs.Put.{put, part}
+use Rattle.ledger.specs.declared.Ledger.{Ledger}
 use Rattle.ledger.specs.Sound.{soundLedger}
-use Rattle.words.specs.Layout.{holdsLedger, ledgerOf}
+use Rattle.words.specs.Layout.{holdsLedger, ledgerWords, ledgerOf}
 use Rattle.group.specs.Turns.{said}
 use Rattle.causes.specs.Causes.{Call}
 use Rattle.calls.specs.declared.Answer.{Answer}
+use Rattle.calls.specs.declared.Answer.the-variants as answer
 use Rattle.calls.specs.Machine.{called, stepIn}
 use Rattle.journal.specs.declared.Body.{Body}
 use Rattle.journal.specs.declared.Head.{Head}
@@ -26,6 +28,11 @@ pub record CalledIn (writes : Bool) (c : Call) (ws₀ out₀ ws out : List ℕ) 
   pub ledger : ledgerOf ws ≡ called (ledgerOf ws₀) c .ledger
   pub answer : a ≡ called (ledgerOf ws₀) c .answer
   pub bytes : out ≡ put out₀ 0 (said writes (stepIn (ledgerOf ws₀) c .written))
+
+-- "changed only by a call that succeeds": the words after a call that by value leaves l and answers so
+abbrev pub wordsLeft : List ℕ → Ledger → Answer → List ℕ
+wordsLeft ws l (answer.Done r) = ledgerWords l
+wordsLeft ws l (answer.Refused n) = ws
 
 -- ---- an entry of a journal, whose call is lent so much room
 -- what its call by value leaves, answers and writes

@@ -10,7 +10,7 @@ ghost use Rattle.causes.specs.Causes.{request, cancel, close, file};
 ghost use Rattle.causes.specs.Requests.{closes};
 ghost use Rattle.calls.specs.Machine.{called};
 ghost use Rattle.calls.specs.Days.{freshCalled};
-ghost use Rattle.engine.specs.InWords.{CalledIn};
+ghost use Rattle.engine.specs.InWords.{CalledIn, wordsLeft};
 use crate::file_groups;
 use calls::Answer;
 use causes::Request;
@@ -122,10 +122,10 @@ pub fn close_in(ws: &mut [u64], d: Date) -> Answer
     calls::days::quiet(closed)
 }
 
-// Fresh: whatever the words held is gone.
+// Fresh: whatever the words held is gone; a fresh that is refused leaves each as it was.
 pub fn fresh_in(ws: &mut [u64], s: Start) -> Answer
     requires { ⌜ length (now ws) ≡ 2436 ⌝ }
-    ensures { λ a. ⌜ (ledgerOf (now (ws .exit)) ≡ freshCalled (ledgerOf (now (ws .entry))) s .ledger) × (a ≡ freshCalled (ledgerOf (now (ws .entry))) s .answer) ⌝ }
+    ensures { λ a. ⌜ (ledgerOf (now (ws .exit)) ≡ freshCalled (ledgerOf (now (ws .entry))) s .ledger) × (a ≡ freshCalled (ledgerOf (now (ws .entry))) s .answer) × (now (ws .exit) ≡ wordsLeft (now (ws .entry)) (freshCalled (ledgerOf (now (ws .entry))) s .ledger) (freshCalled (ledgerOf (now (ws .entry))) s .answer)) ⌝ }
 {
     let check = checks::fresh_check(s);
     if let Check::Stop(n) = check {

@@ -1,22 +1,18 @@
 -- The table of a journal and the claim for its calls. Assumes nothing.
-use Prim.Native.Nat.{ℕ, _+_, _-_, _≤_, _<_}
-use mathlib.Core.Path.{_≡_, refl, sym, ap, _∙_}
+use Prim.Native.Nat.{ℕ, _≤_, _<_}
+use mathlib.Core.Path.{_≡_, refl, ap}
 use mathlib.Core.Bool.{Bool, true, false, _||_}
 use mathlib.Core.List.{List, []}
-use native.Mathlib.Omega.{arith}
 use lib.Dec.{eqb, ltb}
-use lib.ListN.{length, length-drop}
+use lib.ListN.{length}
 use borrow.Author.Tests.{lt-ltb, le-ltb}
 use Rattle.fields.specs.Put.{put}
 use Rattle.fields.proofs.PutLaws.{put-nil}
-use Rattle.ledger.specs.Books.{book}
+use Rattle.ledger.specs.Books.{Book}
 use Rattle.table.specs.Table.{tableOf}
 use Rattle.history.proofs.ClaimProof.{claim}
 use Rattle.journal.specs.Journal.{Entry, parse, makes, noBook, endsBad, ledgerOf, isBad, callsOf}
 use Rattle.journal.proofs.BeginLaws.{Begins, nothing, begins, journal-begins}
-use Rattle.replay.specs.declared.Reader.{Reader}
-use Rattle.replay.specs.declared.Walked.{Walked}
-use Rattle.replay.specs.Reader.{Walks}
 use Rattle.report.specs.declared.Report.the-variants.{Written, TooSmall}
 use Rattle.report.specs.Report.{postedOf, Claimed, empty, holds, reportOf, reported, Reports}
 
@@ -42,23 +38,10 @@ claimed s = go (journal-begins s)
     go (begins start bytes es c e k) = holds start bytes es e c k (claim start c (callsOf es))
 
 -- ---- the table
--- a walk over the whole journal, from its start
-pub walked : (s : List ℕ) (r : Reader) (w : Walked) (left : ℕ) → book (r .ledger) ≡ noBook → r .seen ≡ 0 → Walks r s w → left ≡ length s - w .used
-    → tableOf (book (w .reader .ledger)) (endsBad (w .stopped) left (w .reader .seen)) ≡ postedOf s
-unfolding postedOf ledgerOf isBad
-walked s r w left k z h e =
-    let o : 0 + length (parse 0 s .entries) ≡ length (parse 0 s .entries) = omega arith in
-    let d : left ≡ length (parse (r .seen) s .rest) = e ∙ sym (length-drop (w .used) s) ∙ ap length (h .rest) in
-    rw (h .ledger, h .stopped, h .seen, d, k, z, o)
-
--- and whether it ended bad
-pub walked-bad : (s : List ℕ) (r : Reader) (w : Walked) (left : ℕ) → r .seen ≡ 0 → Walks r s w → left ≡ length s - w .used
-    → endsBad (w .stopped) left (w .reader .seen) ≡ isBad s
-unfolding isBad
-walked-bad s r w left z h e =
-    let o : 0 + length (parse 0 s .entries) ≡ length (parse 0 s .entries) = omega arith in
-    let d : left ≡ length (parse (r .seen) s .rest) = e ∙ sym (length-drop (w .used) s) ∙ ap length (h .rest) in
-    rw (h .stopped, h .seen, d, z, o)
+-- the table of the ledger that a journal leaves
+pub table-is : (s : List ℕ) (k : Book) (bad : Bool) → k ≡ ledgerOf s → bad ≡ isBad s → tableOf k bad ≡ postedOf s
+unfolding postedOf
+table-is s k bad e f = rw (e, f)
 
 module _ (s out₀ : List ℕ) (bad : Bool) (b : bad ≡ isBad s) where
   pub refused : length out₀ < 10970 → Reports s out₀ out₀ (record { report = TooSmall; stopped = bad })

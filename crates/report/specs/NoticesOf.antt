@@ -1,7 +1,7 @@
 -- The notices of a whole journal in a lent output: those of every call carried out, in order. Assumes nothing.
 use Prim.Native.Nat.{ℕ}
 use mathlib.Core.Path.{_≡_}
-use mathlib.Core.Bool.{Bool, cond}
+use mathlib.Core.Bool.{cond}
 use mathlib.Core.List.{List, []}
 use lib.Dec.{ltb}
 use lib.ListN.{length}
@@ -24,9 +24,3 @@ pub record ReportsNotices (s out₀ out : List ℕ) (r : Reported) : Type 0 wher
   pub answer : r .report ≡ noticesReport (length out₀) s
   pub stopped : r .stopped ≡ isBad s
   pub bytes : out ≡ put out₀ 0 (noticed (length out₀) s)
-
--- a pass over the journal s: the length of its BRN file, how it ends and, where it is to be written, the file's bytes
-pub record Passes (s : List ℕ) (writes : Bool) (out₀ out : List ℕ) (n : ℕ) (stopped : Bool) : Type 0 where
-  pub all : n ≡ length (brnOf s)
-  pub ends : stopped ≡ isBad s
-  pub bytes : out ≡ put out₀ 0 (cond writes (brnOf s) [])

@@ -1,72 +1,52 @@
 // The notices of a journal: the bytes of its BRN file.
 ghost use mathlib.Core.Path.{_≡_};
-ghost use mathlib.Core.Bool.{true, cond};
 ghost use Prim.Native.Nat.{_≤_};
 ghost use lib.ListN.{length};
+ghost use Rattle.fields.specs.Put.{put};
 ghost use Rattle.journal.specs.Made.{brnOf};
-ghost use Rattle.report.specs.NoticesOf.{Passes, ReportsNotices};
+ghost use Rattle.report.specs.NoticesOf.{ReportsNotices};
 use crate::Report;
 use crate::Reported;
+use engine::run;
 
-// How many bytes the notices of a journal have, and whether a bad entry stopped it.
-struct Measured {
-    length: usize,
-    stopped: bool,
-}
-
-// So many where bytes are to be written, else none.
-fn counted(writes: bool, n: usize) -> usize
-    ensures { λ r. ⌜ r ≡ cond writes n 0 ⌝ }
+// Writes the notices of a journal into an output that has room for them. A run stops where fewer bytes are left than one entry may write, so the last
+// notices, which have fewer, are made in a buffer of twice that and put behind.
+fn write_notices(src: &[u8], out: &mut [u8])
+    requires { ⌜ length (brnOf (now src)) ≤ length (now out) ⌝ }
+    ensures { λ _. ⌜ now (out .exit) ≡ put (now (out .entry)) 0 (brnOf (now (src .entry))) ⌝ }
 {
-    if writes { n } else { 0 }
-}
-
-// Makes the calls of a journal, adds up what they write and, where it is to be written, puts each call's after what came before.
-fn pass(src: &[u8], out: &mut [u8], writes: bool) -> Measured
-    requires { ⌜ (writes ≡ true → length (brnOf (now src)) ≤ length (now out)) ⌝ }
-    ensures { λ m. ⌜ Passes (now (src .entry)) writes (now (out .entry)) (now (out .exit)) (m .length) (m .stopped) ⌝ }
-{
-    let mut written = [0u8; 64200];
-    let r = replay::start();
-    let mut l = r.ledger;
-    let mut seen = 0;
-    let mut at = 0;
-    let mut n = 0;
-    loop {
-        let t = journal::make::next_entry(l, &mut written, &src[at..], seen);
-        let next = t.ledger;
-        l = next;
-        let used = t.used;
-        if used == 0 {
-            let stopped = journal::ends_bad(t.stopped, src.len() - at, seen);
-            return Measured { length: n, stopped };
-        }
-        let m = t.written;
-        let to = counted(writes, n);
-        let size = counted(writes, m);
-        fields::put_bytes(out, to, &written[..size]);
-        n += m;
-        at += used;
-        seen += 1;
+    let mut ws = [0u64; 2436];
+    run::start(&mut ws);
+    let r = run::run(&mut ws, out, true, src, 0);
+    let full = r.full;
+    if !full {
+        return;
     }
+    let mut last = [0u8; 128400];
+    let from = r.used;
+    let q = run::run(&mut ws, &mut last, true, &src[from..], r.seen);
+    let size = q.written;
+    fields::put_bytes(out, r.written, &last[..size]);
 }
 
-// Writes the notices of a whole journal, or nothing if the output lent is too small for them: the first pass only measures.
+// Writes the notices of a whole journal, or nothing if the output lent is too small for them: a first run only measures.
 pub fn post_notices(src: &[u8], out: &mut [u8]) -> Reported
     ensures { λ r. ⌜ ReportsNotices (now (src .entry)) (now (out .entry)) (now (out .exit)) r ⌝ }
 {
-    let m = pass(src, out, false);
-    let n = m.length;
-    let stopped = m.stopped;
-    if out.len() < n {
+    let mut ws = [0u64; 2436];
+    let mut none = [0u8; 1];
+    run::start(&mut ws);
+    let r = run::run(&mut ws, &mut none, false, src, 0);
+    let stopped = journal::ends_bad(r.stopped, src.len() - r.used, r.seen);
+    if out.len() < r.written {
         return Reported {
             report: Report::TooSmall,
             stopped,
         };
     }
-    pass(src, out, true);
+    write_notices(src, out);
     Reported {
-        report: Report::Written(n),
+        report: Report::Written(r.written),
         stopped,
     }
 }

@@ -1,29 +1,26 @@
 -- The parts of a ledger in words: what a read gives, and what a store leaves. Assumes nothing.
 use Prim.Native.Nat.{ℕ, zero, suc, _+_, _*_, _≤_, _<_}
 use mathlib.Core.Path.{_≡_, refl, sym, ap, ap₂, _∙_}
-use mathlib.Core.Bool.{Bool, true, false, _&&_}
+use mathlib.Core.Bool.{Bool, true, _&&_}
 use mathlib.Core.List.{List, [], _∷_, _++_}
 use native.Mathlib.Omega.{arith}
 use native.Mathlib.Nat.{not-suc-le-zero, le-of-suc-le-suc}
 use mir.Val.{Val}
 use denote.Laws.{Is}
 use lib.Dec.{eqb}
-use lib.ListN.{length, take, drop, getD, set, length-set, length-drop}
-use lib.Seq.{slice, drop-drop, drop-at, drop-cons}
-use borrow.Author.Tests.{eq-eqb, lt-ltb}
+use lib.ListN.{length, drop, getD, set, length-set, length-drop}
+use lib.Seq.{drop-at}
+use borrow.Author.Tests.{eq-eqb}
 use Rattle.fields.specs.Put.{put}
 use Rattle.fields.proofs.BoolLaws.{and-left, and-right}
 use Rattle.ledger.specs.declared.Identity.{Identity}
 use Rattle.ledger.specs.declared.Bill.{Bill}
 use Rattle.ledger.specs.declared.Ledger.{Ledger}
 use Rattle.ledger.specs.declared.LedgerHeader.{LedgerHeader}
-use Rattle.ledger.specs.declared.Found.{Found}
-use Rattle.ledger.specs.declared.Found.the-variants.{At, Nothing}
-use Rattle.ledger.specs.Lists.{every, find}
+use Rattle.ledger.specs.Lists.{every}
 use Rattle.ledger.specs.Bills.{blankBill}
 use Rattle.ledger.specs.Books.{billAt, headerOf, ofId, replaced, withHeader}
 use Rattle.ledger.proofs.Bill.{the-row}
-use Rattle.ledger.proofs.ListLaws.{find-hit, find-miss, slice-end}
 use Rattle.words.specs.Layout.{billWords, billsWords, headWords, ledgerWords, holdsCode, holdsBill, holdsBills, holdsLedger, date, codeIn, termsIn, billIn, billsIn, ledgerIn, ledgerOf, byteCode}
 use Rattle.words.proofs.WordLaws.{length-bill, words-long, words-bills, of-words, words-ledger, holds-words, ledger-words}
 use Rattle.words.proofs.PlaceLaws.{place-at, next-place}

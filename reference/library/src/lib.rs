@@ -1,7 +1,7 @@
 //! The functions of libclearing_c.a (`include/clearing.h`) for Rust: argument for argument, without unsafe.
 //!
 //! Each returns 0 if the call is carried out, else document 01's number; then all that was lent to it holds what it
-//! held before. A slice is never null, and two lent for writing never overlap: what C must promise, Rust sees to.
+//! held before, but for what `entry` tells. A slice is never null, and two lent for writing never overlap: what C must promise, Rust sees to.
 //! `change`: new posted total minus old, in cents; `counts`: bytes written, groups accepted and rejected, bills closed.
 
 mod raw;
@@ -114,6 +114,41 @@ pub fn open_bill(ledger: &[u64], account: u64, place: &mut u64) -> u64 {
 pub fn amounts(ledger: &[u64], account: u64, key: u64, amounts: &mut [u64; 3]) -> u64 {
     // SAFETY: as for fresh.
     unsafe { raw::clearing_amounts(ledger.as_ptr(), ledger.len(), account, key, amounts.as_mut_ptr()) }
+}
+
+/// The posted table of a ledger; written: its bytes.
+pub fn ledger_table(ledger: &[u64], out: &mut [u8], written: &mut u64) -> u64 {
+    let (bytes, length) = (out.as_mut_ptr(), out.len());
+    // SAFETY: as for fresh.
+    unsafe { raw::clearing_ledger_table(ledger.as_ptr(), ledger.len(), bytes, length, written) }
+}
+
+/// The entry that begins the bytes of a journal, before which so many came; told: its bytes, or 0 where no whole good
+/// entry stands there, and then 1 if the bytes end before it does, else 0.
+pub fn entry(
+    ledger: &mut [u64],
+    journal: &[u8],
+    seen: u64,
+    out: &mut [u8],
+    change: &mut i64,
+    counts: &mut [u64; 4],
+    told: &mut [u64; 2],
+) -> u64 {
+    // SAFETY: as for fresh.
+    unsafe {
+        raw::clearing_entry(
+            ledger.as_mut_ptr(),
+            ledger.len(),
+            journal.as_ptr(),
+            journal.len(),
+            seen,
+            out.as_mut_ptr(),
+            out.len(),
+            change,
+            counts.as_mut_ptr(),
+            told.as_mut_ptr(),
+        )
+    }
 }
 
 /// The posted table of a journal; told: bytes written, and 13 if it was stopped, else 0.

@@ -50,6 +50,25 @@ unsafe extern "C" {
     pub fn clearing_close(ledger: *mut u64, ledger_len: usize, today: u64, change: *mut i64, counts: *mut u64) -> u64;
     pub fn clearing_open_bill(ledger: *const u64, ledger_len: usize, account: u64, place: *mut u64) -> u64;
     pub fn clearing_amounts(ledger: *const u64, ledger_len: usize, account: u64, key: u64, amounts: *mut u64) -> u64;
+    pub fn clearing_ledger_table(
+        ledger: *const u64,
+        ledger_len: usize,
+        out: *mut u8,
+        out_len: usize,
+        written: *mut u64,
+    ) -> u64;
+    pub fn clearing_entry(
+        ledger: *mut u64,
+        ledger_len: usize,
+        journal: *const u8,
+        journal_len: usize,
+        seen: u64,
+        out: *mut u8,
+        out_len: usize,
+        change: *mut i64,
+        counts: *mut u64,
+        told: *mut u64,
+    ) -> u64;
     pub fn clearing_table(journal: *const u8, journal_len: usize, out: *mut u8, out_len: usize, told: *mut u64) -> u64;
     pub fn clearing_notices(
         journal: *const u8,

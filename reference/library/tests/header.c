@@ -1,5 +1,5 @@
-/* Document 01's example through the calls and lookups, and through the table; prints the table. Any other answer than
-   expected ends it with status 1. */
+/* Document 01's example through the calls and lookups, through the table and streamed entry by entry; prints the table
+   of the journal and that of the ledger which the entries left. Any other answer than expected ends it with status 1. */
 #include "clearing.h"
 
 #include <assert.h>
@@ -107,9 +107,35 @@ static int try_calls(const uint8_t *file) {
         && expect("change", (uint64_t)-change, 4250);
 }
 
+/* Streams a journal, lending 100 bytes more of it where an entry is cut short. */
+static int try_stream(const uint8_t *journal, size_t length) {
+    uint64_t seen = 0, told[2] = {9, 9};
+    size_t at = 0, lent = 0;
+    memset(ledger, 0xff, sizeof ledger);
+    while (at < length) {
+        uint64_t answer = clearing_entry(ledger, CLEARING_WORDS, journal + at, lent - at, seen, out, sizeof out,
+                                         &change, counts, told);
+        if (answer == CLEARING_BAD_ENTRY && told[1] == 1 && lent < length) {
+            lent = length - lent > 100 ? lent + 100 : length;
+            continue;
+        }
+        if (!expect("entry", answer, CLEARING_DONE) || !expect("bytes after it", told[1], 0)) {
+            return 0;
+        }
+        at += told[0];
+        seen++;
+    }
+    return expect("entries", seen, 3) && expect("bytes of the ACF", counts[0], CLEARING_RECORD_BYTES)
+        && expect("accepted", counts[1], 1) && expect("change", (uint64_t)change, 4250) && try_words()
+        && expect("a second fresh",
+                  clearing_entry(ledger, CLEARING_WORDS, journal, length, seen, out, sizeof out, &change, counts, told),
+                  CLEARING_BAD_ENTRY)
+        && expect("its bytes", told[0], 0) && expect("cut short", told[1], 0);
+}
+
 int main(void) {
     uint8_t file[CLEARING_NOTICE_BYTES], journal[1000];
-    uint64_t told[2] = {9, 9};
+    uint64_t told[2] = {9, 9}, written = 9;
     make_file(file);
     size_t length = make_journal(journal, file);
     if (!try_calls(file)
@@ -120,5 +146,11 @@ int main(void) {
         return 1;
     }
     fwrite(out, 1, told[0], stdout);
+    if (!try_stream(journal, length)
+        || !expect("ledger table", clearing_ledger_table(ledger, CLEARING_WORDS, out, sizeof out, &written),
+                   CLEARING_DONE)) {
+        return 1;
+    }
+    fwrite(out, 1, written, stdout);
     return 0;
 }

@@ -1,4 +1,4 @@
-//! bench: how long posted and brn take beside the reference's, and how much memory each needs at most.
+//! bench: how long posted, brn and trace take beside the reference's, and how much memory each needs at most.
 
 use std::fs::{self, File};
 use std::io::{self, BufWriter, Read, Write};
@@ -10,18 +10,20 @@ use std::time::{Duration, Instant};
 use reference::workload::Workload;
 
 const USAGE: &str = "\
-bench [--posted PATH] [--brn PATH] [--reference PATH] [--runs N] [--percent P] [--dir DIR] [--megabytes M] [--limit]
-    --posted, --brn  the programs to measure, one or both
-    --reference  what the program named just before is measured against (posted-ref or brn-ref beside this one)
+bench [--posted PATH] [--brn PATH] [--trace PATH] [--reference PATH] [--runs N] [--percent P] [--only WORDS]
+      [--dir DIR] [--megabytes M] [--limit]
+    --posted, --brn, --trace  the programs to measure, some or all
+    --reference  what the program named just before is measured against (posted-ref, .. beside this one)
     --runs       runs of each program on each journal, in turn, output dropped (5); one more compares the outputs
-    --percent    size of the journals in percent (100: about 10^6 entries)
+    --percent    size of the journals in percent (100: about 10^6 entries, of those without work more)
+    --only       only the journals whose name has these words
     --dir        where the journals are kept meanwhile (a directory in the system's temporary one)
     --megabytes  size of the journal streamed to measure memory (1000)
     --limit      instead, posted only: streams 1,000,000,000 entries, then one more, which must be bad (3 GB, twice)";
 
 /// A program to measure, and the reference's that must write the same bytes.
 struct Pair {
-    /// posted or brn
+    /// posted, brn or trace
     name: &'static str,
     program: String,
     reference: String,
@@ -31,6 +33,7 @@ struct Plan {
     pairs: Vec<Pair>,
     runs: usize,
     percent: u64,
+    only: String,
     dir: PathBuf,
     megabytes: u64,
     limit: bool,
@@ -56,6 +59,12 @@ const JOURNALS: &[(&str, u64, Make)] = &[
     }),
     ("bills held: 16", 300_000, |out, files| made(Workload::new(out, 16)?, |work| work.responses(files, 1))),
     ("bills held: 128", 300_000, |out, files| made(Workload::new(out, 128)?, |work| work.responses(files, 1))),
+    ("refused closes, 128 bills", 30_000_000, |out, entries| {
+        made(Workload::new(out, 128)?, |work| work.refused_closes(entries))
+    }),
+    ("empty files, 128 bills", 40_000_000, |out, entries| {
+        made(Workload::new(out, 128)?, |work| work.empty_files(entries))
+    }),
 ];
 
 fn main() {
@@ -72,6 +81,7 @@ fn read_plan() -> Plan {
         pairs: Vec::new(),
         runs: 5,
         percent: 100,
+        only: String::new(),
         dir: std::env::temp_dir().join(format!("bench-{}", std::process::id())),
         megabytes: 1000,
         limit: false,
@@ -82,9 +92,11 @@ fn read_plan() -> Plan {
         match word.as_str() {
             "--posted" => plan.pairs.push(pair("posted", value())),
             "--brn" => plan.pairs.push(pair("brn", value())),
+            "--trace" => plan.pairs.push(pair("trace", value())),
             "--reference" => plan.pairs.last_mut().unwrap_or_else(|| stop(USAGE)).reference = value(),
             "--runs" => plan.runs = value().parse().unwrap_or_else(|_| stop(USAGE)),
             "--percent" => plan.percent = value().parse().unwrap_or_else(|_| stop(USAGE)),
+            "--only" => plan.only = value(),
             "--dir" => plan.dir = value().into(),
             "--megabytes" => plan.megabytes = value().parse().unwrap_or_else(|_| stop(USAGE)),
             "--limit" => plan.limit = true,
@@ -110,7 +122,7 @@ fn measure(plan: &Plan, pair: &Pair) -> io::Result<()> {
         "{:<36}{:>9}{:>8}{:>12}{:>12}{:>8}{:>8}",
         "journal", "entries", "MB", "ns/entry", "reference", "ratio", "best"
     );
-    for (name, entries, make) in JOURNALS {
+    for (name, entries, make) in JOURNALS.iter().filter(|journal| journal.0.contains(&plan.only)) {
         let path = plan.dir.join("bench.journal");
         let result = one_journal(plan, pair, &path, (name, entries * plan.percent / 100, *make));
         fs::remove_file(&path)?;

@@ -1,4 +1,4 @@
-//! compare: holds two programs against the reference, on journals made from seeds.
+//! compare: holds the programs against the reference, on journals made from seeds.
 
 use std::io::{Read, Write};
 use std::process::{exit, Command, ExitStatus, Stdio};
@@ -16,10 +16,10 @@ use reference::show::show;
 use reference::shrink::shrink;
 
 const USAGE: &str = "\
-compare --posted PATH --brn PATH --seeds FROM COUNT [--threads N]
-    makes the journals of the seeds, runs both programs on each and compares their output with the reference's, and
+compare --posted PATH --brn PATH --trace PATH --seeds FROM COUNT [--threads N]
+    makes the journals of the seeds, runs the programs on each and compares their output with the reference's, and
     what they say on standard error: nothing, but `stopped,13` by brn where a bad entry stopped the journal
-    (one of the two programs may be left out); before that, asks how each answers an argument: how it is used on
+    (some of the programs may be left out); before that, asks how each answers an argument: how it is used on
     standard error, nothing on standard output, and standard input, which stays open, is left alone
 compare --self-check FROM COUNT [--threads N]
     the same without programs: only the reference against its history
@@ -41,6 +41,7 @@ const WAITING: &[u8] = b"\x00\x00\x1a20171113000000001000000001";
 struct Plan {
     posted: Option<String>,
     brn: Option<String>,
+    trace: Option<String>,
     from: u64,
     count: u64,
     threads: u64,
@@ -53,6 +54,7 @@ struct Tally {
     journal_bytes: u64,
     table_bytes: u64,
     notice_bytes: u64,
+    trace_bytes: u64,
     /// Runs that ended with another status than 0.
     failures: u64,
     difference: Option<(u64, String)>,
@@ -84,12 +86,13 @@ fn main() {
     }
     print!("{}", tally.coverage.report());
     println!(
-        "{} seeds equal: {} calls, {} bytes of journals, {} of tables, {} of notices, {:.1} s",
+        "{} seeds equal: {} calls, {} bytes of journals, {} of tables, {} of notices, {} of traces, {:.1} s",
         plan.count,
         tally.calls,
         tally.journal_bytes,
         tally.table_bytes,
         tally.notice_bytes,
+        tally.trace_bytes,
         started.elapsed().as_secs_f64()
     );
     if tally.failures > 0 {
@@ -111,6 +114,10 @@ fn read_plan(words: &[&str]) -> Plan {
                 plan.brn = Some(path.to_string());
                 after
             }
+            ["--trace", path, after @ ..] => {
+                plan.trace = Some(path.to_string());
+                after
+            }
             ["--seeds" | "--self-check", from, count, after @ ..] => {
                 (plan.from, plan.count) = (number(from), number(count));
                 after
@@ -122,16 +129,21 @@ fn read_plan(words: &[&str]) -> Plan {
             _ => stop(USAGE),
         };
     }
-    let programs = plan.posted.is_some() || plan.brn.is_some();
+    let programs = plan.programs().next().is_some();
     if plan.count == 0 || !(programs || words.contains(&"--self-check")) {
         stop(USAGE);
     }
     plan
 }
 
+impl Plan {
+    fn programs(&self) -> impl Iterator<Item = &String> {
+        [&self.posted, &self.brn, &self.trace].into_iter().flatten()
+    }
+}
+
 fn ask_programs(plan: &Plan) -> Result<(), String> {
-    let programs = [&plan.posted, &plan.brn].into_iter().flatten();
-    let mut asked = programs.flat_map(|path| ARGUMENTS.map(|argument| (path, argument)));
+    let mut asked = plan.programs().flat_map(|path| ARGUMENTS.map(|argument| (path, argument)));
     asked.try_for_each(|(path, argument)| {
         let told = ask_usage(path, argument).unwrap_or_else(|error| stop(&format!("{path}: {error}")));
         told.map_or(Ok(()), |told| Err(format!("{path} {argument} {told}")))
@@ -215,6 +227,7 @@ impl Tally {
         self.journal_bytes += other.journal_bytes;
         self.table_bytes += other.table_bytes;
         self.notice_bytes += other.notice_bytes;
+        self.trace_bytes += other.trace_bytes;
         self.failures += other.failures;
         let earlier = |old: &(u64, String), new: &(u64, String)| new.0 < old.0;
         match (&self.difference, other.difference) {
@@ -228,7 +241,7 @@ impl Tally {
 fn try_seed(plan: &Plan, seed: u64) -> Tally {
     let journal = generator::make(seed);
     let mut tally = try_journal(plan, &journal);
-    tally.coverage = Coverage::of(&journal);
+    tally.coverage.merge(&Coverage::of(&journal));
     tally.journal_bytes = journal.len() as u64;
     tally.difference = tally.difference.map(|(_, told)| (seed, told));
     tally
@@ -247,18 +260,24 @@ fn try_journal(plan: &Plan, journal: &[u8]) -> Tally {
     tally.calls = expected.calls;
     tally.table_bytes = expected.table.len() as u64;
     tally.notice_bytes = expected.notices.len() as u64;
+    tally.trace_bytes = expected.trace.len() as u64;
+    tally.coverage.trace(&expected.trace);
     // Notices cannot say that a bad entry stopped the journal, so brn says it on standard error.
     let stopped = if expected.table.ends_with(STOPPED.as_bytes()) { STOPPED } else { "" };
-    let programs = [(&plan.posted, &expected.table, ""), (&plan.brn, &expected.notices, stopped)];
-    for (place, (path, wanted, wanted_error)) in programs.into_iter().enumerate() {
+    let programs = [
+        ("table", &plan.posted, &expected.table, ""),
+        ("notices", &plan.brn, &expected.notices, stopped),
+        ("trace", &plan.trace, &expected.trace, ""),
+    ];
+    for (what, path, wanted, wanted_error) in programs {
         let Some(path) = path else { continue };
         let (got, error, status) = run_program(path, journal);
         tally.failures += u64::from(!status.success());
         if got != *wanted || error != wanted_error || status.code().is_none() {
-            let told = match place {
+            let told = match what {
                 _ if got == *wanted => format!("standard error {error:?}, {wanted_error:?} expected"),
-                0 => first_line(&got, wanted),
-                _ => first_record(&got, wanted),
+                "notices" => first_record(&got, wanted),
+                _ => first_line(what, &got, wanted),
             };
             tally.difference = Some((0, format!("{path} ({status}): {told}")));
             return tally;
@@ -292,7 +311,7 @@ fn first_offset(got: &[u8], wanted: &[u8]) -> usize {
     got.iter().zip(wanted).take_while(|(a, b)| a == b).count()
 }
 
-fn first_line(got: &[u8], wanted: &[u8]) -> String {
+fn first_line(what: &str, got: &[u8], wanted: &[u8]) -> String {
     let offset = first_offset(got, wanted);
     let line = wanted[..offset].iter().filter(|byte| **byte == b'\n').count();
     let text = |table: &[u8]| match table.split(|byte| *byte == b'\n').nth(line) {
@@ -300,7 +319,7 @@ fn first_line(got: &[u8], wanted: &[u8]) -> String {
         None => "(no such line)".to_string(),
     };
     format!(
-        "table differs at byte {offset}, line {} ({} bytes, {} expected)\n  got      {}\n  expected {}",
+        "{what} differs at byte {offset}, line {} ({} bytes, {} expected)\n  got      {}\n  expected {}",
         line + 1,
         got.len(),
         wanted.len(),

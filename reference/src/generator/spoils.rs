@@ -114,7 +114,7 @@ pub const AMOUNTS: &[Spoil] = &[
 const TIERS: [usize; 4] = [88, 118, 148, 178];
 
 fn other_notification(sent: &mut Sent, rng: &mut Prng) {
-    let code = *rng.pick(&[b"XXX", b"BIL", b"ACF", b"REJ", b"CXL", b"rsp", b"SUp", b"   ", b"RS "]);
+    let code = *rng.pick(&[b"XXX", b"BIL", b"ACF", b"REJ", b"CXL", b"rsp", b"SUp", b"   ", b"RS ", b"R,P"]);
     text(&mut sent.header, 31, code);
     sent.details.iter_mut().for_each(|detail| text(detail, 31, code));
 }
@@ -129,7 +129,7 @@ pub fn spoil_digit(record: &mut Record, from: usize, to: usize, rng: &mut Prng) 
     if rng.chance(15) {
         record[from - 1..to].fill(b' ');
     } else {
-        record[rng.range(from, to) - 1] = *rng.pick(b" -+./:A~");
+        record[rng.range(from, to) - 1] = *rng.pick(b" -+.,/:A~");
     }
 }
 

@@ -7,8 +7,8 @@ use denote.Triple.Spec.{tripleOf}
 use denote.Triple.Table.{entered, cited}
 use Rattle.calls.specs.declared.Called.{Called}
 use Rattle.calls.specs.Days.{freshCalled}
-use Rattle.calls.proofs.Start as P
-use Rattle.calls.proofs.Start.Laws as P′
+use Rattle.causes.proofs.Start as P
+use Rattle.causes.proofs.Start.Laws as P′
 use Rattle.calls.proofs.days.fresh.Symbol as core-def
 use Rattle.calls.proofs.days.fresh.Symbol.{name as #core}
 use Rattle.calls.proofs.days.fresh.Met as core-thm

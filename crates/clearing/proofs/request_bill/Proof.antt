@@ -10,8 +10,8 @@ use denote.Triple.Spec.{tripleOf}
 use denote.Triple.Table.{entered, cited}
 use Rattle.fields.specs.Put.{put}
 use Rattle.causes.specs.declared.Request.{Request}
-use Rattle.calls.proofs.Request as P
-use Rattle.calls.proofs.Request.Laws as P′
+use Rattle.causes.proofs.Request as P
+use Rattle.causes.proofs.Request.Laws as P′
 use Rattle.ledger.specs.declared.Ledger.{Ledger}
 use Rattle.calls.specs.declared.Called.{Called}
 use Rattle.causes.specs.Causes.{request}

@@ -19,10 +19,10 @@ use Rattle.calls.specs.declared.Called.{Called}
 use Rattle.causes.specs.Causes.{Call, request, close}
 use Rattle.calls.specs.Machine.{stepIn, called, ran}
 use Rattle.calls.specs.Days.{freshCalled}
-use Rattle.calls.proofs.Start as S
-use Rattle.calls.proofs.Start.Laws as S′
-use Rattle.calls.proofs.Request as Q
-use Rattle.calls.proofs.Request.Laws as Q′
+use Rattle.causes.proofs.Start as S
+use Rattle.causes.proofs.Start.Laws as S′
+use Rattle.causes.proofs.Request as Q
+use Rattle.causes.proofs.Request.Laws as Q′
 use Rattle.clearing.proofs.Argument.{Arg, declared}
 use Rattle.clearing.proofs.LentLedger.{lent, outcome}
 use Rattle.clearing.proofs.fresh.Symbol as fresh-def

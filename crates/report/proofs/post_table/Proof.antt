@@ -1,55 +1,61 @@
--- `report::post_table` meets its contract: the walk reads the whole journal, and the table is that of its end.
-use mathlib.Core.Path.{refl, _∙_}
-use Rattle.report.proofs.ReportLaws.{walked, walked-bad, refused, posted}
+-- `report::post_table` meets its contract: the run makes the whole journal, and the table is that of its end.
+use mathlib.Core.Path.{_≡_, refl, sym, _∙_}
+use mathlib.Core.Bool.{false}
+use Rattle.engine.proofs.RanLaws.{journal-books, journal-bad}
+use Rattle.report.proofs.ReportLaws.{table-is, refused, posted}
 use borrow.Author.Needs.{needs}
 use Rattle.report.proofs.post_table.Statement.{statement}
 use Rattle.report.proofs.post_table.Tie as tie
-use Rattle.report.proofs.post_table.Reads as reads
 
--- src/lib.rt:51:31
+slice-aggregate-start : tie.Need-slice-aggregate-start
+slice-aggregate-start c = search needs
+
 start-requires : tie.Need-start-requires
 start-requires c κs = search needs
 
--- src/lib.rt:51:9
-walk-requires : tie.Need-walk-requires
-walk-requires c κs = c .start .ensures .0
+slice-aggregate-run : tie.Need-slice-aggregate-run
+slice-aggregate-run c = search needs
 
--- src/lib.rt:54:16
-sub-left : tie.Need-sub-left
-sub-left c = c .before .walk .ensures .used
+slice-aggregate-run-2 : tie.Need-slice-aggregate-run-2
+slice-aggregate-run-2 c = search needs
 
--- src/lib.rt:55:9
+run-requires : tie.Need-run-requires
+run-requires c κs = search needs
+
+sub-ends-bad : tie.Need-sub-ends-bad
+sub-ends-bad c = search needs
+
 ends-bad-requires : tie.Need-ends-bad-requires
 ends-bad-requires c κs = search needs
 
--- src/lib.rt:57:9
 returns : tie.Need-returns
-returns c = refused _ _ _ (c .before .ends-bad .ensures ∙ walked-bad _ _ _ _ (c .before .before .before .before .start .ensures .2) (c .before .before .before .walk .ensures) refl) (c .if1 .taken)
+returns c = refused _ _ _ (c .before .ends-bad .ensures ∙ (journal-bad false _ _ _ _ _ _ (c .before .before .before .before .before .run .ensures) (c .before .before .before .before .before .before .before .before .before .start .ensures .2) (c .before .before .before .before .before .run .ensures .full))) (c .if1 .taken)
 
--- src/lib.rt:62:9
-finish-requires : tie.Need-finish-requires
-finish-requires c κs = (c .before .before .before .before .walk .ensures .good, c .before .if1 .left)
+slice-aggregate-write-words : tie.Need-slice-aggregate-write-words
+slice-aggregate-write-words c = search needs
 
--- src/lib.rt:48:1
+write-words-requires : tie.Need-write-words-requires
+write-words-requires c κs = search needs
+
 same-length : tie.Need-same-length
 same-length c = search needs
 
--- src/lib.rt:48:1
 returns-2 : tie.Need-returns-2
-returns-2 c =
-    posted _ _ _ (c .before .before .before .before .before .ends-bad .ensures ∙ walked-bad _ _ _ _ (c .before .before .before .before .before .before .before .before .start .ensures .2) (c .before .before .before .before .before .before .before .walk .ensures) refl) _ _ _ (c .before .before .before .before .if1 .left)
-    (walked _ _ _ _ (c .before .before .before .before .before .before .before .before .start .ensures .1) (c .before .before .before .before .before .before .before .before .start .ensures .2) (c .before .before .before .before .before .before .before .walk .ensures) refl)
-    (c .before .before .finish .ensures .0) (c .before .before .finish .ensures .1 .0) (c .before .before .finish .ensures .1 .1)
+returns-2 c = posted _ _ _ (c .before .before .before .before .before .before .ends-bad .ensures ∙ (journal-bad false _ _ _ _ _ _ (c .before .before .before .before .before .before .before .before .before .before .run .ensures) (c .before .before .before .before .before .before .before .before .before .before .before .before .before .before .start .ensures .2) (c .before .before .before .before .before .before .before .before .before .before .run .ensures .full))) _ _ _ (c .before .before .before .before .before .if1 .left) (table-is _ _ _ (journal-books false _ _ _ _ _ _ (c .before .before .before .before .before .before .before .before .before .before .run .ensures) (c .before .before .before .before .before .before .before .before .before .before .before .before .before .before .start .ensures .2) (c .before .before .before .before .before .before .before .before .before .before .run .ensures .full)) (c .before .before .before .before .before .before .ends-bad .ensures ∙ (journal-bad false _ _ _ _ _ _ (c .before .before .before .before .before .before .before .before .before .before .run .ensures) (c .before .before .before .before .before .before .before .before .before .before .before .before .before .before .start .ensures .2) (c .before .before .before .before .before .before .before .before .before .before .run .ensures .full)))) (c .before .before .write-words .ensures .0) (c .before .before .write-words .ensures .1 .0) (c .before .before .write-words .ensures .1 .1)
 
 pub post-table-spec : {M : Type 1} → statement M
 post-table-spec =
     tie.close
     (tie.spec
+    slice-aggregate-start
     start-requires
-    walk-requires
-    sub-left
+    slice-aggregate-run
+    slice-aggregate-run-2
+    run-requires
+    sub-ends-bad
     ends-bad-requires
     returns
-    finish-requires
+    slice-aggregate-write-words
+    write-words-requires
     same-length
     returns-2)

@@ -1,5 +1,6 @@
 -- `table::print` meets its contract: each return is a case of the answer.
 use mathlib.Core.Path.{sym, _∙_}
+use native.Mathlib.Omega.{arith}
 use borrow.Author.Tests.{not-true, not-false}
 use Rattle.ledger.proofs.SoundLaws.{ledger-count, ledger-small}
 use Rattle.table.proofs.TableLaws.{prints-unsound, prints-none, prints}
@@ -14,7 +15,7 @@ returns : tie.Need-returns
 returns c = prints-unsound (c .before .before .before .args .l) (c .before .before .before .args .stopped) (c .before .before .before .args .out .now) (sym (c .before .sound .ensures) ∙ not-true _ (c .if1 .taken))
 
 returns-2 : tie.Need-returns-2
-returns-2 c = prints-none (c .before .before .before .before .args .l) (c .before .before .before .before .args .stopped) (c .before .before .before .before .args .out .now) (sym (c .before .before .sound .ensures) ∙ not-false _ (c .before .if1 .left)) (c .if2 .taken)
+returns-2 c = prints-none (c .before .before .before .before .args .l) (c .before .before .before .before .args .stopped) (c .before .before .before .before .args .out .now) (sym (c .before .before .sound .ensures) ∙ not-false _ (c .before .if1 .left)) (omega (arith, c .if2 .taken))
 
 write-requires : tie.Need-write-requires
 write-requires c κs =

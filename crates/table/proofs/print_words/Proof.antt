@@ -1,5 +1,6 @@
 -- `table::print_words` meets its contract: each return is a case of the answer.
 use mathlib.Core.Path.{sym, _∙_}
+use native.Mathlib.Omega.{arith}
 use borrow.Author.Tests.{not-true, not-false}
 use Rattle.words.specs.Layout.{ledgerOf}
 use Rattle.table.proofs.TableLaws.{prints-unsound, prints-none, prints}
@@ -14,7 +15,7 @@ returns : tie.Need-returns
 returns c = prints-unsound (ledgerOf (c .before .before .before .before .args .ws .now)) (c .before .before .before .before .args .stopped) (c .before .before .before .before .args .out .now) (sym (c .before .sound .ensures) ∙ not-true _ (c .if1 .taken))
 
 returns-2 : tie.Need-returns-2
-returns-2 c = prints-none (ledgerOf (c .before .before .before .before .before .args .ws .now)) (c .before .before .before .before .before .args .stopped) (c .before .before .before .before .before .args .out .now) (sym (c .before .before .sound .ensures) ∙ not-false _ (c .before .if1 .left)) (c .if2 .taken)
+returns-2 c = prints-none (ledgerOf (c .before .before .before .before .before .args .ws .now)) (c .before .before .before .before .before .args .stopped) (c .before .before .before .before .before .args .out .now) (sym (c .before .before .sound .ensures) ∙ not-false _ (c .before .if1 .left)) (omega (arith, c .if2 .taken))
 
 write-words-requires : tie.Need-write-words-requires
 write-words-requires c κs = (sym (c .before .before .before .sound .ensures) ∙ not-false _ (c .before .before .if1 .left), c .before .if2 .left)

@@ -1,7 +1,7 @@
 //! The calls as they should be, by the second implementation.
 
-use reference::fields::{Product, RateCode};
-use reference::journal::{replay_notices, Replayed};
+use reference::fields::{digits, Product, RateCode};
+use reference::journal::{replay_notices, start, Entry, Replayed, Start};
 use reference::words::{self, consumption, date, identity, text, WORDS};
 use reference::{table, Cause, Ledger, Request};
 
@@ -102,6 +102,51 @@ pub fn amounts(words: &[u64], account: u64, key: u64, amounts: &mut [u64; 3]) ->
             0
         }
         Err(cause) => cause.number().into(),
+    }
+}
+
+pub fn ledger_table(words: &[u64], out: &mut [u8], written: &mut u64) -> u64 {
+    let Some(ledger) = words::read(words) else { return 2 };
+    let mut told = [0; 2];
+    let number = write(&table::of_ledger(Some(&ledger)), TABLE, false, out, &mut told);
+    if number == 0 {
+        *written = told[0];
+    }
+    number
+}
+
+pub fn entry(journal: &[u8], seen: u64, lent: &mut Lent, told: &mut [u64; 2]) -> u64 {
+    match start(journal, seen) {
+        Start::Entry(entry, length) => {
+            *told = [length as u64, 0];
+            change(&call_of(entry), lent)
+        }
+        Start::Short => {
+            *told = [0, 1];
+            13
+        }
+        Start::Bad => {
+            *told = [0, 0];
+            13
+        }
+    }
+}
+
+/// An entry's call; a field that is not digits becomes a number that is too wide.
+fn call_of(entry: Entry<'_>) -> Call<'_> {
+    let number = |field: &[u8]| digits(field).unwrap_or(u64::MAX);
+    let call = |name, bytes, numbers| Call { name, bytes, numbers };
+    match entry {
+        Entry::Fresh(body) => call("fresh", &[], [&body[..8], &body[8..17], &body[17..]].map(number).to_vec()),
+        Entry::Request(body) => {
+            let (identity, dates) = ([&body[5..17], &body[17..21]].map(number), [&body[22..30], &body[30..38]]);
+            let rest = [&body[38..48], &body[48..]].map(number);
+            let numbers = [&identity[..], &[body[21].into()], &dates.map(number), &rest].concat();
+            call("request", &body[..5], numbers)
+        }
+        Entry::File(body) => call("file", body, vec![]),
+        Entry::Cancel(body) => call("cancel", &[], [&body[..12], &body[12..]].map(number).to_vec()),
+        Entry::Close(body) => call("close", &[], vec![number(body)]),
     }
 }
 

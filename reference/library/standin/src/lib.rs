@@ -125,6 +125,35 @@ pub unsafe extern "C" fn clearing_amounts(
 }
 
 #[no_mangle]
+pub unsafe extern "C" fn clearing_ledger_table(
+    ledger: *const u64,
+    ledger_len: usize,
+    out: *mut u8,
+    out_len: usize,
+    written: *mut u64,
+) -> u64 {
+    calls::ledger_table(from_raw_parts(ledger, ledger_len), from_raw_parts_mut(out, out_len), &mut *written)
+}
+
+#[no_mangle]
+pub unsafe extern "C" fn clearing_entry(
+    ledger: *mut u64,
+    ledger_len: usize,
+    journal: *const u8,
+    journal_len: usize,
+    seen: u64,
+    out: *mut u8,
+    out_len: usize,
+    change: *mut i64,
+    counts: *mut u64,
+    told: *mut u64,
+) -> u64 {
+    let journal = from_raw_parts(journal, journal_len);
+    let mut lent = lent((ledger, ledger_len), (out, out_len), change, counts);
+    calls::entry(journal, seen, &mut lent, &mut *told.cast())
+}
+
+#[no_mangle]
 pub unsafe extern "C" fn clearing_table(
     journal: *const u8,
     journal_len: usize,

@@ -1,6 +1,7 @@
 -- `engine::call::fresh_in` meets its contract.
 use borrow.Author.Needs.{needs}
 use mathlib.Core.Path.{refl, sym, ap, _∙_}
+use Rattle.words.specs.Layout.{ledgerWords}
 use Rattle.calls.specs.Days.{freshBy, freshCalled}
 use Rattle.engine.proofs.call.fresh_in.Statement.{statement}
 use Rattle.engine.proofs.call.fresh_in.Tie as tie
@@ -13,7 +14,7 @@ enum-known-check c = search needs
 
 returns : tie.Need-returns
 unfolding freshCalled freshBy
-returns c = rw (sym (c .before .before .before .fresh-check .ensures) ∙ c .before .check .given .1) (refl, refl)
+returns c = rw (sym (c .before .before .before .fresh-check .ensures) ∙ c .before .check .given .1) (refl, refl, refl)
 
 enum-told : tie.Need-enum-told
 enum-told c = search needs
@@ -32,7 +33,7 @@ same-length c = search needs
 
 returns-2 : tie.Need-returns-2
 unfolding freshCalled freshBy
-returns-2 c = rw (sym (c .before .before .before .before .before .before .before .before .before .fresh-check .ensures) ∙ c .before .before .before .before .before .before .before .enum-told .given .1) (c .before .before .before .write .ensures .1 ∙ c .before .before .before .before .empty .ensures, c .quiet .ensures)
+returns-2 c = rw (sym (c .before .before .before .before .before .before .before .before .before .fresh-check .ensures) ∙ c .before .before .before .before .before .before .before .enum-told .given .1) (c .before .before .before .write .ensures .1 ∙ c .before .before .before .before .empty .ensures, c .quiet .ensures, c .before .before .before .write .ensures .0 ∙ ap ledgerWords (c .before .before .before .before .empty .ensures))
 
 pub fresh-in-spec : {M : Type 1} → statement M
 fresh-in-spec =

@@ -3,7 +3,9 @@
 use std::hint::black_box;
 
 use library::Request;
-use reference::journal::{replay, replay_notices, Replayed};
+use reference::file::FILE_LIMIT;
+use reference::groups;
+use reference::journal::{carry_out, replay, replay_notices, start, Replayed, Start, FILE, REQUEST};
 use reference::notices::NOTICE_LENGTH;
 use reference::words::{self, text, BLANK, HEAD};
 use reference::{table, Cause, Ledger};
@@ -12,8 +14,6 @@ use crate::asked;
 use crate::ledger::{self, account, GROUPS, KEY};
 use crate::lent::Lent;
 
-/// The longest table.
-const TABLE: usize = 10_970;
 /// Entries of the journals.
 const ENTRIES: usize = 1000;
 
@@ -65,6 +65,13 @@ pub fn all(bills: usize) -> Vec<Kind> {
         close(&words),
         open_bill(&words, account(last)),
         amounts(&words, account(last)),
+        ledger_table(&words),
+        entry("entry, request, known bill", &words, groups::entry(REQUEST, &ledger::request_body(last, 86))),
+        entry(
+            "entry, file, 1 RSP, accepted",
+            &words,
+            groups::entry(FILE, &ledger::responses(&held.bills()[last..], 4000)),
+        ),
         whole_table(ledger::journal(bills, ENTRIES)),
         whole_notices(ledger::journal(bills, ENTRIES)),
     ]
@@ -181,12 +188,50 @@ fn amounts(words: &[u64], account: u64) -> Kind {
     }
 }
 
+fn ledger_table(words: &[u64]) -> Kind {
+    Kind {
+        name: "ledger_table".into(),
+        words: words.to_vec(),
+        output: table::LONGEST,
+        library: Box::new(move |lent| library::ledger_table(&lent.words, &mut lent.out, &mut lent.written)),
+        reference: Box::new(move |lent| {
+            let table = table::of_ledger(Some(&read(lent)?));
+            lent.out[..table.len()].copy_from_slice(&table);
+            lent.written = table.len() as u64;
+            Ok(())
+        }),
+    }
+}
+
+/// One entry of a journal, with the output that a journal's calls have.
+fn entry(name: &str, words: &[u64], journal: Vec<u8>) -> Kind {
+    let same = journal.clone();
+    let seen = 1;
+    Kind {
+        name: name.into(),
+        words: words.to_vec(),
+        output: FILE_LIMIT,
+        library: Box::new(move |lent| {
+            let Lent { words, out, change, counts, told, .. } = lent;
+            library::entry(words, &journal, seen, out, change, counts, told)
+        }),
+        reference: Box::new(move |lent| {
+            let Start::Entry(entry, length) = start(&same, seen) else { return Err(Cause::BadEntry) };
+            lent.told = [length as u64, 0];
+            change(lent, |ledger, out| {
+                let done = carry_out(ledger, entry, Some(out))?;
+                Ok((done.change, [done.written, done.accepted, done.rejected, done.closed]))
+            })
+        }),
+    }
+}
+
 fn whole_table(journal: Vec<u8>) -> Kind {
     let same = journal.clone();
     Kind {
         name: format!("table, journal of {ENTRIES} entries"),
         words: vec![],
-        output: TABLE,
+        output: table::LONGEST,
         library: Box::new(move |lent| library::table(&journal, &mut lent.out, &mut lent.told)),
         reference: Box::new(move |lent| {
             let replayed = replay(&same[..]).expect("read from memory");

@@ -32,6 +32,13 @@ pub fn request(bill: usize, consumption: u64) -> Request {
     }
 }
 
+/// The body of the same request as a journal's entry.
+pub fn request_body(bill: usize, consumption: u64) -> Vec<u8> {
+    let Request { code, account, key, product, billing, from, scheduled, .. } = request(bill, consumption);
+    let numbers = format!("{billing:08}{from:08}{consumption:010}{scheduled:08}");
+    [&code[..], format!("{account:012}{key:04}").as_bytes(), &[product], numbers.as_bytes()].concat()
+}
+
 /// A ledger of so many open bills, each with a posted charge.
 pub fn holding(bills: usize) -> Ledger {
     let mut ledger = Ledger::fresh(b"20171113", b"000000001", b"000000001").expect("a good fresh");

@@ -9,6 +9,7 @@ pub struct Lent {
     pub counts: [u64; 4],
     pub place: u64,
     pub amounts: [u64; 3],
+    pub written: u64,
     pub told: [u64; 2],
 }
 
@@ -23,6 +24,7 @@ impl Lent {
             counts: [odd; 4],
             place: odd,
             amounts: [odd; 3],
+            written: odd,
             told: [odd; 2],
         }
     }
@@ -35,6 +37,7 @@ impl Lent {
             ("counts", self.counts == other.counts),
             ("place", self.place == other.place),
             ("amounts", self.amounts == other.amounts),
+            ("written", self.written == other.written),
             ("told", self.told == other.told),
         ];
         match parts.iter().find(|part| !part.1) {

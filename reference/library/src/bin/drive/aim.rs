@@ -9,6 +9,7 @@ use reference::verdict::Notification;
 use reference::{Bill, Ledger};
 
 use crate::call::Call;
+use crate::entry;
 use crate::spoil::spoil;
 
 pub const DATES: [u64; 9] = [19000101, 19001231, 20000229, 20171112, 20171113, 20171114, 20171116, 24000229, 29991231];
@@ -16,19 +17,33 @@ pub const DATES: [u64; 9] = [19000101, 19001231, 20000229, 20171112, 20171113, 2
 /// A call of any kind, most often one that is carried out.
 pub fn some_call(rng: &mut Prng, ledger: &Ledger) -> Call {
     let (account, key) = some_identity(rng, ledger);
-    let mut call = match rng.below(40) {
+    let mut call = match rng.below(42) {
         0..=11 => Call::Request(some_request(rng, ledger)),
         12..=21 => Call::File(some_file(rng, ledger)),
         22..=27 => Call::Cancel { account, key },
         28..=31 => Call::Close { today: some_day(rng, ledger.today(), 25) },
         32..=35 => Call::OpenBill { account },
         36..=38 => Call::Amounts { account, key },
+        39..=40 => Call::LedgerTable,
         _ => Call::Fresh { today: *rng.pick(&DATES), tracking: next_number(rng), confirmation: next_number(rng) },
     };
     if rng.chance(12) {
         spoil(rng, &mut call);
     }
-    call
+    match entry::of_call(&call).filter(|_| rng.chance(20)) {
+        Some(journal) => Call::Entry { seen: some_seen(rng, &call), journal },
+        None => call,
+    }
+}
+
+/// How many entries came before: most often so many that the entry is good.
+fn some_seen(rng: &mut Prng, call: &Call) -> u64 {
+    let first = call.is_fresh() != rng.chance(3);
+    if first {
+        0
+    } else {
+        *rng.pick(&[1, 1, 2, 77, 123_456_789, 999_999_999, 999_999_999, 1_000_000_000, u64::MAX])
+    }
 }
 
 /// A bill's identity; rarely one that no bill has.

@@ -11,6 +11,9 @@ use crate::lent::Lent;
 use crate::run::{run, Figures};
 use crate::tally::Tally;
 
+/// Bytes of output lent to every call.
+const OUTPUT: usize = 11_000;
+
 /// What is lent to every call.
 struct Held<'a> {
     words: Lent<u64>,
@@ -20,14 +23,15 @@ struct Held<'a> {
 }
 
 pub fn drive(tally: &mut Tally) -> Result<(), String> {
-    let (words, out) = (Lent::new(&[u64::MAX; 2436], 1, 0), Lent::new(&[b'#'; 2000], 2, 1));
+    let (words, out) = (Lent::new(&[u64::MAX; 2436], 1, 0), Lent::new(&[b'#'; OUTPUT], 2, 1));
     let mut held = Held { words, out, figures: Figures::new(7), tally };
     fresh(&mut held)?;
     request(&mut held)?;
     file(&mut held)?;
     crossed(&mut held)?;
     cancel_and_close(&mut held)?;
-    empty(&mut held)
+    empty(&mut held)?;
+    streamed(&mut held)
 }
 
 impl Held<'_> {
@@ -45,6 +49,13 @@ impl Held<'_> {
     fn change(&mut self, call: &Call, change: i64, counts: [u64; 4]) -> Result<(), String> {
         self.call(call)?;
         expect("change", self.figures.change.inside(), &[change])?;
+        expect("counts", self.figures.counts.inside(), &counts)
+    }
+
+    /// An entry that is carried out, with the bytes and the counts that it must tell.
+    fn entry(&mut self, journal: &[u8], seen: u64, bytes: u64, counts: [u64; 4]) -> Result<(), String> {
+        self.call(&Call::Entry { journal: journal.to_vec(), seen })?;
+        expect("told", self.figures.told.inside(), &[bytes, 0])?;
         expect("counts", self.figures.counts.inside(), &counts)
     }
 
@@ -83,7 +94,7 @@ fn request(held: &mut Held) -> Result<(), String> {
     expect("BIL header", &out[..61], header)?;
     let detail = b"34A7C3900002017112102017111402BIL20171113002220171123001002017112500000000000002017112400";
     expect("BIL detail", &out[321..321 + 89], detail)?;
-    expect("past the output", &out[642..], &[b'#'; 2000 - 642])
+    expect("past the output", &out[642..], &[b'#'; OUTPUT - 642])
 }
 
 /// Three groups, one accepted and two for bills that are not there, so that the counts differ.
@@ -124,6 +135,34 @@ fn cancel_and_close(held: &mut Held) -> Result<(), String> {
     expect("CXL", &held.out.inside()[..28], b"34ZZC40000000000012020171117")?;
     held.change(&Call::Close { today: 20171114 }, 0, [0, 0, 0, 1])?;
     held.words(0, 3, &[20171114, 20171118, 20171122, 3])
+}
+
+/// The same fresh and request as entries of a journal, each followed by more of it, and the table of what they leave.
+fn streamed(held: &mut Held) -> Result<(), String> {
+    let fresh = b"\x00\x00\x1a20171113020171114020171115\x01";
+    held.entry(fresh, 0, 29, [0; 4])?;
+    held.words(0, 3, &[20171113, 20171114, 20171115, 0])?;
+    let request = b"\x01\x00\x38A7C390000201711210022P2017112320171124002017112520171126\x05\x05\x05";
+    held.entry(request, 999_999_999, 59, [642, 0, 0, 0])?;
+    #[rustfmt::skip]
+    let place = [
+        20171121, 22, 65, 55, 51, 57, 80, 1, 1, 0, 20171114, 20171125, 20171123, 20171124, 20171126, 0, 0, 0, 0,
+    ];
+    held.words(4, 22, &place)?;
+    expect("BIL header", &held.out.inside()[..28], b"34A7C39000020171121020171114")?;
+    // Posted by hand.
+    held.words.lend()[19..23].copy_from_slice(&[2, 4250, 4000, 250]);
+    held.call(&Call::LedgerTable)?;
+    let table = b"account,key,code,kind,seq,ccf,charge,applied,owed,state\n\
+        000020171121,0022,A7C39,P,001,0020171125,0000000004250,0000000004000,0000000000250,O\n\
+        total,0000000000004250\n  ";
+    expect("table", &held.out.inside()[..166], table)?;
+    expect("written", held.figures.written.inside(), &[164])?;
+    held.entry(b"\x03\x00\x100000201711210022", 2, 19, [642, 0, 0, 0])?;
+    expect("change", held.figures.change.inside(), &[-4250])?;
+    held.entry(b"\x02\x00\x00\x02", 3, 3, [0; 4])?;
+    held.entry(b"\x04\x00\x0820171127", 4, 11, [0; 4])?;
+    held.words(0, 3, &[20171127, 20171116, 20171117, 1])
 }
 
 /// Empty slices: pointers that are not null and point nowhere.

@@ -2,6 +2,8 @@
 
 use library::Request;
 use reference::groups::{self, Amounts};
+use reference::journal::{CLOSE, REQUEST};
+use reference::table::LONGEST;
 use reference::verdict::Notification;
 use reference::words::{self, BLANK, FIELDS};
 
@@ -52,6 +54,8 @@ pub fn calls() -> Vec<(Call, usize)> {
     let sound = words::read(&ledger(&BILLS)).expect("a sound ledger");
     let amounts = Amounts { charge: 4000, applied: 0, owed: 4000, balance: 0 };
     let file = groups::file(&[groups::group(&sound.bills()[0], Notification::Rsp, amounts, sound.today())]);
+    let body = b"ZZC401234567800190007B2017111020171010000000009020171113";
+    let entry = |tag: u8, body: &[u8]| Call::Entry { journal: groups::entry(tag, body), seen: 1 };
     vec![
         (request(7, 90, 20171113), 642),
         (request(9, 90, 20171116), 700),
@@ -67,6 +71,10 @@ pub fn calls() -> Vec<(Call, usize)> {
         (Call::OpenBill { account: 8 }, 0),
         (Call::Amounts { account: 123_456_780_019, key: 8 }, 0),
         (Call::Amounts { account: 8, key: 8 }, 0),
+        (Call::LedgerTable, LONGEST),
+        (Call::LedgerTable, LONGEST - 1),
+        (entry(REQUEST, body), 642),
+        (entry(CLOSE, b"20171113"), 0),
     ]
 }
 

@@ -43,8 +43,10 @@ impl Both {
         let mut wanted_words = self.words.inside().to_vec();
         let pattern = pattern(self.turn, length);
         let (mut ledger, mut wanted_out) = (self.ledger.clone(), pattern.clone());
-        let answer = match wanted_words.len() {
-            WORDS => call.answer(&mut ledger, &mut wanted_out),
+        let answer = match (wanted_words.len(), call.told()) {
+            (WORDS, _) => call.answer(&mut ledger, &mut wanted_out),
+            // A bad entry comes before the length of the ledger.
+            (_, Some([0, _])) => Err(Cause::BadEntry),
             _ => Err(Cause::BadField),
         };
         let mut out = Lent::new(&pattern, self.turn as u8, self.turn as usize % 8);
@@ -56,7 +58,7 @@ impl Both {
         }
         same(&out, &wanted_out, "output", &|at| format!("byte {at}"))?;
         if let (Ok(Answer::Done(..)), Some(ledger)) = (answer, &ledger) {
-            if let Call::Fresh { .. } = call {
+            if call.is_fresh() {
                 wanted_words[HEAD.len()..].as_chunks_mut().0.fill(BLANK);
             }
             words::put(ledger, &mut wanted_words);

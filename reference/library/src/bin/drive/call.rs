@@ -4,21 +4,44 @@ use std::fmt;
 
 use library::Request;
 use reference::fields::{Product, RateCode};
+use reference::journal::{carry_out, fresh, start, Entry, Start};
 use reference::notices::NOTICE_LENGTH;
+use reference::table;
 use reference::words::{consumption, date, identity, text};
 use reference::{Cause, Ledger};
 
 use crate::asked::read;
+use crate::entry;
 
 #[derive(Clone, Debug, PartialEq)]
 pub enum Call {
-    Fresh { today: u64, tracking: u64, confirmation: u64 },
+    Fresh {
+        today: u64,
+        tracking: u64,
+        confirmation: u64,
+    },
     Request(Request),
     File(Vec<u8>),
-    Cancel { account: u64, key: u64 },
-    Close { today: u64 },
-    OpenBill { account: u64 },
-    Amounts { account: u64, key: u64 },
+    Cancel {
+        account: u64,
+        key: u64,
+    },
+    Close {
+        today: u64,
+    },
+    OpenBill {
+        account: u64,
+    },
+    Amounts {
+        account: u64,
+        key: u64,
+    },
+    LedgerTable,
+    /// The entry that begins some bytes of a journal, before which so many came.
+    Entry {
+        journal: Vec<u8>,
+        seen: u64,
+    },
 }
 
 /// What a call that is carried out returns.
@@ -29,6 +52,8 @@ pub enum Answer {
     /// The place of any open bill of the account.
     Open,
     Amounts([u64; 3]),
+    /// Bytes of a table.
+    Written(u64),
 }
 
 impl Call {
@@ -41,6 +66,8 @@ impl Call {
             Call::Close { .. } => "close",
             Call::OpenBill { .. } => "open_bill",
             Call::Amounts { .. } => "amounts",
+            Call::LedgerTable => "ledger_table",
+            Call::Entry { .. } => "entry",
         }
     }
 
@@ -49,7 +76,24 @@ impl Call {
         match self {
             Call::Request(_) | Call::Cancel { .. } => Some(NOTICE_LENGTH),
             Call::File(file) => Some(file.len()),
+            Call::LedgerTable => Some(table::LONGEST),
+            Call::Entry { journal, seen } => entry::output(journal, *seen),
             _ => None,
+        }
+    }
+
+    /// What an entry tells, whatever it answers.
+    pub fn told(&self) -> Option<[u64; 2]> {
+        let Call::Entry { journal, seen } = self else { return None };
+        Some(entry::told(journal, *seen))
+    }
+
+    /// Fresh, called or as a good entry: it reads no ledger.
+    pub fn is_fresh(&self) -> bool {
+        match self {
+            Call::Fresh { .. } => true,
+            Call::Entry { journal, seen } => matches!(start(journal, *seen), Start::Entry(Entry::Fresh(_), _)),
+            _ => false,
         }
     }
 
@@ -59,9 +103,12 @@ impl Call {
             *ledger = Some(Ledger::fresh(&text(*today, 8), &text(*tracking, 9), &text(*confirmation, 9))?);
             return Ok(Answer::Done(0, [0; 4]));
         }
+        if let Call::Entry { journal, seen } = self {
+            return answer_entry(start(journal, *seen), ledger, out);
+        }
         let ledger = ledger.as_mut().ok_or(Cause::BadField)?;
         match self {
-            Call::Fresh { .. } => unreachable!("answered above"),
+            Call::Fresh { .. } | Call::Entry { .. } => unreachable!("answered above"),
             Call::Request(request) => {
                 let done = ledger.request(&read(request).ok_or(Cause::BadField)?, Some(out))?;
                 Ok(figures(done.change, [done.written, 0, 0, 0]))
@@ -79,6 +126,12 @@ impl Call {
             Call::Amounts { account, key } => {
                 let (charge, applied, owed) = ledger.amounts(&text(*account, 12), &text(*key, 4))?;
                 Ok(Answer::Amounts([charge.0, applied.0, owed.0]))
+            }
+            Call::LedgerTable => {
+                let table = table::of_ledger(Some(ledger));
+                let place = out.get_mut(..table::LONGEST).ok_or(Cause::OutputTooShort)?;
+                place[..table.len()].copy_from_slice(&table);
+                Ok(Answer::Written(table.len() as u64))
             }
         }
     }
@@ -111,6 +164,8 @@ impl Call {
             Call::Cancel { account: a, key: k } | Call::Amounts { account: a, key: k } => vec![account(*a), key(*k)],
             Call::Close { today } => vec![day("today", *today)],
             Call::OpenBill { account: a } => vec![account(*a)],
+            Call::LedgerTable => vec![],
+            Call::Entry { journal, seen } => vec![("body", entry::body_is_good(journal, *seen))],
         };
         fields.into_iter().filter(|field| !field.1).map(|field| field.0).collect()
     }
@@ -120,6 +175,10 @@ impl fmt::Display for Call {
     fn fmt(&self, f: &mut fmt::Formatter) -> fmt::Result {
         match self {
             Call::File(file) => write!(f, "file of {} bytes", file.len()),
+            Call::Entry { journal, seen } => {
+                let start = &journal[..journal.len().min(70)];
+                write!(f, "entry (seen {seen}, {} bytes: {})", journal.len(), start.escape_ascii())
+            }
             Call::Request(r) => write!(
                 f,
                 "request (code {}, account {}, key {}, product {}, billing {}, from {}, consumption {}, scheduled {})",
@@ -135,6 +194,17 @@ impl fmt::Display for Call {
             other => write!(f, "{other:?}"),
         }
     }
+}
+
+/// An entry's call on the reference's ledger.
+fn answer_entry(start: Start, ledger: &mut Option<Ledger>, out: &mut [u8]) -> Result<Answer, Cause> {
+    let Start::Entry(entry, _) = start else { return Err(Cause::BadEntry) };
+    if let Entry::Fresh(body) = entry {
+        *ledger = Some(fresh(body)?);
+        return Ok(figures(0, [0; 4]));
+    }
+    let effect = carry_out(ledger.as_mut().ok_or(Cause::BadField)?, entry, Some(out))?;
+    Ok(figures(effect.change, [effect.written, effect.accepted, effect.rejected, effect.closed]))
 }
 
 fn figures(change: i64, counts: [usize; 4]) -> Answer {

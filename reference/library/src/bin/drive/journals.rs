@@ -5,13 +5,10 @@ use reference::groups::entry;
 use reference::journal::{replay, replay_notices, FRESH, REQUEST};
 use reference::ledger::BILL_LIMIT;
 use reference::prng::Prng;
-use reference::table::table;
+use reference::table::{table, LONGEST};
 
 use crate::lent::{pattern, same, Lent};
 use crate::tally::Tally;
-
-/// The longest table: heading, 128 lines, total and `stopped,13`.
-const LONGEST_TABLE: usize = 10_970;
 
 /// table or notices.
 type Function = fn(&[u8], &mut [u8], &mut [u64; 2]) -> u64;
@@ -41,7 +38,7 @@ pub fn longest(tally: &mut Tally) -> Result<(), String> {
     }
     journal.push(0);
     let length = table(&replay(&journal[..]).map_err(|error| error.to_string())?).len();
-    if length != LONGEST_TABLE {
+    if length != LONGEST {
         return Err(format!("the longest table has {length} bytes"));
     }
     let told = |told: String| format!("the journal with the longest table: {told}");
@@ -53,8 +50,7 @@ fn try_journal(journal: &[u8], rng: &mut Prng, tally: &mut Tally) -> Result<(), 
     let mut notices = Vec::new();
     let replayed = replay_notices(journal, &mut notices).map_err(|error| error.to_string())?;
     let (lines, stopped) = (table(&replayed), replayed.stopped);
-    let of_table =
-        Wanted { name: "table", function: library::table, journal, bytes: &lines, enough: LONGEST_TABLE, stopped };
+    let of_table = Wanted { name: "table", function: library::table, journal, bytes: &lines, enough: LONGEST, stopped };
     let of_notices = Wanted {
         name: "notices",
         function: library::notices,

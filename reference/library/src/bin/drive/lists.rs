@@ -27,7 +27,7 @@ pub fn drive(seed: u64, tally: &mut Tally) -> Result<(), String> {
 }
 
 /// Fresh reads no ledger: any words do.
-fn any_words(rng: &mut Prng) -> Vec<u64> {
+pub fn any_words(rng: &mut Prng) -> Vec<u64> {
     match rng.below(3) {
         0 => vec![0; WORDS],
         1 => vec![u64::MAX; WORDS],

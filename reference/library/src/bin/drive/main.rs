@@ -8,6 +8,7 @@ mod base;
 mod both;
 mod call;
 mod edges;
+mod entry;
 mod journals;
 mod ledgers;
 mod lent;
@@ -15,6 +16,7 @@ mod lists;
 mod places;
 mod run;
 mod spoil;
+mod stream;
 mod tally;
 mod unsound;
 
@@ -25,8 +27,8 @@ use tally::Tally;
 
 const USAGE: &str = "\
 drive --seeds FROM COUNT
-    for each seed a list of calls, ten ledgers made word by word with some calls each, and a journal; before them the
-    place of every argument and every word of a ledger made bad
+    for each seed a list of calls, ten ledgers made word by word with some calls each, and a journal, whole and streamed
+    entry by entry; before them the place of every argument, every word of a ledger made bad and every head of an entry
 Exit status: 0 all equal and every cause reached, 1 a difference or a cause not reached, 2 a wrong use.";
 
 /// Ledgers made word by word for each seed.
@@ -57,10 +59,12 @@ fn drive(from: u64, count: u64, tally: &mut Tally) -> Result<(), String> {
     edges::drive(tally)?;
     unsound::drive(tally)?;
     journals::longest(tally)?;
+    stream::heads(tally)?;
     for seed in from..from + count {
         lists::drive(seed, tally)?;
         (0..LEDGERS).try_for_each(|which| ledgers::drive(seed, which, tally))?;
         journals::drive(seed, tally)?;
+        stream::drive(seed, tally)?;
     }
     Ok(())
 }

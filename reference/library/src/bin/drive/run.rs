@@ -11,6 +11,8 @@ pub struct Figures {
     pub counts: Lent<u64>,
     pub place: Lent<u64>,
     pub amounts: Lent<u64>,
+    pub written: Lent<u64>,
+    pub told: Lent<u64>,
 }
 
 impl Figures {
@@ -22,11 +24,14 @@ impl Figures {
             counts: Lent::new(&[odd, odd + 1, odd + 2, odd + 3], !odd, 0),
             place: Lent::new(&[odd], !odd, 0),
             amounts: Lent::new(&[odd, odd + 1, odd + 2], !odd, 0),
+            written: Lent::new(&[odd], !odd, 0),
+            told: Lent::new(&[odd, odd + 1], !odd, 0),
         }
     }
 
     pub fn are_whole(&self) -> bool {
-        self.change.is_whole() && self.counts.is_whole() && self.place.is_whole() && self.amounts.is_whole()
+        let lookups = self.place.is_whole() && self.amounts.is_whole() && self.written.is_whole();
+        lookups && self.change.is_whole() && self.counts.is_whole() && self.told.is_whole()
     }
 
     /// Holds what the call left against its answer; what it does not answer stays as it was.
@@ -44,6 +49,7 @@ impl Figures {
                 wanted.counts.lend().copy_from_slice(&counts);
             }
             Ok(Answer::Amounts(amounts)) => wanted.amounts.lend().copy_from_slice(&amounts),
+            Ok(Answer::Written(written)) => wanted.written.lend()[0] = written,
             Ok(Answer::Open) => {
                 let place = self.place.inside()[0];
                 if !ledger.is_some_and(|ledger| is_open_bill(ledger, call, place)) {
@@ -53,10 +59,15 @@ impl Figures {
             }
             Err(_) => {}
         }
+        if let Some(told) = call.told() {
+            wanted.told.lend().copy_from_slice(&told);
+        }
         same(&self.change, wanted.change.inside(), "change", &|_| "it".into())?;
         same(&self.counts, wanted.counts.inside(), "counts", &|at| format!("number {at}"))?;
         same(&self.place, wanted.place.inside(), "place", &|_| "it".into())?;
-        same(&self.amounts, wanted.amounts.inside(), "amounts", &|at| format!("number {at}"))
+        same(&self.amounts, wanted.amounts.inside(), "amounts", &|at| format!("number {at}"))?;
+        same(&self.written, wanted.written.inside(), "written", &|_| "it".into())?;
+        same(&self.told, wanted.told.inside(), "told", &|at| format!("number {at}"))
     }
 }
 
@@ -79,9 +90,17 @@ pub fn run(call: &Call, words: &mut [u64], out: &mut [u8], figures: &mut Figures
         Call::File(file) => {
             let file = Lent::new(file, b'#', out.len() % 8);
             let number = library::file(words, file.inside(), out, change, counts);
-            same(&file, given_file(call), "file", &|at| format!("byte {at}"))?;
+            same(&file, given_bytes(call), "file", &|at| format!("byte {at}"))?;
             number
         }
+        Call::Entry { journal, seen } => {
+            let journal = Lent::new(journal, b'#', out.len() % 8);
+            let told = figures.told.lend().first_chunk_mut().expect("two numbers");
+            let number = library::entry(words, journal.inside(), *seen, out, change, counts, told);
+            same(&journal, given_bytes(call), "journal", &|at| format!("byte {at}"))?;
+            number
+        }
+        Call::LedgerTable => library::ledger_table(words, out, &mut figures.written.lend()[0]),
         Call::Cancel { account, key } => library::cancel(words, *account, *key, out, change, counts),
         Call::Close { today } => library::close(words, *today, change, counts),
         Call::OpenBill { account } => library::open_bill(words, *account, &mut figures.place.lend()[0]),
@@ -96,9 +115,9 @@ pub fn run(call: &Call, words: &mut [u64], out: &mut [u8], figures: &mut Figures
     Ok(number)
 }
 
-fn given_file(call: &Call) -> &[u8] {
+fn given_bytes(call: &Call) -> &[u8] {
     match call {
-        Call::File(file) => file,
+        Call::File(bytes) | Call::Entry { journal: bytes, .. } => bytes,
         _ => &[],
     }
 }

@@ -3,9 +3,10 @@
 use std::collections::BTreeMap;
 
 use crate::call::Call;
+use crate::entry;
 
 /// Every function, and the numbers that document 01 allows for it.
-const ALLOWED: [(&str, &[u64]); 9] = [
+const ALLOWED: [(&str, &[u64]); 11] = [
     ("fresh", &[0, 2]),
     ("request", &[0, 1, 2, 3, 5, 6, 7, 8, 9, 12]),
     ("file", &[0, 1, 2, 11, 12]),
@@ -13,12 +14,14 @@ const ALLOWED: [(&str, &[u64]); 9] = [
     ("close", &[0, 2, 10]),
     ("open_bill", &[0, 2, 4]),
     ("amounts", &[0, 2, 4]),
+    ("ledger_table", &[0, 1, 2]),
+    ("entry", &[0, 1, 2, 3, 4, 5, 6, 7, 8, 9, 10, 11, 12, 13]),
     ("table", &[0, 1]),
     ("notices", &[0, 1]),
 ];
 
 /// Each argument that alone must have been the cause of a 2.
-const ARGUMENTS: [(&str, &[&str]); 6] = [
+const ARGUMENTS: [(&str, &[&str]); 7] = [
     ("fresh", &["today", "next Tracking ID", "next Confirmation Number"]),
     (
         "request",
@@ -28,6 +31,7 @@ const ARGUMENTS: [(&str, &[&str]); 6] = [
     ("close", &["today"]),
     ("open_bill", &["account"]),
     ("amounts", &["account", "key"]),
+    ("entry", &["body"]),
 ];
 
 #[derive(Default)]
@@ -51,6 +55,9 @@ impl Tally {
                 [argument] => self.label(format!("{name} 2: {argument}")),
                 _ => {}
             }
+        }
+        if let (Call::Entry { journal, seen }, 13) = (call, number) {
+            self.label(format!("entry 13: {}", entry::fault(journal, *seen)));
         }
     }
 
@@ -98,7 +105,7 @@ impl Tally {
         for (name, _) in ALLOWED {
             let of_name = self.numbers.iter().filter(|((called, _), _)| *called == name);
             let counts: Vec<String> = of_name.map(|((_, number), count)| format!("{number}: {count}")).collect();
-            report += &format!("{name:<10} {}\n", counts.join("  "));
+            report += &format!("{name:<12} {}\n", counts.join("  "));
         }
         self.labels.iter().for_each(|(label, count)| report += &format!("{count:>9}  {label}\n"));
         report
@@ -110,13 +117,14 @@ fn required() -> Vec<String> {
     for (name, arguments) in ARGUMENTS {
         labels.extend(arguments.iter().map(|argument| format!("{name} 2: {argument}")));
     }
-    for (name, _) in &ALLOWED[..7] {
+    labels.extend(entry::FAULTS.map(|fault| format!("entry 13: {fault}")));
+    for (name, _) in &ALLOWED[..9] {
         labels.push(format!("{name} 2: length of the ledger"));
         if *name != "fresh" {
             labels.push(format!("{name} 2: ledger not sound"));
         }
     }
-    for name in ["request", "file", "cancel", "table", "notices"] {
+    for name in ["request", "file", "cancel", "ledger_table", "entry", "table", "notices"] {
         for kind in ["0: 1", "short by one: 1", "exact: 0", "long: 0"] {
             labels.push(format!("{name}, output {kind}"));
         }

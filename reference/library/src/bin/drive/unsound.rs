@@ -1,5 +1,7 @@
 //! Ledgers made unsound word by word: every call but fresh answers 2 and changes nothing.
 
+use reference::groups;
+use reference::journal::FRESH;
 use reference::words::{self, place, BLANK, COUNT};
 
 use crate::base::{calls, changed, describe, full, ledger, numbers, Change, Place, BILLS};
@@ -11,6 +13,7 @@ use crate::tally::Tally;
 pub fn drive(tally: &mut Tally) -> Result<(), String> {
     let words = ledger(&BILLS);
     let fresh = Call::Fresh { today: 20171201, tracking: 5, confirmation: 6 };
+    let fresh_entry = Call::Entry { journal: groups::entry(FRESH, b"20171201000000005000000006"), seen: 0 };
     for change in heads().into_iter().chain(single_words()).chain(together()).chain(past_the_count()) {
         let told = |told: String| format!("{}: {told}", describe(&change));
         let bad = changed(&words, &change);
@@ -21,6 +24,7 @@ pub fn drive(tally: &mut Tally) -> Result<(), String> {
             return Err(told("not 2".into()));
         }
         Both::of(&bad).plain(tally, &fresh).map_err(told)?;
+        Both::of(&bad).plain(tally, &fresh_entry).map_err(told)?;
         tally.label("ledgers made unsound by hand".into());
     }
     full_ledger(tally)?;
@@ -38,6 +42,18 @@ fn lengths(tally: &mut Tally) -> Result<(), String> {
             if number.map_err(|told| format!("a ledger of {length} words: {told}"))? != 2 {
                 return Err(format!("a ledger of {length} words: {call} did not answer 2"));
             }
+        }
+        fresh_entries(&other, tally).map_err(|told| format!("a ledger of {length} words: {told}"))?;
+    }
+    Ok(())
+}
+
+/// A good fresh asks for the number of words, a refused one is a bad entry before that.
+fn fresh_entries(words: &[u64], tally: &mut Tally) -> Result<(), String> {
+    for (body, wanted) in [(b"20171201000000005000000006", 2), (b"20171200000000005000000006", 13)] {
+        let call = Call::Entry { journal: groups::entry(FRESH, body), seen: 0 };
+        if Both::of(words).call(tally, &call, 0)? != wanted {
+            return Err(format!("{call} did not answer {wanted}"));
         }
     }
     Ok(())

@@ -5,9 +5,10 @@ use std::path::{Path, PathBuf};
 use std::process::{exit, Command, Output};
 use std::{env, fs, io};
 
-const FAULTS: [&str; 4] = [
+const FAULTS: [&str; 5] = [
     include_str!("../../faults/arguments.txt"),
     include_str!("../../faults/causes.txt"),
+    include_str!("../../faults/entry.txt"),
     include_str!("../../faults/soundness.txt"),
     include_str!("../../faults/writing.txt"),
 ];

@@ -1,0 +1,84 @@
+-- `report::brn_file::write_notices` meets its contract: the last notices are put behind the others.
+use borrow.Author.Tests.{not-true, not-false}
+use mathlib.Core.Path.{_≡_, refl, sym, ap, _∙_}
+use native.Mathlib.Omega.{arith}
+use lib.ListN.{length}
+use lib.Seq.{length-take-le}
+use Rattle.fields.proofs.PutLaws.{length-put}
+use Rattle.report.proofs.BrnLaws.{ran-tail, size-within, room, all-put, whole-put}
+use borrow.Author.Needs.{needs}
+use Rattle.report.proofs.brn_file.write_notices.Statement.{statement}
+use Rattle.report.proofs.brn_file.write_notices.Tie as tie
+
+slice-aggregate-start : tie.Need-slice-aggregate-start
+slice-aggregate-start c = search needs
+
+start-requires : tie.Need-start-requires
+start-requires c κs = search needs
+
+slice-aggregate-run : tie.Need-slice-aggregate-run
+slice-aggregate-run c = search needs
+
+run-requires : tie.Need-run-requires
+run-requires c κs = search needs
+
+same-length : tie.Need-same-length
+same-length c = search needs
+
+returns : tie.Need-returns
+returns c = whole-put _ _ _ _ _ _ (c .before .before .before .before .run .ensures) (c .before .before .before .before .before .before .before .before .start .ensures .2) (not-true _ (c .if1 .taken))
+
+slice-aggregate-run-2 : tie.Need-slice-aggregate-run-2
+slice-aggregate-run-2 c = search needs
+
+slice-aggregate-run-3 : tie.Need-slice-aggregate-run-3
+slice-aggregate-run-3 c = search needs
+
+sub-run : tie.Need-sub-run
+sub-run c = search needs
+
+part-run-start : tie.Need-part-run-start
+part-run-start c = search needs
+
+part-run-end : tie.Need-part-run-end
+part-run-end c = search needs
+
+run-requires-2 : tie.Need-run-requires-2
+run-requires-2 c κs = search needs
+
+array-share-prefix-last : tie.Need-array-share-prefix-last
+array-share-prefix-last c = size-within _ _ _ _ _ _ (c .before .before .before .before .before .before .before .before .before .before .before .run .ensures) (c .before .before .before .before .before .before .before .before .before .before .before .before .before .before .before .start .ensures .2) (c .before .before .before .before .before .before .before .before .before .before .before .before .before .before .before .before .before .before .before .pre) (not-false _ (c .before .before .before .before .before .before .before .if1 .left)) _ refl _ _ _ (ran-tail _ (c .before .before .before .before .before .before .before .before .before .before .before .before .before .before .before .before .before .before .before .args .src .now) _ _ _ _ _ _ (c .before .before .before .run2 .ensures))
+
+slice-aggregate-put-bytes : tie.Need-slice-aggregate-put-bytes
+slice-aggregate-put-bytes c = sym (length-take-le _ _ (size-within _ _ _ _ _ _ (c .before .before .before .before .before .before .before .before .before .before .before .before .run .ensures) (c .before .before .before .before .before .before .before .before .before .before .before .before .before .before .before .before .start .ensures .2) (c .before .before .before .before .before .before .before .before .before .before .before .before .before .before .before .before .before .before .before .before .pre) (not-false _ (c .before .before .before .before .before .before .before .before .if1 .left)) _ refl _ _ _ (ran-tail _ (c .before .before .before .before .before .before .before .before .before .before .before .before .before .before .before .before .before .before .before .before .args .src .now) _ _ _ _ _ _ (c .before .before .before .before .run2 .ensures))))
+
+put-bytes-requires : tie.Need-put-bytes-requires
+put-bytes-requires c κs = room _ _ _ _ _ _ (c .before .before .before .before .before .before .before .before .before .before .before .before .run .ensures) (c .before .before .before .before .before .before .before .before .before .before .before .before .before .before .before .before .start .ensures .2) (c .before .before .before .before .before .before .before .before .before .before .before .before .before .before .before .before .before .before .before .before .pre) (not-false _ (c .before .before .before .before .before .before .before .before .if1 .left)) _ refl _ _ _ (ran-tail _ (c .before .before .before .before .before .before .before .before .before .before .before .before .before .before .before .before .before .before .before .before .args .src .now) _ _ _ _ _ _ (c .before .before .before .before .run2 .ensures))
+
+same-length-2 : tie.Need-same-length-2
+same-length-2 c = ap length (c .before .before .put-bytes .ensures) ∙ length-put _ _ _ (room _ _ _ _ _ _ (c .before .before .before .before .before .before .before .before .before .before .before .before .before .before .before .run .ensures) (c .before .before .before .before .before .before .before .before .before .before .before .before .before .before .before .before .before .before .before .start .ensures .2) (c .before .before .before .before .before .before .before .before .before .before .before .before .before .before .before .before .before .before .before .before .before .before .before .pre) (not-false _ (c .before .before .before .before .before .before .before .before .before .before .before .if1 .left)) _ refl _ _ _ (ran-tail _ (c .before .before .before .before .before .before .before .before .before .before .before .before .before .before .before .before .before .before .before .before .before .before .before .args .src .now) _ _ _ _ _ _ (c .before .before .before .before .before .before .before .run2 .ensures))) ∙ c .before .before .before .before .before .before .before .before .before .before .before .before .before .before .before .run .ensures .kept
+
+returns-2 : tie.Need-returns-2
+returns-2 c = c .before .before .put-bytes .ensures ∙ all-put _ _ _ _ _ _ (c .before .before .before .before .before .before .before .before .before .before .before .before .before .before .before .run .ensures) (c .before .before .before .before .before .before .before .before .before .before .before .before .before .before .before .before .before .before .before .start .ensures .2) (c .before .before .before .before .before .before .before .before .before .before .before .before .before .before .before .before .before .before .before .before .before .before .before .pre) (not-false _ (c .before .before .before .before .before .before .before .before .before .before .before .if1 .left)) _ refl _ _ _ (ran-tail _ (c .before .before .before .before .before .before .before .before .before .before .before .before .before .before .before .before .before .before .before .before .before .before .before .args .src .now) _ _ _ _ _ _ (c .before .before .before .before .before .before .before .run2 .ensures))
+
+pub write-notices-spec : {M : Type 1} → statement M
+write-notices-spec =
+    tie.close
+    (tie.spec
+    slice-aggregate-start
+    start-requires
+    slice-aggregate-run
+    run-requires
+    same-length
+    returns
+    slice-aggregate-run-2
+    slice-aggregate-run-3
+    sub-run
+    part-run-start
+    part-run-end
+    run-requires-2
+    array-share-prefix-last
+    slice-aggregate-put-bytes
+    put-bytes-requires
+    same-length-2
+    returns-2)

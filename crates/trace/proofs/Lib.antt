@@ -1,0 +1,3 @@
+-- Laws of a journal that is read in pieces.
+pub mod PieceLaws
+pub mod ReadingLaws

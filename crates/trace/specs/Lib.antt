@@ -1,0 +1,2 @@
+-- What comes of a journal on standard input.
+pub mod Reading

@@ -1,0 +1,205 @@
+-- The loop over the entries at the start of some bytes. Assumes nothing.
+use Prim.Native.Nat.{ℕ, suc, _+_, _-_, _≤_, _<_}
+use mathlib.Core.Path.{_≡_, refl, sym, ap, ap₂, _∙_, subst}
+use mathlib.Core.Bool.{Bool, true, false, true≢false, false≢true}
+use mathlib.Core.List.{List, [], _∷_, _++_, append-assoc, append-nil}
+use native.Mathlib.Omega.{arith}
+use native.Mathlib.Nat.{add-zero, zero-add}
+use lib.ListN.{length, take, drop, length-drop, length-append}
+use lib.Seq.{drop-drop, take-all}
+use borrow.Author.Tests.{lt-ltb, le-ltb}
+use Rattle.fields.specs.Put.{put, part}
+use Rattle.fields.proofs.PutLaws.{first, next, put-nil}
+use Rattle.ledger.specs.declared.Ledger.{Ledger}
+use Rattle.ledger.specs.Books.{Book, book}
+use Rattle.ledger.specs.Sound.{soundLedger}
+use Rattle.words.specs.Layout.{ledgerOf}
+use Rattle.journal.specs.declared.Body.{Body}
+use Rattle.journal.specs.declared.Head.{Head}
+use Rattle.journal.specs.declared.Head.the-variants.{Cut, Bad, Whole}
+use Rattle.journal.specs.Entries.{headOf}
+use Rattle.journal.specs.Journal.{Entry, parse, made, makes}
+use Rattle.journal.specs.Made.{madeIn, madeAll}
+use Rattle.journal.proofs.HeadLaws.{whole-fits}
+use Rattle.journal.proofs.JournalLaws.{parse-cut, parse-bad, parse-whole}
+use Rattle.journal.proofs.BeginLaws.{whole-taken, makes-append}
+use Rattle.journal.proofs.MadeLaws.{made-book}
+use Rattle.engine.specs.Running.{behind}
+use Rattle.trace_lines.specs.Trace.{entryLines, traceLines}
+use Rattle.tracing.specs.declared.Traced.{Traced}
+use Rattle.tracing.specs.declared.Traced.the-variants as traced
+use Rattle.tracing.specs.Tracing.{entryAt, entryRoom, EntryMade, EntryOn, EntryIn, Traces, TracesIn}
+
+-- ---- entries one after another
+made-append : (l : Ledger) (es fs : List Entry) → madeAll l (es ++ fs) ≡ madeAll (madeAll l es) fs
+unfolding madeAll
+made-append l [] fs = refl
+made-append l (e ∷ es) fs = made-append (madeIn 64200 l (e .body) (e .bytes) .ledger) es fs
+
+pub lines-append : (number : ℕ) (k : Book) (es fs : List Entry)
+    → traceLines number k (es ++ fs) ≡ traceLines number k es ++ traceLines (number + length es) (makes k es) fs
+unfolding traceLines makes
+lines-append number k [] fs = ap (λ (i : ℕ). traceLines i k fs) (sym (add-zero number))
+lines-append number k (e ∷ es) fs =
+    let w = entryLines k number e in
+    let j = made (e .body) (e .bytes) k in
+    let i : number + 1 + length es ≡ number + suc (length es) = omega arith in
+    ap (λ (x : List ℕ). w ++ x) (lines-append (number + 1) j es fs)
+    ∙ sym (append-assoc w (traceLines (number + 1) j es) (traceLines (number + 1 + length es) (makes j es) fs))
+    ∙ ap (λ (x : ℕ). (w ++ traceLines (number + 1) j es) ++ traceLines x (makes j es) fs) i
+
+pub rest-is : (src : List ℕ) (at : ℕ) → take (length src - at) (drop at src) ≡ drop at src
+rest-is src at = take-all (length src - at) (drop at src) (omega (arith, length-drop at src))
+
+pub traces-start : (seen : ℕ) (src ws out : List ℕ) → soundLedger (ledgerOf ws) ≡ true → Traces seen src ws out ws out 0 seen 0
+unfolding madeAll makes traceLines
+traces-start seen src ws out h =
+    record {
+      sound = h;
+      used = omega arith;
+      done = [];
+      parsed = refl;
+      ledger = refl;
+      books = refl;
+      count = sym (add-zero seen);
+      kept = refl;
+      bytes = put-nil out 0;
+      written = refl;
+      within = omega arith;
+    }
+
+-- ---- what stood there, by what an entry's turn answered
+module _ (k : ℕ) (s : List ℕ) (n : ℕ) (ws out ws′ out′ : List ℕ) (r : Traced) (x : EntryIn k s n ws out ws′ out′ r) where
+  abbrev Was : ℕ → ℕ → Type 0
+  Was m end = (b : Body) × (headOf k s ≡ Whole b m) × EntryMade b m k s n ws out ws′ out′ end
+
+  was-made : (m end : ℕ) → r ≡ traced.Made m end → Was m end
+  was-made m end q = go (headOf k s) refl x
+    where
+      go : (h : Head) → headOf k s ≡ h → EntryOn h k s n ws out ws′ out′ r → Was m end
+      go Cut e w = let p : traced.Cut ≡ traced.Made m end = sym (w .2) ∙ q in let z : _≡_ {A = ℕ} 0 1 = cc in absurd (omega arith)
+      go Bad e w = let p : traced.Bad ≡ traced.Made m end = sym (w .2) ∙ q in let z : _≡_ {A = ℕ} 0 1 = cc in absurd (omega arith)
+      go (Whole b i) e w =
+          let p : traced.Made i (w .0) ≡ traced.Made m end = sym (w .1) ∙ q in
+          let z : i ≡ m = cc in
+          let y : w .0 ≡ end = cc in (
+            b,
+            e ∙ ap (λ (j : ℕ). Whole b j) z,
+            subst (λ (j : ℕ). EntryMade b j k s n ws out ws′ out′ end) z
+                (subst (λ (v : ℕ). EntryMade b i k s n ws out ws′ out′ v) y (w .2)),
+          )
+
+  abbrev None : Bool → Type 0
+  None bad = (parse k s ≡ record { entries = []; stopped = bad; rest = s }) × (ws′ ≡ ws) × (out′ ≡ out)
+
+  was-cut : r ≡ traced.Cut → None false
+  was-cut q = go (headOf k s) refl x
+    where
+      go : (h : Head) → headOf k s ≡ h → EntryOn h k s n ws out ws′ out′ r → None false
+      go Cut e w = (parse-cut k s e, w .0, w .1)
+      go Bad e w = let p : traced.Bad ≡ traced.Cut = sym (w .2) ∙ q in let z : _≡_ {A = ℕ} 0 1 = cc in absurd (omega arith)
+      go (Whole b i) e w = let p : traced.Made i (w .0) ≡ traced.Cut = sym (w .1) ∙ q in let z : _≡_ {A = ℕ} 0 1 = cc in absurd (omega arith)
+
+  was-bad : r ≡ traced.Bad → None true
+  was-bad q = go (headOf k s) refl x
+    where
+      go : (h : Head) → headOf k s ≡ h → EntryOn h k s n ws out ws′ out′ r → None true
+      go Cut e w = let p : traced.Cut ≡ traced.Bad = sym (w .2) ∙ q in let z : _≡_ {A = ℕ} 0 1 = cc in absurd (omega arith)
+      go Bad e w = (parse-bad k s e, w .0, w .1)
+      go (Whole b i) e w = let p : traced.Made i (w .0) ≡ traced.Bad = sym (w .1) ∙ q in let z : _≡_ {A = ℕ} 0 1 = cc in absurd (omega arith)
+
+-- ---- one entry more
+module _ (seen : ℕ) (src ws₀ out₀ ws out : List ℕ) (at k n : ℕ) (w : Traces seen src ws₀ out₀ ws out at k n) where
+  pub traces-full : length out - n < 8652 → TracesIn seen src ws₀ out₀ ws out (record { used = at; seen = k; written = n; full = true; stopped = false })
+  traces-full f =
+      record {
+        made = w;
+        full = sym (lt-ltb (length out₀ - n) 8652 (omega (arith, w .kept)));
+        left = λ z. absurd (true≢false z);
+        goes = λ z. refl;
+      }
+
+  ended : (bad : Bool) → 8652 ≤ length out - n → parse k (drop at src) ≡ record { entries = []; stopped = bad; rest = drop at src }
+      → TracesIn seen src ws₀ out₀ ws out (record { used = at; seen = k; written = n; full = false; stopped = bad })
+  ended bad f e =
+      record {
+        made = w;
+        full = sym (le-ltb (length out₀ - n) 8652 (omega (arith, w .kept)));
+        left = λ z. e;
+        goes = λ z. absurd (false≢true z);
+      }
+
+  module _ (room : 8652 ≤ length out - n) (ws′ out′ : List ℕ) (r : Traced)
+      (y : EntryIn k (take (length src - at) (drop at src)) n ws out ws′ out′ r) where
+    turn : EntryIn k (drop at src) n ws out ws′ out′ r
+    turn = subst (λ (s : List ℕ). EntryIn k s n ws out ws′ out′ r) (rest-is src at) y
+
+    pub traces-cut : r ≡ traced.Cut
+        → TracesIn seen src ws₀ out₀ ws′ out′ (record { used = at; seen = k; written = n; full = false; stopped = false })
+    traces-cut q = let x = was-cut k (drop at src) n ws out ws′ out′ r turn q in rw (x .1, x .2) (ended false room (x .0))
+
+    pub traces-bad : r ≡ traced.Bad
+        → TracesIn seen src ws₀ out₀ ws′ out′ (record { used = at; seen = k; written = n; full = false; stopped = true })
+    traces-bad q = let x = was-bad k (drop at src) n ws out ws′ out′ r turn q in rw (x .1, x .2) (ended true room (x .0))
+
+    module _ (m end : ℕ) (q : r ≡ traced.Made m end) where
+      abbrev was : Was k (drop at src) n ws out ws′ out′ r turn m end
+      was = was-made k (drop at src) n ws out ws′ out′ r turn m end q
+
+      abbrev one : Entry
+      one = entryAt (drop at src) (was .0) m
+
+      abbrev so-far : List ℕ
+      so-far = traceLines (seen + 1) (book (ledgerOf ws₀)) (w .done)
+
+      abbrev lines : List ℕ
+      lines = entryLines (book (ledgerOf ws)) (k + 1) one
+
+      pub traces-fits : (3 ≤ m) × (at + m ≤ length src) × (k < 1000000000)
+      traces-fits =
+          let x = whole-fits k (drop at src) (was .0) m (was .1) in
+          (x .0, omega (arith, x .1, length-drop at src, w .used), x .2)
+
+      parsed-on : parse k (drop at src) ≡ behind (one ∷ []) (parse (k + 1) (drop (at + m) src))
+      parsed-on = parse-whole k (drop at src) (was .0) m (was .1) ∙ rw (drop-drop m at src)
+
+      book-on : book (ledgerOf ws′) ≡ made (was .0) (one .bytes) (book (ledgerOf ws))
+      book-on =
+          ap book (was .2 .ledger)
+          ∙ made-book (ledgerOf ws) (w .sound) (was .0) (one .bytes) (whole-taken k (drop at src) (was .0) m (was .1))
+
+      all-lines : so-far ++ lines ≡ traceLines (seen + 1) (book (ledgerOf ws₀)) (w .done ++ (one ∷ []))
+      unfolding traceLines
+      all-lines =
+          let i : k + 1 ≡ seen + 1 + length (w .done) = omega (arith, w .count) in
+          ap (λ (x : List ℕ). so-far ++ x) (sym (append-nil lines))
+          ∙ ap₂ (λ (j : Book) (x : ℕ). so-far ++ traceLines x j (one ∷ [])) (w .books) i
+          ∙ sym (lines-append (seen + 1) (book (ledgerOf ws₀)) (w .done) (one ∷ []))
+
+      pub traces-on : length out′ ≡ length out → Traces seen src ws₀ out₀ ws′ out′ (at + m) (k + 1) end
+      unfolding madeAll makes
+      traces-on kept =
+          let g = next (first out₀ 0 so-far (omega arith) (w .bytes) refl) lines (was .2 .bytes ∙ ap (λ (i : ℕ). put out i lines) (w .written ∙ sym (zero-add (length so-far)))) refl in
+          record {
+            sound = was .2 .sound;
+            used = traces-fits .1;
+            done = w .done ++ (one ∷ []);
+            parsed =
+                w .parsed
+                ∙ ap (behind (w .done)) parsed-on
+                ∙ ap (λ (es : List Entry). record { entries = es; stopped = parse (k + 1) (drop (at + m) src) .stopped; rest = parse (k + 1) (drop (at + m) src) .rest })
+                (sym (append-assoc (w .done) (one ∷ []) (parse (k + 1) (drop (at + m) src) .entries)));
+            ledger =
+                was .2 .ledger
+                ∙ ap (λ (j : Ledger). madeAll j (one ∷ [])) (w .ledger)
+                ∙ sym (made-append (ledgerOf ws₀) (w .done) (one ∷ []));
+            books =
+                book-on
+                ∙ ap (λ (j : Book). makes j (one ∷ [])) (w .books)
+                ∙ sym (makes-append (book (ledgerOf ws₀)) (w .done) (one ∷ []));
+            count = omega (arith, w .count, length-append (w .done) (one ∷ []));
+            kept = kept ∙ w .kept;
+            bytes = g .same ∙ ap (put out₀ 0) all-lines;
+            written = omega (arith, was .2 .long, w .written, g .long, ap length all-lines);
+            within = omega (arith, was .2 .within, w .kept, w .within);
+          }

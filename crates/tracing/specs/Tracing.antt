@@ -1,0 +1,89 @@
+-- What a run over the entries at the start of some bytes leaves, and the lines that it writes. Assumes nothing.
+use Prim.Native.Nat.{ℕ, _+_, _-_, _≤_}
+use mathlib.Core.Path.{_≡_}
+use mathlib.Core.Bool.{Bool, true, false}
+use mathlib.Core.List.{List, [], _++_}
+use lib.Dec.{ltb}
+use lib.ListN.{length, drop}
+use Rattle.fields.specs.Put.{put, part}
+use Rattle.ledger.specs.declared.Ledger.{Ledger}
+use Rattle.ledger.specs.Books.{book}
+use Rattle.ledger.specs.Sound.{soundLedger}
+use Rattle.words.specs.Layout.{ledgerOf}
+use Rattle.calls.specs.declared.Answer.{Answer}
+use Rattle.calls.specs.declared.Answer.the-variants.{Done, Refused}
+use Rattle.journal.specs.declared.Body.{Body}
+use Rattle.journal.specs.declared.Head.{Head}
+use Rattle.journal.specs.declared.Head.the-variants.{Cut, Bad, Whole}
+use Rattle.journal.specs.Entries.{headOf}
+use Rattle.journal.specs.Journal.{Entry, parse, makes}
+use Rattle.journal.specs.Made.{madeIn, writtenIn, madeAll}
+use Rattle.engine.specs.Running.{behind}
+use Rattle.trace_lines.specs.Trace.{entryLines, traceLines}
+use Rattle.tracing.specs.declared.Ran.{Ran}
+use Rattle.tracing.specs.declared.Traced.{Traced}
+use Rattle.tracing.specs.declared.Traced.the-variants as traced
+
+-- a call was carried out
+abbrev pub isDone : Answer → Bool
+isDone (Done r) = true
+isDone (Refused n) = false
+
+-- the entry of n bytes at the start of src, whose body is b
+abbrev pub entryAt : List ℕ → Body → ℕ → Entry
+entryAt src b n = record { body = b; bytes = part src 3 (n - 3) }
+
+-- an entry's line has at most 52 bytes, and each line of its at most 200 groups at most 43
+abbrev pub entryRoom : ℕ
+entryRoom = 8652
+
+-- on whatever ledger the call of the entry answered a and wrote what sent begins with: the lines of the entry were put at `at` and end at r
+pub record LinesOf (number : ℕ) (src : List ℕ) (n : ℕ) (a : Answer) (sent out₀ : List ℕ) (at : ℕ) (out : List ℕ) (r : ℕ) : Type 0 where
+  pub lines :
+      (seen : ℕ) (l : Ledger) (b : Body) (rest : List ℕ) → headOf seen src ≡ Whole b n → soundLedger l ≡ true
+      → a ≡ madeIn 64200 l b (part src 3 (n - 3)) .answer → sent ≡ writtenIn 64200 l b (part src 3 (n - 3)) ++ rest
+      → (out ≡ put out₀ at (entryLines (book l) number (entryAt src b n))) × (r ≡ at + length (entryLines (book l) number (entryAt src b n)))
+  pub within : r ≤ at + entryRoom
+
+-- ---- one entry
+-- the entry of n bytes at the start of src was made, after so many entries, and its lines were put at `at` and end at `end`
+pub record EntryMade (b : Body) (n seen : ℕ) (src : List ℕ) (at : ℕ) (ws₀ out₀ ws out : List ℕ) (end : ℕ) : Type 0 where
+  pub sound : soundLedger (ledgerOf ws) ≡ true
+  pub ledger : ledgerOf ws ≡ madeIn 64200 (ledgerOf ws₀) b (part src 3 (n - 3)) .ledger
+  pub bytes : out ≡ put out₀ at (entryLines (book (ledgerOf ws₀)) (seen + 1) (entryAt src b n))
+  pub long : end ≡ at + length (entryLines (book (ledgerOf ws₀)) (seen + 1) (entryAt src b n))
+  pub within : end ≤ at + entryRoom
+
+-- what stands at the start of src, made: where no whole entry does, words and output are as they were
+abbrev pub EntryOn : Head → ℕ → List ℕ → ℕ → List ℕ → List ℕ → List ℕ → List ℕ → Traced → Type 0
+EntryOn Cut seen src at ws₀ out₀ ws out r = (ws ≡ ws₀) × (out ≡ out₀) × (r ≡ traced.Cut)
+EntryOn Bad seen src at ws₀ out₀ ws out r = (ws ≡ ws₀) × (out ≡ out₀) × (r ≡ traced.Bad)
+EntryOn (Whole b n) seen src at ws₀ out₀ ws out r = (end : ℕ) × (r ≡ traced.Made n end) × EntryMade b n seen src at ws₀ out₀ ws out end
+
+abbrev pub EntryIn : ℕ → List ℕ → ℕ → List ℕ → List ℕ → List ℕ → List ℕ → Traced → Type 0
+EntryIn seen src = EntryOn (headOf seen src) seen src
+
+-- ---- entries one after another
+-- the first entries of src were made, after so many entries: they have `at` bytes, `k` entries came by now, and their lines stand at the start of the
+-- output, `n` bytes
+pub record Traces (seen : ℕ) (src ws₀ out₀ ws out : List ℕ) (at k n : ℕ) : Type 0 where
+  pub sound : soundLedger (ledgerOf ws) ≡ true
+  pub used : at ≤ length src
+  -- the entries that were made
+  pub done : List Entry
+  pub parsed : parse seen src ≡ behind done (parse k (drop at src))
+  pub ledger : ledgerOf ws ≡ madeAll (ledgerOf ws₀) done
+  pub books : book (ledgerOf ws) ≡ makes (book (ledgerOf ws₀)) done
+  pub count : k ≡ seen + length done
+  pub kept : length out ≡ length out₀
+  pub bytes : out ≡ put out₀ 0 (traceLines (seen + 1) (book (ledgerOf ws₀)) done)
+  pub written : n ≡ length (traceLines (seen + 1) (book (ledgerOf ws₀)) done)
+  pub within : n ≤ length out₀
+
+-- and none is left unless the output has no room for another entry's lines
+pub record TracesIn (seen : ℕ) (src ws₀ out₀ ws out : List ℕ) (r : Ran) : Type 0 where
+  pub made : Traces seen src ws₀ out₀ ws out (r .used) (r .seen) (r .written)
+  pub full : r .full ≡ ltb (length out₀ - r .written) entryRoom
+  pub left :
+      r .full ≡ false → parse (r .seen) (drop (r .used) src) ≡ record { entries = []; stopped = r .stopped; rest = drop (r .used) src }
+  pub goes : r .full ≡ true → r .stopped ≡ false
