@@ -5,6 +5,7 @@ ghost use Prim.Native.Nat.{_≤_};
 ghost use lib.ListN.{length};
 ghost use Rattle.brn.specs.Warning.{Ends, Warns};
 ghost use Rattle.words.specs.Layout.{ledgerSize};
+use engine::run;
 use libc::STDERR_FILENO;
 use replay::End;
 use replay::output;
@@ -41,7 +42,7 @@ fn post_input(ws: &mut [u64], buf: &mut [u8], out: &mut [u8]) -> Output
     requires { ⌜ (length (now ws) ≡ ledgerSize) × (length (now buf) ≡ 262144) × (length (now out) ≡ 262144) ⌝ }
     ensures { λ o. ⌜ Ends (now (out .exit)) o ⌝ }
 {
-    replay::start(ws);
+    run::start(ws);
     let e = replay::read_all(ws, buf, out, true);
     warning(out, e)
 }

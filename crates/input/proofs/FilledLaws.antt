@@ -1,6 +1,6 @@
 -- What a read came to. Assumes nothing.
 use Prim.Native.Nat.{ℕ, zero, suc, _+_, _-_, _^_, _≤_, _<_}
-use mathlib.Core.Path.{_≡_, refl, sym, ap, subst}
+use mathlib.Core.Path.{_≡_, refl}
 use mathlib.Core.Bool.{true, false, true≢false}
 use mathlib.Core.List.{List}
 use native.Mathlib.Omega.{arith}
@@ -14,7 +14,7 @@ use lib.ListN.{length}
 use Rattle.libc.specs.Io.{Moved}
 use Rattle.input.specs.declared.Filled as filled
 use Rattle.input.specs.declared.Filled.the-variants.{Bytes, Ended, Failed}
-use Rattle.input.specs.Filled.{filledBy, RoomFor, Fills, Holds, notEnded}
+use Rattle.input.specs.Filled.{filledBy, RoomFor, Holds, notEnded}
 
 pub ended : (f : filled.Filled) → notEnded f ≡ false → f ≡ Ended
 ended (Bytes n) z = absurd (true≢false z)
@@ -27,10 +27,9 @@ by-holds have room (pos zero) h m = tt
 by-holds have room (pos (suc k)) h m = (omega arith, omega arith)
 
 -- a read holds more than before, and no more than the buffer has
-pub holds : (have : ℕ) (before after : List ℕ) (r : filled.Filled) → have ≤ length before → length after ≡ length before → Fills have before after r
-    → Holds have (length after) r
-holds have before after r h n f =
-    subst (Holds have (length after)) (sym (f .came)) (rw n (by-holds have (length before) (f .got) h (f .moved)))
+pub holds : (have room m size : ℕ) (got : ℤ) (r : filled.Filled) → have ≤ room → m ≡ room - have → size ≡ room → Moved m got → r ≡ filledBy got have
+    → Holds have size r
+holds have room m size got r h e n q c = rw (c, n) (by-holds have room got h (rw e at q))
 
 -- ---- what a read answered, as the code tells it apart
 pub by-negative : (z : ℤ) (have : ℕ) → ltZ z (pos 0) ≡ true → Failed ≡ filledBy z have

@@ -6,6 +6,7 @@ ghost use Rattle.ledger.specs.Sound.{soundLedger};
 ghost use Rattle.words.specs.Layout.{ledgerSize, ledgerOf};
 ghost use Rattle.table.specs.Table.{tableRoom};
 ghost use Rattle.posted.specs.Posting.{Tables, Posts};
+use engine::run;
 use libc::STDERR_FILENO;
 use libc::STDOUT_FILENO;
 use replay::End;
@@ -36,7 +37,7 @@ fn post_input(ws: &mut [u64], buf: &mut [u8], out: &mut [u8]) -> Output
     requires { ⌜ (length (now ws) ≡ ledgerSize) × (length (now buf) ≡ 262144) × (length (now out) ≡ tableRoom) ⌝ }
     ensures { λ o. ⌜ Posts (now (out .exit)) o ⌝ }
 {
-    replay::start(ws);
+    run::start(ws);
     let e = replay::read_all(ws, buf, out, false);
     table_of(ws, out, e)
 }

@@ -18,7 +18,6 @@ use Rattle.engine.specs.Running.{behind, RanIn}
 use Rattle.input.specs.declared.Filled as filled
 use Rattle.input.specs.declared.Filled.the-variants as filled-as
 use Rattle.input.specs.Filled.{Holds, Fills}
-use Rattle.input.proofs.FilledLaws.{holds}
 use Rattle.replay.specs.Reading.{HoldsMore, FillsMore, Made}
 
 -- ---- a read: no fewer bytes are held
@@ -27,10 +26,9 @@ holds-more have full room (filled-as.Bytes n) e h = (omega (arith, h .0), h .1)
 holds-more have full room filled-as.Ended e h = e
 holds-more have full room filled-as.Failed e h = tt
 
-pub fills-more : (have : ℕ) (full : Bool) (before after : List ℕ) (r : filled.Filled) → full ≡ false → have ≤ length before → length after ≡ length before
-    → Fills have before after r → FillsMore have full before after r
-fills-more have full before after r e h n f =
-    record { stay = f .stay; holds = holds-more have full (length after) r e (holds have before after r h n f) }
+pub fills-more : (have : ℕ) (full : Bool) (before after : List ℕ) (r : filled.Filled) → full ≡ false → Fills have before after r
+    → FillsMore have full before after r
+fills-more have full before after r e f = record { stay = f .stay; holds = holds-more have full (length after) r e (f .holds) }
 
 -- ---- the bytes of the first n from m on, kept at the start
 module _ (xs : List ℕ) (m n : ℕ) (h : m ≤ n) (fits : n ≤ length xs) where

@@ -20,14 +20,14 @@ use Rattle.journal.specs.Journal.{Entry, Parsed, parse, parseUpTo, callOf, made
 use Rattle.journal.specs.Made.{madeIn, madeAll, writtenBy, noticesOf, brnOf}
 use Rattle.journal.proofs.JournalLaws.{fed, parse-fed}
 use Rattle.journal.proofs.BeginLaws.{makes-append}
-use Rattle.engine.specs.Running.{behind}
+use Rattle.engine.specs.Running.{behind, firstLedger}
 use Rattle.input.specs.declared.Filled as filled
 use Rattle.input.specs.declared.Filled.the-variants.{Ended}
 use Rattle.input.specs.Filled.{notEnded}
 use Rattle.input.proofs.FilledLaws.{ended}
 use Rattle.replay.specs.declared.End.{End}
 use Rattle.replay.specs.declared.Piece.{Piece}
-use Rattle.replay.specs.Reading.{firstLedger, Waits, Made, endOfInput, endOfPiece, Reads}
+use Rattle.replay.specs.Reading.{Waits, Made, endOfInput, endOfPiece, Reads}
 
 -- ---- entries behind entries
 notices-append : (k : Book) (es fs : List Entry) → noticesOf k (es ++ fs) ≡ noticesOf k es ++ noticesOf (makes k es) fs
@@ -78,11 +78,10 @@ pub record Reading (writes : Bool) (ws buf : List ℕ) (seen have total : ℕ) :
   pub size : total ≡ length (said writes (noticesOf noBook done))
 
 first-sound : soundLedger firstLedger ≡ true
-unfolding freshCauses startTests isDate monthDays firstLedger
+unfolding freshCauses startTests isDate monthDays
 first-sound = fresh-sound (record { today = record { 0 = 19000101 }; tracking = 1; confirmation = 1 }) refl
 
 first-book : book firstLedger ≡ noBook
-unfolding firstLedger
 first-book = refl
 
 none-said : (writes : Bool) → 0 ≡ length (said writes [])

@@ -6,24 +6,19 @@ use mathlib.Core.List.{List, []}
 use lib.IntN.{pos}
 use lib.ListN.{length, take}
 use Rattle.fields.specs.Put.{put}
-use Rattle.ledger.specs.declared.Ledger.{Ledger}
-use Rattle.ledger.specs.Books.{book, emptyLedger}
+use Rattle.ledger.specs.Books.{book}
 use Rattle.ledger.specs.Sound.{soundLedger}
 use Rattle.words.specs.Layout as layout
 use Rattle.group.specs.Turns.{said}
 use Rattle.journal.specs.Journal.{Entry, Parsed, parse, makes, endsBad, ledgerOf, isBad}
 use Rattle.journal.specs.Made.{madeAll, noticesOf, brnOf}
-use Rattle.engine.specs.Running.{behind}
+use Rattle.engine.specs.Running.{behind, firstLedger}
 use Rattle.input.specs.declared.Filled as filled
 use Rattle.input.specs.declared.Filled.the-variants as filled-as
 use Rattle.replay.specs.declared.End.{End}
 use Rattle.input.specs.Filled.{notEnded}
 use Rattle.replay.specs.declared.Piece.{Piece}
 use Rattle.replay.specs.declared.output.Output.{Output}
-
--- the ledger before the first entry: no bill, both numbers 1
-unfoldable pub firstLedger : Ledger
-firstLedger = emptyLedger (record { 0 = 19000101 }) 1 1
 
 -- ---- a read
 -- a buffer of so many bytes, of which some were held before, holds no fewer than before, and no more than it has; where entries are left to be

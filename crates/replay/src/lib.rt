@@ -5,14 +5,13 @@ ghost use mathlib.Core.Bool.{true, false, cond};
 ghost use Prim.Native.Nat.{_≤_};
 ghost use lib.ListN.{length};
 ghost use Rattle.ledger.specs.Sound.{soundLedger};
-ghost use Rattle.words.specs.Layout.{ledgerSize, ledgerOf};
-ghost use Rattle.replay.specs.Reading.{firstLedger, FillsMore, Made, noticesOutput, endOfInput, endOfPiece, Reads};
+ghost use Rattle.words.specs.Layout.{ledgerOf};
+ghost use Rattle.engine.specs.Running.{firstLedger};
+ghost use Rattle.replay.specs.Reading.{FillsMore, Made, noticesOutput, endOfInput, endOfPiece, Reads};
 use engine::run;
 use input::Filled;
-use ledger::Ledger;
 use libc::STDOUT_FILENO;
 use output::Output;
-use units::Date;
 
 pub mod output;
 
@@ -34,14 +33,6 @@ pub struct Piece {
     pub written: usize,
     pub full: bool,
     pub stopped: bool,
-}
-
-// Writes the words of the ledger before the first entry: no bill, both numbers 1.
-pub fn start(ws: &mut [u64])
-    requires { ⌜ length (now ws) ≡ ledgerSize ⌝ }
-    ensures { λ _. ⌜ ledgerOf (now (ws .exit)) ≡ firstLedger ⌝ }
-{
-    words::write(ws, Ledger::empty(Date(19000101), 1, 1));
 }
 
 // Reads on where all entries that were read are made.

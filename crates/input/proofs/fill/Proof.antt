@@ -9,7 +9,7 @@ use lib.IntN.{ℤ}
 use mir.Syntax.{w64}
 use mir.ValLaws.{toZ-ofZ}
 use Rattle.input.specs.Filled.{filledBy}
-use Rattle.input.proofs.FilledLaws.{moved-in, room-for}
+use Rattle.input.proofs.FilledLaws.{holds, moved-in, room-for}
 use borrow.Author.Needs.{needs}
 use Rattle.input.proofs.fill.Statement.{statement}
 use Rattle.input.proofs.fill.Tie as tie
@@ -43,11 +43,15 @@ returns c =
     let xs = c .before .before .before .before .before .before .args .buf .now in
     let same = toZ-ofZ w64 (c .before .before .before .read-input .result) (sfits-of (c .before .before .before .read-input .ok)) in
     let part = mid-len a (length xs) xs (omega arith) in
+    let came = c .filled-by .ensures ∙ ap (λ (z : ℤ). filledBy z a) same in
     record {
       stay = take-put a (length xs - a) xs (c .before .before .before .read-input .last .0) (c .before .before .before .before .before .before .pre);
+      holds =
+          holds a (length xs) _ _ (c .before .before .before .read-input .result) (c .filled-by .result) (c .before .before .before .before .before .before .pre) part
+          (c .before .before .buf .given .1) (c .before .before .before .read-input .ensures) came;
       got = c .before .before .before .read-input .result;
       moved = moved-in _ _ (c .before .before .before .read-input .result) (c .before .before .before .read-input .result) part refl (c .before .before .before .read-input .ensures);
-      came = c .filled-by .ensures ∙ ap (λ (z : ℤ). filledBy z a) same;
+      came = came;
     }
 
 pub fill-spec : {M : Type 1} → statement M

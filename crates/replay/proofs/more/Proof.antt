@@ -14,7 +14,7 @@ same-length : tie.Need-same-length
 same-length c = search needs
 
 returns-2 : tie.Need-returns-2
-returns-2 c = fills-more _ _ _ _ _ (c .before .before .before .before .if1 .left) (c .before .before .before .before .before .before .pre) (c .before .before .fill .kept .0) (c .before .before .fill .ensures)
+returns-2 c = fills-more _ _ _ _ _ (c .before .before .before .before .if1 .left) (c .before .before .fill .ensures)
 
 pub more-spec : {M : Type 1} → statement M
 more-spec = tie.close (tie.spec returns fill-requires same-length returns-2)
