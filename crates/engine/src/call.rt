@@ -19,7 +19,6 @@ use causes::checks;
 use causes::notice;
 use causes::requests;
 use ledger::Identity;
-use ledger::Ledger;
 use ledger::LedgerHeader;
 use units::Cents;
 use units::Date;
@@ -131,7 +130,6 @@ pub fn fresh_in(ws: &mut [u64], s: Start) -> Answer
     if let Check::Stop(n) = check {
         return Answer::Refused(n);
     }
-    let today = s.today;
-    words::write(ws, Ledger::empty(today, s.tracking, s.confirmation));
+    words::write_empty(ws, s.today.0, s.tracking, s.confirmation);
     calls::days::quiet(0)
 }

@@ -13,8 +13,6 @@ ghost use Rattle.engine.specs.Running.{NextIn, ranTo, RanIn, firstLedger
 use crate::entry;
 use crate::entry::Stepped;
 use calls::Answer;
-use ledger::Ledger;
-use units::Date;
 
 // How many bytes were read, how many entries came by now, how many bytes their notices have, whether the output has no room for another entry's, and
 // whether a bad entry stands there.
@@ -116,5 +114,5 @@ pub fn start(ws: &mut [u64])
     requires { ⌜ length (now ws) ≡ 2436 ⌝ }
     ensures { λ _. ⌜ (soundLedger (ledgerOf (now (ws .exit))) ≡ true) × (ledgerOf (now (ws .exit)) ≡ firstLedger) × (book (ledgerOf (now (ws .exit))) ≡ noBook) ⌝ }
 {
-    words::write(ws, Ledger::empty(Date(19000101), 1, 1));
+    words::write_empty(ws, 19000101, 1, 1);
 }

@@ -6,3 +6,4 @@ pub mod PartLaws
 pub mod DistinctLaws
 pub mod CheckLaws
 pub mod TotalLaws
+pub mod EmptyLaws

@@ -4,8 +4,9 @@ ghost use mathlib.Core.Bool.{true};
 ghost use Prim.Native.Nat.{_+_, _≤_, _<_};
 ghost use lib.ListN.{length, drop};
 ghost use Rattle.fields.specs.Put.{put};
+ghost use Rattle.ledger.specs.Books.{emptyLedger};
 ghost use Rattle.ledger.specs.Sound.{soundLedger};
-ghost use Rattle.words.specs.Layout.{placeSize, ledgerSize, markWord, termsWords, latestWords, postedWords, billWords, ledgerWords, holdsCode, holdsPosted, holdsBill, holdsLedger, productIn, postedIn, codeIn, latestIn, termsIn, billIn, ledgerIn, noLedger, ledgerOf};
+ghost use Rattle.words.specs.Layout.{placeSize, ledgerSize, markWord, termsWords, latestWords, postedWords, billWords, ledgerWords, holdsCode, holdsPosted, holdsBill, holdsLedger, productIn, postedIn, codeIn, latestIn, termsIn, billIn, ledgerIn, noLedger, ledgerOf, date};
 
 pub mod checks;
 pub mod place;
@@ -327,6 +328,24 @@ pub fn write(words: &mut [u64], l: Ledger)
     let mut i = 0;
     while i < PLACES {
         let b = l.bills[i];
+        put_bill(words, HEADER_SIZE + PLACE_SIZE * i, b);
+        i += 1;
+    }
+}
+
+// The same of a ledger with no bills, of which none is made.
+pub fn write_empty(words: &mut [u64], today: u64, tracking: u64, confirmation: u64)
+    requires { ⌜ length (now words) ≡ ledgerSize ⌝ }
+    ensures { λ _. ⌜ now (words .exit) ≡ ledgerWords (emptyLedger (date today) tracking confirmation) ⌝ }
+    ensures { λ _. ⌜ ledgerOf (now (words .exit)) ≡ emptyLedger (date today) tracking confirmation ⌝ }
+{
+    words[0] = today;
+    words[1] = tracking;
+    words[2] = confirmation;
+    words[3] = 0;
+    let mut i = 0;
+    while i < PLACES {
+        let b = Bill::blank();
         put_bill(words, HEADER_SIZE + PLACE_SIZE * i, b);
         i += 1;
     }

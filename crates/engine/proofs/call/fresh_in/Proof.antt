@@ -1,7 +1,6 @@
 -- `engine::call::fresh_in` meets its contract.
 use borrow.Author.Needs.{needs}
-use mathlib.Core.Path.{refl, sym, ap, _∙_}
-use Rattle.words.specs.Layout.{ledgerWords}
+use mathlib.Core.Path.{refl, sym, _∙_}
 use Rattle.calls.specs.Days.{freshBy, freshCalled}
 use Rattle.engine.proofs.call.fresh_in.Statement.{statement}
 use Rattle.engine.proofs.call.fresh_in.Tie as tie
@@ -19,11 +18,8 @@ returns c = rw (sym (c .before .before .before .fresh-check .ensures) ∙ c .bef
 enum-told : tie.Need-enum-told
 enum-told c = search needs
 
-empty-requires : tie.Need-empty-requires
-empty-requires c κs = search needs
-
-write-requires : tie.Need-write-requires
-write-requires c κs = c .before .before .before .before .before .before .before .pre
+write-empty-requires : tie.Need-write-empty-requires
+write-empty-requires c κs = c .before .before .before .before .before .pre
 
 quiet-requires : tie.Need-quiet-requires
 quiet-requires c κs = search needs
@@ -33,7 +29,7 @@ same-length c = search needs
 
 returns-2 : tie.Need-returns-2
 unfolding freshCalled freshBy
-returns-2 c = rw (sym (c .before .before .before .before .before .before .before .before .before .fresh-check .ensures) ∙ c .before .before .before .before .before .before .before .enum-told .given .1) (c .before .before .before .write .ensures .1 ∙ c .before .before .before .before .empty .ensures, c .quiet .ensures, c .before .before .before .write .ensures .0 ∙ ap ledgerWords (c .before .before .before .before .empty .ensures))
+returns-2 c = rw (sym (c .before .before .before .before .before .before .before .fresh-check .ensures) ∙ c .before .before .before .before .before .enum-told .given .1) (c .before .before .before .write-empty .ensures .1, c .quiet .ensures, c .before .before .before .write-empty .ensures .0)
 
 pub fresh-in-spec : {M : Type 1} → statement M
 fresh-in-spec =
@@ -43,8 +39,7 @@ fresh-in-spec =
     enum-known-check
     returns
     enum-told
-    empty-requires
-    write-requires
+    write-empty-requires
     quiet-requires
     same-length
     returns-2)
