@@ -1,13 +1,12 @@
 // Reads a journal on standard input and writes the notices of every call carried out, in order: the bytes of a BRN file.
 ghost use mathlib.Core.Path.{_≡_};
-ghost use mathlib.Core.Bool.{false};
-ghost use Prim.Native.Nat.{_≤_};
+ghost use lib.IntN.{pos};
 ghost use lib.ListN.{length};
-ghost use Rattle.brn.specs.Warning.{Ends, Warns};
 ghost use Rattle.words.specs.Layout.{ledgerSize};
-use engine::run;
+ghost use Rattle.replay.specs.Ending.{Told};
 use libc::STDERR_FILENO;
-use replay::End;
+use replay::Tells;
+use replay::ending;
 use replay::output;
 use replay::output::Output;
 
@@ -24,27 +23,12 @@ fn explain() {
     );
 }
 
-// What is written at the end: to standard error, that a bad entry stopped the reading, if one did and nothing failed.
-fn warning(out: &mut [u8], e: End) -> Output
-    requires { ⌜ 11 ≤ length (now out) ⌝ }
-    ensures { λ o. ⌜ Warns e (now (out .entry)) (now (out .exit)) o ⌝ }
-{
-    let bad = journal::ends_bad(e.stopped, e.left, e.seen);
-    let length = table::put_stop(out, 0, !e.failed & bad);
-    Output {
-        descriptor: STDERR_FILENO,
-        length,
-    }
-}
-
-// Reads standard input and writes its notices; what is left to write is the warning in `out`.
+// Reads standard input and writes the notices of its entries; what is left to write is in `out`, and goes to standard error.
 fn post_input(ws: &mut [u64], buf: &mut [u8], out: &mut [u8]) -> Output
     requires { ⌜ (length (now ws) ≡ ledgerSize) × (length (now buf) ≡ 262144) × (length (now out) ≡ 262144) ⌝ }
-    ensures { λ o. ⌜ Ends (now (out .exit)) o ⌝ }
+    ensures { λ o. ⌜ Told (pos 2) (now (out .exit)) o ⌝ }
 {
-    run::start(ws);
-    let e = replay::read_all(ws, buf, out, true);
-    warning(out, e)
+    ending::tell_input(ws, buf, out, Tells::Notices, STDERR_FILENO)
 }
 
 fn main() {

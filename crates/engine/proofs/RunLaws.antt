@@ -38,7 +38,7 @@ use Rattle.engine.specs.InWords.{StepOn, SteppedIn}
 use Rattle.engine.specs.Running.{behind, NextOn, NextIn, ranTo, RanIn}
 
 -- ---- entries one after another
-made-append : (l : Ledger) (es fs : List Entry) → madeAll l (es ++ fs) ≡ madeAll (madeAll l es) fs
+pub made-append : (l : Ledger) (es fs : List Entry) → madeAll l (es ++ fs) ≡ madeAll (madeAll l es) fs
 unfolding madeAll
 made-append l [] fs = refl
 made-append l (e ∷ es) fs = made-append (madeIn 64200 l (e .body) (e .bytes) .ledger) es fs

@@ -16,6 +16,7 @@ use Rattle.report.specs.Report.{postedOf}
 use Rattle.report.proofs.ReportLaws.{claimed}
 use Rattle.replay.specs.declared.End.{End}
 use Rattle.replay.specs.declared.output.Output.{Output}
+use Rattle.replay.specs.declared.Tells.the-variants.{Nothing}
 use Rattle.replay.specs.Reading.{Reads}
 use Rattle.posted.specs.Posting.{tableBy, Tables, Posts}
 
@@ -51,12 +52,12 @@ module _ (e : End) (ws before : List ℕ) where
       by-table (t bad) after n (ap t b ∙ sym (ap (λ (k : Bool). cond k [] (t (endsBad (e .stopped) (e .left) (e .seen)))) f)) s q
 
 -- ---- whose table it is
-posted-is : (ws buf : List ℕ) (e : End) (r : Reads false ws buf e)
+posted-is : (ws buf : List ℕ) (e : End) (r : Reads Nothing ws buf e)
     → tableOf (book (ledgerOf ws)) (endsBad (e .stopped) (e .left) (e .seen)) ≡ postedOf (r .bytes)
 unfolding postedOf
 posted-is ws buf e r = ap₂ tableOf (r .books) (r .bad)
 
-module _ (ws buf out₀ out : List ℕ) (e : End) (o : Output) (x : e .failed ≡ false → Reads false ws buf e) (w : Tables e ws out₀ out o) where
+module _ (ws buf out₀ out : List ℕ) (e : End) (o : Output) (x : e .failed ≡ false → Reads Nothing ws buf e) (w : Tables e ws out₀ out o) where
   by-bytes : (f : Bool) (s : List ℕ) → tableBy e ws ≡ cond f [] (postedOf s) → Posts out o
   by-bytes f s t =
       record {

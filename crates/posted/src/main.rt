@@ -10,6 +10,7 @@ use engine::run;
 use libc::STDERR_FILENO;
 use libc::STDOUT_FILENO;
 use replay::End;
+use replay::Tells;
 use replay::output;
 use replay::output::Output;
 
@@ -38,7 +39,7 @@ fn post_input(ws: &mut [u64], buf: &mut [u8], out: &mut [u8]) -> Output
     ensures { λ o. ⌜ Posts (now (out .exit)) o ⌝ }
 {
     run::start(ws);
-    let e = replay::read_all(ws, buf, out, false);
+    let e = replay::read_all(ws, buf, out, Tells::Nothing);
     table_of(ws, out, e)
 }
 

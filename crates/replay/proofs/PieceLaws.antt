@@ -1,24 +1,23 @@
 -- One piece of a journal: a read, and what a run over the bytes leaves with the rest kept at the start. Assumes nothing.
 use Prim.Native.Nat.{ℕ, _+_, _-_, _≤_}
 use mathlib.Core.Path.{_≡_, refl, sym, ap, ap₂, _∙_}
-use mathlib.Core.Bool.{Bool, true, false, cond}
-use mathlib.Core.List.{List, []}
+use mathlib.Core.Bool.{Bool, true, false}
+use mathlib.Core.List.{List}
 use native.Mathlib.Omega.{arith}
 use lib.ListN.{length, take, drop}
 use lib.Seq.{length-take-le, take-add, drop-at}
 use Rattle.fields.specs.Put.{part, put}
 use Rattle.fields.proofs.PutLaws.{length-part, part-put}
-use Rattle.ledger.specs.Books.{book}
-use Rattle.words.specs.Layout as layout
-use Rattle.group.specs.Turns.{said}
-use Rattle.journal.specs.Journal.{parse}
-use Rattle.journal.specs.Made.{noticesOf}
 use Rattle.engine.specs.declared.run.Ran.{Ran}
-use Rattle.engine.specs.Running.{behind, RanIn}
+use Rattle.engine.specs.Running.{ranTo, RanIn}
+use Rattle.tracing.specs.declared.Ran as traced
+use Rattle.tracing.specs.Tracing.{TracesIn}
 use Rattle.input.specs.declared.Filled as filled
 use Rattle.input.specs.declared.Filled.the-variants as filled-as
 use Rattle.input.specs.Filled.{Holds, Fills}
-use Rattle.replay.specs.Reading.{HoldsMore, FillsMore, Made}
+use Rattle.replay.specs.declared.Tells.{Tells}
+use Rattle.replay.specs.declared.Tells.the-variants.{Nothing, Notices, Lines}
+use Rattle.replay.specs.Reading.{HoldsMore, FillsMore, Runs, Made}
 
 -- ---- a read: no fewer bytes are held
 holds-more : (have : ℕ) (full : Bool) (room : ℕ) (r : filled.Filled) → full ≡ false → Holds have room r → HoldsMore have full room r
@@ -48,25 +47,74 @@ module _ (xs : List ℕ) (m n : ℕ) (h : m ≤ n) (fits : n ≤ length xs) wher
   kept-front buf k e q =
       ap₂ (λ (i : ℕ) (l : List ℕ). take i l) e q ∙ front (part xs m (n - m)) (n - m) (length-part xs m (n - m) (omega arith)) ∙ sym drop-take
 
--- ---- what is written
-said-length : (writes : Bool) (xs : List ℕ) (n : ℕ) → n ≡ length xs → cond writes n 0 ≡ length (said writes xs)
-said-length true xs n e = e
-said-length false xs n e = refl
+-- ---- what is asked for
+module _ (seen : ℕ) (src ws₀ out₀ ws out : List ℕ) where
+  pub ran-nothing : (r : Ran) → RanIn seen false src ws₀ out₀ ws out r
+      → Runs seen Nothing src ws₀ out₀ ws out (ranTo (r .used) (r .seen) 0 (r .full) (r .stopped))
+  ran-nothing r x =
+      record {
+        sound = x .sound;
+        used = x .used;
+        done = x .done;
+        parsed = x .parsed;
+        ledger = x .ledger;
+        books = x .books;
+        count = x .count;
+        kept = x .kept;
+        bytes = x .bytes;
+        written = refl;
+        within = omega arith;
+        left = x .left;
+        goes = x .goes;
+      }
 
-said-room : (writes : Bool) (n room : ℕ) → (writes ≡ true → n ≤ room) → cond writes n 0 ≤ room
-said-room true n room h = h refl
-said-room false n room h = omega arith
+  pub ran-notices : (r : Ran) → RanIn seen true src ws₀ out₀ ws out r → Runs seen Notices src ws₀ out₀ ws out r
+  ran-notices r x =
+      record {
+        sound = x .sound;
+        used = x .used;
+        done = x .done;
+        parsed = x .parsed;
+        ledger = x .ledger;
+        books = x .books;
+        count = x .count;
+        kept = x .kept;
+        bytes = x .bytes;
+        written = x .written;
+        within = x .within refl;
+        left = x .left;
+        goes = x .goes;
+      }
+
+  pub ran-lines : (r : traced.Ran) → TracesIn seen src ws₀ out₀ ws out r
+      → Runs seen Lines src ws₀ out₀ ws out (ranTo (r .used) (r .seen) (r .written) (r .full) (r .stopped))
+  ran-lines r x =
+      let y = x .made in
+      record {
+        sound = y .sound;
+        used = y .used;
+        done = y .done;
+        parsed = y .parsed;
+        ledger = y .ledger;
+        books = y .books;
+        count = y .count;
+        kept = y .kept;
+        bytes = y .bytes;
+        written = y .written;
+        within = y .within;
+        left = x .left;
+        goes = x .goes;
+      }
 
 -- ---- the piece
-module _ (seen : ℕ) (writes : Bool) (n : ℕ) (ws₀ buf₀ out₀ ws out : List ℕ) (r : Ran) (fits : n ≤ length buf₀)
-    (x : RanIn seen writes (take n buf₀) ws₀ out₀ ws out r) where
+module _ (seen : ℕ) (t : Tells) (n : ℕ) (ws₀ buf₀ out₀ ws out : List ℕ) (r : Ran) (fits : n ≤ length buf₀)
+    (x : Runs seen t (take n buf₀) ws₀ out₀ ws out r) where
   pub used-within : r .used ≤ n
   used-within = omega (arith, x .used, length-take-le n buf₀ fits)
 
-  pub made : (buf : List ℕ) (left written : ℕ) → left ≡ n - r .used → buf ≡ put buf₀ 0 (part buf₀ (r .used) (n - r .used)) → length buf ≡ length buf₀
-      → written ≡ cond writes (r .written) 0
-      → Made seen writes n ws₀ buf₀ out₀ ws buf out (record { seen = r .seen; left = left; written = written; full = r .full; stopped = r .stopped })
-  made buf left written e q k w =
+  pub made : (buf : List ℕ) (left : ℕ) → left ≡ n - r .used → buf ≡ put buf₀ 0 (part buf₀ (r .used) (n - r .used)) → length buf ≡ length buf₀
+      → Made seen t n ws₀ buf₀ out₀ ws buf out (record { seen = r .seen; left = left; written = r .written; full = r .full; stopped = r .stopped })
+  made buf left e q k =
       let rest = kept-front buf₀ (r .used) n used-within fits buf left e q in
       record {
         done = x .done;
@@ -77,8 +125,8 @@ module _ (seen : ℕ) (writes : Bool) (n : ℕ) (ws₀ buf₀ out₀ ws out : Li
         count = x .count;
         within = omega arith;
         bytes = x .bytes;
-        written = w ∙ said-length writes (noticesOf (book (layout.ledgerOf ws₀)) (x .done)) (r .written) (x .written);
-        room = let h = said-room writes (r .written) (length out₀) (x .within) in omega (arith, x .kept);
+        written = x .written;
+        room = omega (arith, x .within, x .kept);
         waits = λ z. rw rest (x .left z);
         goes = x .goes;
       }

@@ -1,8 +1,8 @@
 -- A journal that comes in pieces is read whole. Assumes nothing.
 use Prim.Native.Nat.{ℕ, _+_, _-_, _≤_}
 use mathlib.Core.Path.{_≡_, refl, sym, ap, ap₂, subst, _∙_}
-use mathlib.Core.Bool.{Bool, true, false, cond, not, _||_, true≢false}
-use mathlib.Core.List.{List, [], _∷_, _++_, append-assoc, append-nil}
+use mathlib.Core.Bool.{Bool, true, false, not, _||_, true≢false}
+use mathlib.Core.List.{List, [], _++_, append-assoc, append-nil}
 use native.Mathlib.Omega.{arith}
 use lib.ListN.{length, take, drop, length-append}
 use lib.Seq.{length-take-le, take-add}
@@ -12,37 +12,27 @@ use Rattle.ledger.specs.Books.{Book, book}
 use Rattle.ledger.specs.Sound.{soundLedger}
 use Rattle.units.specs.Calendar.{isDate, monthDays}
 use Rattle.words.specs.Layout as layout
-use Rattle.group.specs.Turns.{said}
 use Rattle.causes.specs.Causes.{startTests, freshCauses}
-use Rattle.calls.specs.Machine.{outcomes}
 use Rattle.calls.proofs.DayLaws.{fresh-sound}
-use Rattle.journal.specs.Journal.{Entry, Parsed, parse, parseUpTo, callOf, made, makes, noBook, ledgerOf, isBad}
-use Rattle.journal.specs.Made.{madeIn, madeAll, writtenBy, noticesOf, brnOf}
+use Rattle.journal.specs.Journal.{Entry, Parsed, parse, parseUpTo, makes, noBook, ledgerOf, isBad}
+use Rattle.journal.specs.Made.{madeAll, noticesOf}
 use Rattle.journal.proofs.JournalLaws.{fed, parse-fed}
 use Rattle.journal.proofs.BeginLaws.{makes-append}
 use Rattle.engine.specs.Running.{behind, firstLedger}
+use Rattle.engine.proofs.RunLaws.{notices-append, made-append}
+use Rattle.trace_lines.specs.Trace.{traceLines}
+use Rattle.tracing.proofs.RunLaws.{lines-append}
 use Rattle.input.specs.declared.Filled as filled
 use Rattle.input.specs.declared.Filled.the-variants.{Ended}
 use Rattle.input.specs.Filled.{notEnded}
 use Rattle.input.proofs.FilledLaws.{ended}
+use Rattle.replay.specs.declared.Tells.{Tells}
+use Rattle.replay.specs.declared.Tells.the-variants.{Nothing, Notices, Lines}
 use Rattle.replay.specs.declared.End.{End}
 use Rattle.replay.specs.declared.Piece.{Piece}
-use Rattle.replay.specs.Reading.{Waits, Made, endOfInput, endOfPiece, Reads}
+use Rattle.replay.specs.Reading.{toldOf, Waits, Made, endOfInput, endOfPiece, Reads}
 
 -- ---- entries behind entries
-notices-append : (k : Book) (es fs : List Entry) → noticesOf k (es ++ fs) ≡ noticesOf k es ++ noticesOf (makes k es) fs
-unfolding noticesOf makes
-notices-append k [] fs = refl
-notices-append k (e ∷ es) fs =
-    let w = writtenBy (outcomes k (callOf (e .body) (e .bytes))) in
-    let j = made (e .body) (e .bytes) k in
-    ap (λ (xs : List ℕ). w ++ xs) (notices-append j es fs) ∙ sym (append-assoc w (noticesOf j es) (noticesOf (makes j es) fs))
-
-all-append : (l : Ledger) (es fs : List Entry) → madeAll l (es ++ fs) ≡ madeAll (madeAll l es) fs
-unfolding madeAll
-all-append l [] fs = refl
-all-append l (e ∷ es) fs = all-append (madeIn 64200 l (e .body) (e .bytes) .ledger) es fs
-
 behind-behind : (es fs : List Entry) (p : Parsed) → behind es (behind fs p) ≡ behind (es ++ fs) p
 behind-behind es fs p = rw (append-assoc es fs (p .entries))
 
@@ -66,7 +56,7 @@ parse-on s t es e ys =
 
 -- ---- the reading so far
 -- some bytes came in pieces: they parse as the entries that were made, behind which the bytes held are parsed
-pub record Reading (writes : Bool) (ws buf : List ℕ) (seen have total : ℕ) : Type 0 where
+pub record Reading (t : Tells) (ws buf : List ℕ) (seen have total : ℕ) : Type 0 where
   pub bytes : List ℕ
   pub done : List Entry
   pub sound : soundLedger (layout.ledgerOf ws) ≡ true
@@ -75,7 +65,7 @@ pub record Reading (writes : Bool) (ws buf : List ℕ) (seen have total : ℕ) :
   pub ledger : layout.ledgerOf ws ≡ madeAll firstLedger done
   pub books : book (layout.ledgerOf ws) ≡ makes noBook done
   pub count : seen ≡ length done
-  pub size : total ≡ length (said writes (noticesOf noBook done))
+  pub size : total ≡ length (toldOf t 0 noBook done)
 
 first-sound : soundLedger firstLedger ≡ true
 unfolding freshCauses startTests isDate monthDays
@@ -84,13 +74,15 @@ first-sound = fresh-sound (record { today = record { 0 = 19000101 }; tracking = 
 first-book : book firstLedger ≡ noBook
 first-book = refl
 
-none-said : (writes : Bool) → 0 ≡ length (said writes [])
-none-said true = refl
-none-said false = refl
+none-told : (t : Tells) → 0 ≡ length (toldOf t 0 noBook [])
+unfolding noticesOf traceLines
+none-told Nothing = refl
+none-told Notices = refl
+none-told Lines = refl
 
-pub reading-start : (writes : Bool) (ws buf : List ℕ) → layout.ledgerOf ws ≡ firstLedger → Reading writes ws buf 0 0 0
+pub reading-start : (t : Tells) (ws buf : List ℕ) → layout.ledgerOf ws ≡ firstLedger → Reading t ws buf 0 0 0
 unfolding madeAll makes noticesOf
-reading-start writes ws buf e =
+reading-start t ws buf e =
     record {
       bytes = [];
       done = [];
@@ -100,7 +92,7 @@ reading-start writes ws buf e =
       ledger = e;
       books = ap book e ∙ first-book;
       count = refl;
-      size = none-said writes;
+      size = none-told t;
     }
 
 pub waits-start : (buf : List ℕ) → Waits 0 (take 0 buf) false
@@ -108,9 +100,9 @@ unfolding parse parseUpTo
 waits-start buf = refl
 
 -- the bytes held stay in the buffer
-pub reading-kept : (writes : Bool) (ws buf after : List ℕ) (seen have total : ℕ) → Reading writes ws buf seen have total → take have after ≡ take have buf
-    → length after ≡ length buf → Reading writes ws after seen have total
-reading-kept writes ws buf after seen have total x e n =
+pub reading-kept : (t : Tells) (ws buf after : List ℕ) (seen have total : ℕ) → Reading t ws buf seen have total → take have after ≡ take have buf
+    → length after ≡ length buf → Reading t ws after seen have total
+reading-kept t ws buf after seen have total x e n =
     record {
       bytes = x .bytes;
       done = x .done;
@@ -123,13 +115,19 @@ reading-kept writes ws buf after seen have total x e n =
       size = x .size;
     }
 
-said-append : (writes : Bool) (xs ys : List ℕ) → length (said writes (xs ++ ys)) ≡ length (said writes xs) + length (said writes ys)
-said-append true xs ys = length-append xs ys
-said-append false xs ys = refl
+told-append : (t : Tells) (k : Book) (es fs : List Entry)
+    → length (toldOf t 0 k (es ++ fs)) ≡ length (toldOf t 0 k es) + length (toldOf t (length es) (makes k es) fs)
+told-append Nothing k es fs = refl
+told-append Notices k es fs = ap length (notices-append k es fs) ∙ length-append (noticesOf k es) (noticesOf (makes k es) fs)
+told-append Lines k es fs =
+    let i : 1 + length es ≡ length es + 1 = omega arith in
+    ap length (lines-append 1 k es fs)
+    ∙ length-append (traceLines 1 k es) (traceLines (1 + length es) (makes k es) fs)
+    ∙ ap (λ (n : ℕ). length (traceLines 1 k es) + length (traceLines n (makes k es) fs)) i
 
 -- ---- one piece more
-module _ (writes : Bool) (ws buf : List ℕ) (seen have total : ℕ) (x : Reading writes ws buf seen have total) (n : ℕ) (h : have ≤ n)
-    (out₀ ws₁ buf₁ out₁ : List ℕ) (p : Piece) (m : Made seen writes n ws buf out₀ ws₁ buf₁ out₁ p) where
+module _ (t : Tells) (ws buf : List ℕ) (seen have total : ℕ) (x : Reading t ws buf seen have total) (n : ℕ) (h : have ≤ n)
+    (out₀ ws₁ buf₁ out₁ : List ℕ) (p : Piece) (m : Made seen t n ws buf out₀ ws₁ buf₁ out₁ p) where
   abbrev more : List ℕ
   more = take (n - have) (drop have buf)
 
@@ -145,15 +143,13 @@ module _ (writes : Bool) (ws buf : List ℕ) (seen have total : ℕ) (x : Readin
       ∙ ap (behind (x .done)) (m .parsed)
       ∙ behind-behind (x .done) (m .done) (parse (p .seen) (take (p .left) buf₁))
 
-  notices : noticesOf noBook all ≡ noticesOf noBook (x .done) ++ noticesOf (book (layout.ledgerOf ws)) (m .done)
-  notices = notices-append noBook (x .done) (m .done) ∙ ap (λ (k : Book). noticesOf noBook (x .done) ++ noticesOf k (m .done)) (sym (x .books))
-
-  size-more : total + p .written ≡ length (said writes (noticesOf noBook all))
+  size-more : total + p .written ≡ length (toldOf t 0 noBook all)
   size-more =
-      let e = ap (λ (s : List ℕ). length (said writes s)) notices ∙ said-append writes (noticesOf noBook (x .done)) (noticesOf (book (layout.ledgerOf ws)) (m .done)) in
-      omega (arith, e, x .size, m .written)
+      let e = told-append t noBook (x .done) (m .done) in
+      let w = m .written ∙ ap₂ (λ (i : ℕ) (k : Book). length (toldOf t i k (m .done))) (x .count) (x .books) in
+      omega (arith, e, x .size, w)
 
-  pub reading-more : Reading writes ws₁ buf₁ (p .seen) (p .left) (total + p .written)
+  pub reading-more : Reading t ws₁ buf₁ (p .seen) (p .left) (total + p .written)
   reading-more =
       record {
         bytes = x .bytes ++ more;
@@ -161,7 +157,7 @@ module _ (writes : Bool) (ws buf : List ℕ) (seen have total : ℕ) (x : Readin
         sound = m .sound;
         within = m .within;
         parsed = whole;
-        ledger = m .ledger ∙ ap (λ (l : Ledger). madeAll l (m .done)) (x .ledger) ∙ sym (all-append firstLedger (x .done) (m .done));
+        ledger = m .ledger ∙ ap (λ (l : Ledger). madeAll l (m .done)) (x .ledger) ∙ sym (made-append firstLedger (x .done) (m .done));
         books = m .books ∙ ap (λ (k : Book). makes k (m .done)) (x .books) ∙ sym (makes-append noBook (x .done) (m .done));
         count = omega (arith, m .count, x .count, length-append (x .done) (m .done));
         size = size-more;
@@ -169,11 +165,11 @@ module _ (writes : Bool) (ws buf : List ℕ) (seen have total : ℕ) (x : Readin
 
 -- ---- the end
 -- where no entry stands whole in the bytes held the reading has come to its end
-pub reading-ended : (writes : Bool) (ws buf : List ℕ) (seen have total : ℕ) (stopped failed : Bool) → Reading writes ws buf seen have total
+pub reading-ended : (t : Tells) (ws buf : List ℕ) (seen have total : ℕ) (stopped failed : Bool) → Reading t ws buf seen have total
     → Waits seen (take have buf) stopped
-    → Reads writes ws buf (record { seen = seen; stopped = stopped; left = have; total = total; failed = failed })
-unfolding ledgerOf isBad brnOf
-reading-ended writes ws buf seen have total stopped failed x w =
+    → Reads t ws buf (record { seen = seen; stopped = stopped; left = have; total = total; failed = failed })
+unfolding ledgerOf isBad
+reading-ended t ws buf seen have total stopped failed x w =
     let e = x .parsed ∙ ap (behind (x .done)) w in
     let entries : parse 0 (x .bytes) .entries ≡ x .done = ap (λ (p : Parsed). p .entries) e ∙ append-nil (x .done) in
     let bad : stopped ≡ parse 0 (x .bytes) .stopped = sym (ap (λ (p : Parsed). p .stopped) e) in
@@ -190,25 +186,25 @@ reading-ended writes ws buf seen have total stopped failed x w =
       rest = rest;
       within = x .within;
       bad = rw (bad, left, count);
-      total = x .size ∙ sym (ap (λ (es : List Entry). length (said writes (noticesOf noBook es))) entries);
+      total = x .size ∙ sym (ap (λ (es : List Entry). length (toldOf t 0 noBook es)) entries);
     }
 
 -- the input has ended
-pub input-ended : (writes : Bool) (ws buf : List ℕ) (seen have total : ℕ) (f : filled.Filled) (e : End) → e ≡ endOfInput f seen have total
-    → Reading writes ws buf seen have total → (f ≡ Ended → Waits seen (take have buf) false) → e .failed ≡ false → Reads writes ws buf e
-input-ended writes ws buf seen have total f e q x w z =
+pub input-ended : (t : Tells) (ws buf : List ℕ) (seen have total : ℕ) (f : filled.Filled) (e : End) → e ≡ endOfInput f seen have total
+    → Reading t ws buf seen have total → (f ≡ Ended → Waits seen (take have buf) false) → e .failed ≡ false → Reads t ws buf e
+input-ended t ws buf seen have total f e q x w z =
     let none = ended f (sym (ap (λ (k : End). k .failed) q) ∙ z) in
-    subst (Reads writes ws buf) (sym q) (reading-ended writes ws buf seen have total false (notEnded f) x (w none))
+    subst (Reads t ws buf) (sym q) (reading-ended t ws buf seen have total false (notEnded f) x (w none))
 
 stopped-by : (a b : Bool) → (not a || b) ≡ true → not a ≡ false → b ≡ true
 stopped-by true b h z = h
 stopped-by false b h z = absurd (true≢false z)
 
 -- a bad entry has stopped it
-pub piece-ended : (writes : Bool) (ws buf : List ℕ) (total : ℕ) (p : Piece) (written : Bool) (e : End) → e ≡ endOfPiece p total written
-    → Reading writes ws buf (p .seen) (p .left) total → (p .full ≡ false → Waits (p .seen) (take (p .left) buf) (p .stopped))
-    → (p .full ≡ true → p .stopped ≡ false) → (not written || p .stopped) ≡ true → e .failed ≡ false → Reads writes ws buf e
-piece-ended writes ws buf total p written e q x w goes h z =
+pub piece-ended : (t : Tells) (ws buf : List ℕ) (total : ℕ) (p : Piece) (written : Bool) (e : End) → e ≡ endOfPiece p total written
+    → Reading t ws buf (p .seen) (p .left) total → (p .full ≡ false → Waits (p .seen) (take (p .left) buf) (p .stopped))
+    → (p .full ≡ true → p .stopped ≡ false) → (not written || p .stopped) ≡ true → e .failed ≡ false → Reads t ws buf e
+piece-ended t ws buf total p written e q x w goes h z =
     let s = stopped-by written (p .stopped) h (sym (ap (λ (k : End). k .failed) q) ∙ z) in
     let o = cases (p .full) (λ y. absurd (true≢false (sym s ∙ goes y))) (λ y. y) in
-    subst (Reads writes ws buf) (sym q) (reading-ended writes ws buf (p .seen) (p .left) total (p .stopped) (not written) x (w o))
+    subst (Reads t ws buf) (sym q) (reading-ended t ws buf (p .seen) (p .left) total (p .stopped) (not written) x (w o))

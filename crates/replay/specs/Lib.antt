@@ -1,2 +1,2 @@
--- What the contracts of the loop over standard input cite.
-pub mod Reading
+
+pub mod Ending

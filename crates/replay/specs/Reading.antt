@@ -4,17 +4,20 @@ use mathlib.Core.Path.{_≡_}
 use mathlib.Core.Bool.{Bool, true, false, not}
 use mathlib.Core.List.{List, []}
 use lib.IntN.{pos}
-use lib.ListN.{length, take}
+use lib.ListN.{length, take, drop}
 use Rattle.fields.specs.Put.{put}
-use Rattle.ledger.specs.Books.{book}
+use Rattle.ledger.specs.Books.{Book, book}
 use Rattle.ledger.specs.Sound.{soundLedger}
 use Rattle.words.specs.Layout as layout
-use Rattle.group.specs.Turns.{said}
-use Rattle.journal.specs.Journal.{Entry, Parsed, parse, makes, endsBad, ledgerOf, isBad}
-use Rattle.journal.specs.Made.{madeAll, noticesOf, brnOf}
+use Rattle.journal.specs.Journal.{Entry, Parsed, parse, makes, noBook, endsBad, ledgerOf, isBad}
+use Rattle.journal.specs.Made.{madeAll, noticesOf}
+use Rattle.engine.specs.declared.run.Ran.{Ran}
 use Rattle.engine.specs.Running.{behind, firstLedger}
+use Rattle.trace_lines.specs.Trace.{traceLines}
 use Rattle.input.specs.declared.Filled as filled
 use Rattle.input.specs.declared.Filled.the-variants as filled-as
+use Rattle.replay.specs.declared.Tells.{Tells}
+use Rattle.replay.specs.declared.Tells.the-variants.{Nothing, Notices, Lines}
 use Rattle.replay.specs.declared.End.{End}
 use Rattle.input.specs.Filled.{notEnded}
 use Rattle.replay.specs.declared.Piece.{Piece}
@@ -33,14 +36,40 @@ pub record FillsMore (have : ℕ) (full : Bool) (before after : List ℕ) (r : f
   pub stay : take have after ≡ take have before
   pub holds : HoldsMore have full (length after) r
 
+-- ---- what is written
+-- of entries that are made on a ledger after so many entries: nothing, their notices, or their lines
+abbrev pub toldOf : Tells → ℕ → Book → List Entry → List ℕ
+toldOf Nothing seen k es = []
+toldOf Notices seen k es = noticesOf k es
+toldOf Lines seen k es = traceLines (seen + 1) k es
+
+-- the first entries of src were made, after so many entries, and what is asked for of them stands at the start of the output; none is left unless the output
+-- is full
+pub record Runs (seen : ℕ) (t : Tells) (src ws₀ out₀ ws out : List ℕ) (r : Ran) : Type 0 where
+  pub sound : soundLedger (layout.ledgerOf ws) ≡ true
+  pub used : r .used ≤ length src
+  -- the entries that were made
+  pub done : List Entry
+  pub parsed : parse seen src ≡ behind done (parse (r .seen) (drop (r .used) src))
+  pub ledger : layout.ledgerOf ws ≡ madeAll (layout.ledgerOf ws₀) done
+  pub books : book (layout.ledgerOf ws) ≡ makes (book (layout.ledgerOf ws₀)) done
+  pub count : r .seen ≡ seen + length done
+  pub kept : length out ≡ length out₀
+  pub bytes : out ≡ put out₀ 0 (toldOf t seen (book (layout.ledgerOf ws₀)) done)
+  pub written : r .written ≡ length (toldOf t seen (book (layout.ledgerOf ws₀)) done)
+  pub within : r .written ≤ length out₀
+  pub left :
+      r .full ≡ false → parse (r .seen) (drop (r .used) src) ≡ record { entries = []; stopped = r .stopped; rest = drop (r .used) src }
+  pub goes : r .full ≡ true → r .stopped ≡ false
+
 -- ---- a piece
 -- no entry stands whole at the start of some bytes
 abbrev pub Waits : ℕ → List ℕ → Bool → Type 0
 Waits seen s stopped = parse seen s ≡ record { entries = []; stopped = stopped; rest = s }
 
--- the first entries of the first n bytes were made, after so many entries; the bytes behind them stand at the start of the buffer and the notices, if such are
--- written, at the start of the output. No entry is left unless the output is full.
-pub record Made (seen : ℕ) (writes : Bool) (n : ℕ) (ws₀ buf₀ out₀ ws buf out : List ℕ) (p : Piece) : Type 0 where
+-- the first entries of the first n bytes were made, after so many entries; the bytes behind them stand at the start of the buffer and what is asked for of
+-- them at the start of the output. No entry is left unless the output is full.
+pub record Made (seen : ℕ) (t : Tells) (n : ℕ) (ws₀ buf₀ out₀ ws buf out : List ℕ) (p : Piece) : Type 0 where
   -- the entries that were made
   pub done : List Entry
   pub parsed : parse seen (take n buf₀) ≡ behind done (parse (p .seen) (take (p .left) buf))
@@ -49,16 +78,16 @@ pub record Made (seen : ℕ) (writes : Bool) (n : ℕ) (ws₀ buf₀ out₀ ws b
   pub books : book (layout.ledgerOf ws) ≡ makes (book (layout.ledgerOf ws₀)) done
   pub count : p .seen ≡ seen + length done
   pub within : p .left ≤ length buf
-  pub bytes : out ≡ put out₀ 0 (said writes (noticesOf (book (layout.ledgerOf ws₀)) done))
-  pub written : p .written ≡ length (said writes (noticesOf (book (layout.ledgerOf ws₀)) done))
+  pub bytes : out ≡ put out₀ 0 (toldOf t seen (book (layout.ledgerOf ws₀)) done)
+  pub written : p .written ≡ length (toldOf t seen (book (layout.ledgerOf ws₀)) done)
   pub room : p .written ≤ length out
   pub waits : p .full ≡ false → Waits (p .seen) (take (p .left) buf) (p .stopped)
   pub goes : p .full ≡ true → p .stopped ≡ false
 
 -- ---- what is written, and how the reading ends
--- a piece's notices go to standard output, 1
-abbrev pub noticesOutput : Piece → Output
-noticesOutput p = record { descriptor = pos 1; length = p .written }
+-- what is written of a piece goes to standard output, 1
+abbrev pub pieceOutput : Piece → Output
+pieceOutput p = record { descriptor = pos 1; length = p .written }
 
 -- a read that brought no bytes: the end of the input is no failure, and a failed read not the end
 abbrev pub endOfInput : filled.Filled → ℕ → ℕ → ℕ → End
@@ -70,8 +99,8 @@ endOfPiece p total written = record { seen = p .seen; stopped = p .stopped; left
 
 -- ---- the whole
 -- some bytes came in pieces: the ledger, the count of entries, whether a bad one stopped the reading and the bytes left in the buffer are those of reading
--- them whole, so it ends bad where they do; and as many bytes were written as their BRN file has, or none
-pub record Reads (writes : Bool) (ws buf : List ℕ) (e : End) : Type 0 where
+-- them whole, so it ends bad where they do; and as many bytes were written as are asked for of their entries
+pub record Reads (t : Tells) (ws buf : List ℕ) (e : End) : Type 0 where
   pub bytes : List ℕ
   pub sound : soundLedger (layout.ledgerOf ws) ≡ true
   pub ledger : layout.ledgerOf ws ≡ madeAll firstLedger (parse 0 bytes .entries)
@@ -81,4 +110,4 @@ pub record Reads (writes : Bool) (ws buf : List ℕ) (e : End) : Type 0 where
   pub rest : take (e .left) buf ≡ parse 0 bytes .rest
   pub within : e .left ≤ length buf
   pub bad : endsBad (e .stopped) (e .left) (e .seen) ≡ isBad bytes
-  pub total : e .total ≡ length (said writes (brnOf bytes))
+  pub total : e .total ≡ length (toldOf t 0 noBook (parse 0 bytes .entries))

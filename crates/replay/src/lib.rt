@@ -1,21 +1,31 @@
-// A journal on standard input, read in pieces: one loop for the programs. Each piece's entries are made on a ledger that is lent as words, and their notices
-// are written to standard output if the caller asks for them.
+// A journal on standard input, read in pieces: one loop for the programs. Each piece's entries are made on a ledger that is lent as words, and what the
+// caller asks for of them is written to standard output.
 ghost use mathlib.Core.Path.{_≡_};
-ghost use mathlib.Core.Bool.{true, false, cond};
+ghost use mathlib.Core.Bool.{true, false};
 ghost use Prim.Native.Nat.{_≤_};
 ghost use lib.ListN.{length};
 ghost use Rattle.ledger.specs.Sound.{soundLedger};
 ghost use Rattle.words.specs.Layout.{ledgerOf};
 ghost use Rattle.engine.specs.Running.{firstLedger};
-ghost use Rattle.replay.specs.Reading.{FillsMore, Made, noticesOutput, endOfInput, endOfPiece, Reads};
+ghost use Rattle.replay.specs.declared.Tells.the-variants.{Lines};
+ghost use Rattle.replay.specs.Reading.{Runs, FillsMore, Made, pieceOutput, endOfInput, endOfPiece, Reads};
 use engine::run;
+use engine::run::Ran;
 use input::Filled;
 use libc::STDOUT_FILENO;
 use output::Output;
 
+pub mod ending;
 pub mod output;
 
-// Where the reading ended: how many entries came, whether a bad one stopped it, how many bytes are left at the start of the buffer, how many bytes of notices
+// What is written of the entries: nothing, their notices, or lines that say what became of each.
+pub enum Tells {
+    Nothing,
+    Notices,
+    Lines,
+}
+
+// Where the reading ended: how many entries came, whether a bad one stopped it, how many bytes are left at the start of the buffer, how many bytes
 // were written, and whether a read or a write failed.
 pub struct End {
     pub seen: u64,
@@ -25,7 +35,7 @@ pub struct End {
     pub failed: bool,
 }
 
-// What a piece came to: how many entries came by now, how many bytes are left at the start of the buffer, how many bytes of notices stand in the output,
+// What a piece came to: how many entries came by now, how many bytes are left at the start of the buffer, how many bytes stand in the output,
 // whether it has no room for another entry's, and whether a bad entry stands there.
 pub struct Piece {
     pub seen: u64,
@@ -46,33 +56,62 @@ fn more(buf: &mut [u8], have: usize, full: bool) -> Filled
     input::fill(buf, have)
 }
 
-// So many where bytes are written, else none.
-fn counted(writes: bool, n: usize) -> usize
-    ensures { λ r. ⌜ r ≡ cond writes n 0 ⌝ }
+// Makes the entries at the start of src and writes their lines. Their notices stand in a buffer of their own, since a group's line is read off its answer.
+fn run_lines(ws: &mut [u64], out: &mut [u8], src: &[u8], seen: u64) -> Ran
+    requires { ⌜ soundLedger (ledgerOf (now ws)) ≡ true ⌝ }
+    ensures { λ r. ⌜ Runs seen Lines (now (src .entry)) (now (ws .entry)) (now (out .entry)) (now (ws .exit)) (now (out .exit)) r ⌝ }
 {
-    if writes { n } else { 0 }
-}
-
-// Makes the entries of the first n bytes and keeps the bytes that are left at the start.
-fn make(ws: &mut [u64], buf: &mut [u8], out: &mut [u8], writes: bool, n: usize, seen: u64) -> Piece
-    requires { ⌜ (soundLedger (ledgerOf (now ws)) ≡ true) × (n ≤ length (now buf)) ⌝ }
-    ensures { λ p. ⌜ Made seen writes n (now (ws .entry)) (now (buf .entry)) (now (out .entry)) (now (ws .exit)) (now (buf .exit)) (now (out .exit)) p ⌝ }
-{
-    let r = run::run(ws, out, writes, &buf[..n], seen);
-    let left = journal::keep(buf, r.used, n);
-    let written = counted(writes, r.written);
-    Piece {
+    let mut sent = [0u8; 64200];
+    let r = tracing::run(ws, &mut sent, out, src, seen);
+    Ran {
+        used: r.used,
         seen: r.seen,
-        left,
-        written,
+        written: r.written,
         full: r.full,
         stopped: r.stopped,
     }
 }
 
-// What is written of a piece: its notices, to standard output.
-fn notices_of(p: Piece) -> Output
-    ensures { λ o. ⌜ o ≡ noticesOutput p ⌝ }
+// Makes the entries at the start of src and writes what is asked for of them.
+fn run_telling(ws: &mut [u64], out: &mut [u8], tells: Tells, src: &[u8], seen: u64) -> Ran
+    requires { ⌜ soundLedger (ledgerOf (now ws)) ≡ true ⌝ }
+    ensures { λ r. ⌜ Runs seen tells (now (src .entry)) (now (ws .entry)) (now (out .entry)) (now (ws .exit)) (now (out .exit)) r ⌝ }
+{
+    match tells {
+        Tells::Nothing => {
+            let r = run::run(ws, out, false, src, seen);
+            Ran {
+                used: r.used,
+                seen: r.seen,
+                written: 0,
+                full: r.full,
+                stopped: r.stopped,
+            }
+        }
+        Tells::Notices => run::run(ws, out, true, src, seen),
+        Tells::Lines => run_lines(ws, out, src, seen),
+    }
+}
+
+// Makes the entries of the first n bytes and keeps the bytes that are left at the start.
+fn make(ws: &mut [u64], buf: &mut [u8], out: &mut [u8], tells: Tells, n: usize, seen: u64) -> Piece
+    requires { ⌜ (soundLedger (ledgerOf (now ws)) ≡ true) × (n ≤ length (now buf)) ⌝ }
+    ensures { λ p. ⌜ Made seen tells n (now (ws .entry)) (now (buf .entry)) (now (out .entry)) (now (ws .exit)) (now (buf .exit)) (now (out .exit)) p ⌝ }
+{
+    let r = run_telling(ws, out, tells, &buf[..n], seen);
+    let left = journal::keep(buf, r.used, n);
+    Piece {
+        seen: r.seen,
+        left,
+        written: r.written,
+        full: r.full,
+        stopped: r.stopped,
+    }
+}
+
+// What is written of a piece goes to standard output.
+fn output_of(p: Piece) -> Output
+    ensures { λ o. ⌜ o ≡ pieceOutput p ⌝ }
 {
     Output {
         descriptor: STDOUT_FILENO,
@@ -94,7 +133,7 @@ fn end_of_input(f: Filled, seen: u64, left: usize, total: usize) -> End
     }
 }
 
-// How the reading ends after a piece: at a bad entry, or since its notices could not be written.
+// How the reading ends after a piece: at a bad entry, or since its bytes could not be written.
 fn end_of_piece(p: Piece, total: usize, written: bool) -> End
     ensures { λ e. ⌜ e ≡ endOfPiece p total written ⌝ }
 {
@@ -108,9 +147,9 @@ fn end_of_piece(p: Piece, total: usize, written: bool) -> End
 }
 
 // Reads standard input in pieces and makes its entries. A billion entries have fewer bytes than there are turns.
-pub fn read_all(ws: &mut [u64], buf: &mut [u8], out: &mut [u8], writes: bool) -> End
+pub fn read_all(ws: &mut [u64], buf: &mut [u8], out: &mut [u8], tells: Tells) -> End
     requires { ⌜ (ledgerOf (now ws) ≡ firstLedger) × (length (now buf) ≡ 262144) × (length (now out) ≤ 262144) ⌝ }
-    ensures { λ e. ⌜ (e .failed ≡ false → Reads writes (now (ws .exit)) (now (buf .exit)) e) ⌝ }
+    ensures { λ e. ⌜ (e .failed ≡ false → Reads tells (now (ws .exit)) (now (buf .exit)) e) ⌝ }
 {
     let mut seen = 0;
     let mut left = 0;
@@ -123,9 +162,9 @@ pub fn read_all(ws: &mut [u64], buf: &mut [u8], out: &mut [u8], writes: bool) ->
         let Filled::Bytes(n) = f else {
             return end_of_input(f, seen, left, total);
         };
-        let p = make(ws, buf, out, writes, n, seen);
+        let p = make(ws, buf, out, tells, n, seen);
         total += p.written;
-        let is_written = output::send(notices_of(p), out);
+        let is_written = output::send(output_of(p), out);
         if !is_written | p.stopped {
             return end_of_piece(p, total, is_written);
         }

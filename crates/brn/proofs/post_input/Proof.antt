@@ -1,17 +1,10 @@
--- `brn::post_input` meets its contract: the line at the end of the reading is that of the bytes that came.
-use Rattle.brn.proofs.WarningLaws.{ends}
+-- `brn::post_input` meets its contract: what is left to write is said by `tell_input`.
 use borrow.Author.Needs.{needs}
 use Rattle.brn.proofs.post_input.Statement.{statement}
 use Rattle.brn.proofs.post_input.Tie as tie
 
-start-requires : tie.Need-start-requires
-start-requires c κs = search needs
-
-read-all-requires : tie.Need-read-all-requires
-read-all-requires c κs = search needs
-
-warning-requires : tie.Need-warning-requires
-warning-requires c κs = search needs
+tell-input-requires : tie.Need-tell-input-requires
+tell-input-requires c κs = search needs
 
 same-length : tie.Need-same-length
 same-length c = search needs
@@ -23,16 +16,7 @@ same-length-3 : tie.Need-same-length-3
 same-length-3 c = search needs
 
 returns : tie.Need-returns
-returns c = ends _ _ _ _ _ _ (c .before .before .before .before .before .before .before .before .before .before .read-all .ensures) (c .before .before .warning .ensures)
+returns c = search needs
 
 pub post-input-spec : {M : Type 1} → statement M
-post-input-spec =
-    tie.close
-    (tie.spec
-    start-requires
-    read-all-requires
-    warning-requires
-    same-length
-    same-length-2
-    same-length-3
-    returns)
+post-input-spec = tie.close (tie.spec tell-input-requires same-length same-length-2 same-length-3 returns)

@@ -6,20 +6,17 @@ use borrow.Author.Needs.{needs}
 use Rattle.replay.proofs.make.Statement.{statement}
 use Rattle.replay.proofs.make.Tie as tie
 
-slice-reshare-prefix-run : tie.Need-slice-reshare-prefix-run
-slice-reshare-prefix-run c = search needs
+slice-reshare-prefix-run-telling : tie.Need-slice-reshare-prefix-run-telling
+slice-reshare-prefix-run-telling c = search needs
 
-slice-aggregate-run : tie.Need-slice-aggregate-run
-slice-aggregate-run c = sym (length-take-le _ _ (c .before .before .before .before .before .before .pre .1))
+slice-aggregate-run-telling : tie.Need-slice-aggregate-run-telling
+slice-aggregate-run-telling c = sym (length-take-le _ _ (c .before .before .before .before .before .before .pre .1))
 
-run-requires : tie.Need-run-requires
-run-requires c κs = search needs
+run-telling-requires : tie.Need-run-telling-requires
+run-telling-requires c κs = search needs
 
 keep-requires : tie.Need-keep-requires
-keep-requires c κs = (used-within _ _ _ _ _ _ _ _ _ (c .before .before .before .before .before .before .before .before .before .before .before .before .pre .1) (c .before .before .before .before .before .run .ensures), c .before .before .before .before .before .before .before .before .before .before .before .before .pre .1)
-
-counted-requires : tie.Need-counted-requires
-counted-requires c κs = search needs
+keep-requires c κs = (used-within _ _ _ _ _ _ _ _ _ (c .before .before .before .before .before .before .before .before .before .before .before .before .pre .1) (c .before .before .before .before .before .run-telling .ensures), c .before .before .before .before .before .before .before .before .before .before .before .before .pre .1)
 
 same-length : tie.Need-same-length
 same-length c = search needs
@@ -31,17 +28,16 @@ same-length-3 : tie.Need-same-length-3
 same-length-3 c = search needs
 
 returns : tie.Need-returns
-returns c = made _ _ _ _ _ _ _ _ _ (c .before .before .before .before .before .before .before .before .before .before .before .before .before .before .before .before .pre .1) (c .before .before .before .before .before .before .before .before .before .run .ensures) _ _ _ (c .before .before .before .keep .ensures .0) (c .before .before .before .keep .ensures .1) (c .before .before .before .keep .kept .0) (c .counted .ensures)
+returns c = made _ _ _ _ _ _ _ _ _ (c .before .before .before .before .before .before .before .before .before .before .before .before .before .before .before .before .pre .1) (c .before .before .before .before .before .before .before .before .before .run-telling .ensures) _ _ _ (c .before .before .before .keep .ensures .0) (c .before .before .before .keep .ensures .1) (c .before .before .before .keep .kept .0) (c .counted .ensures)
 
 pub make-spec : {M : Type 1} → statement M
 make-spec =
     tie.close
     (tie.spec
-    slice-reshare-prefix-run
-    slice-aggregate-run
-    run-requires
+    slice-reshare-prefix-run-telling
+    slice-aggregate-run-telling
+    run-telling-requires
     keep-requires
-    counted-requires
     same-length
     same-length-2
     same-length-3

@@ -8,25 +8,26 @@ use mathlib.Core.List.{List}
 use lib.ListN.{length, take}
 use Rattle.fields.proofs.BoolLaws.{or-both}
 use Rattle.replay.specs.declared.output.Output.{Output}
+use Rattle.replay.specs.declared.Tells.{Tells}
 use Rattle.replay.specs.Reading.{Waits}
 use Rattle.replay.proofs.ReadingLaws.{Reading, reading-start, waits-start, reading-kept, reading-more, input-ended, piece-ended}
 use Rattle.replay.proofs.read_all.Statement.{statement}
 use Rattle.replay.proofs.read_all.Tie as tie
 
-record Inv (ws₀ out₀ : List ℕ) (writes : Bool) (ws buf out : List ℕ) (seen left total : ℕ) (full : Bool) (turns : ℕ) : Type 0 where
+record Inv (ws₀ out₀ : List ℕ) (t : Tells) (ws buf out : List ℕ) (seen left total : ℕ) (full : Bool) (turns : ℕ) : Type 0 where
   same-words : length ws ≡ length ws₀
   room : length buf ≡ 262144
   same-out : length out ≡ length out₀
-  reads : Reading writes ws buf seen left total
+  reads : Reading t ws buf seen left total
   waits : full ≡ false → Waits seen (take left buf) false
   small : total + 262144 * turns ≤ 18350080000000000000
 
 abbrev Inv-loop : tie.InvT-loop
-Inv-loop ws₀ buf₀ out₀ writes seen₀ left₀ total₀ full₀ turns₀ ws buf out seen left total full turns =
-    Inv ws₀ out₀ writes ws buf out seen left total full turns
+Inv-loop ws₀ buf₀ out₀ t seen₀ left₀ total₀ full₀ turns₀ ws buf out seen left total full turns =
+    Inv ws₀ out₀ t ws buf out seen left total full turns
 
 abbrev μ-loop : tie.MeasureT-loop
-μ-loop ws₀ buf₀ out₀ writes seen₀ left₀ total₀ full₀ turns₀ ws buf out seen left total full turns = turns
+μ-loop ws₀ buf₀ out₀ t seen₀ left₀ total₀ full₀ turns₀ ws buf out seen left total full turns = turns
 
 loop-holds : tie.Need-loop-holds Inv-loop μ-loop
 loop-holds c =
@@ -50,7 +51,7 @@ enum-known-f c = search needs
 
 -- the bytes held stay
 held : (c : tie.After-more Inv-loop μ-loop)
-    → Reading (c .before .before .before .before .before .before .before .args .writes) (c .before .before .before .loop .ws) (c .more .last .0) (c .before .before .before .loop .seen) (c .before .before .before .loop .left) (c .before .before .before .loop .total)
+    → Reading (c .before .before .before .before .before .before .before .args .tells) (c .before .before .before .loop .ws) (c .more .last .0) (c .before .before .before .loop .seen) (c .before .before .before .loop .left) (c .before .before .before .loop .total)
 held c = reading-kept _ _ _ _ _ _ _ (c .before .before .before .loop .inv .reads) (c .more .ensures .stay) (c .more .kept .0)
 
 -- the buffer holds no fewer bytes than before
@@ -59,7 +60,7 @@ fits c = rw (c .f .given .1) at (c .before .before .before .before .more .ensure
 
 -- the reading after the piece
 module _ (c : tie.After-make Inv-loop μ-loop) where
-  came : Reading (c .before .before .before .before .before .before .before .before .before .before .before .before .before .before .before .before .args .writes) (c .make .last .0) (c .make .last .1 .0) (c .make .result .seen) (c .make .result .left) (c .before .before .before .before .before .before .before .before .before .before .before .before .loop .total + c .make .result .written)
+  came : Reading (c .before .before .before .before .before .before .before .before .before .before .before .before .before .before .before .before .args .tells) (c .make .last .0) (c .make .last .1 .0) (c .make .result .seen) (c .make .result .left) (c .before .before .before .before .before .before .before .before .before .before .before .before .loop .total + c .make .result .written)
   came = reading-more _ _ _ _ _ _ (held (c .before .before .before .before .before .before .before .before .before)) _ (fits (c .before .before .before .before .before) .0) _ _ _ _ _ (c .make .ensures)
 
   room-kept : length (c .make .last .1 .0) ≡ 262144
@@ -91,11 +92,11 @@ make-requires c κs = (c .before .before .before .before .before .before .before
 add-total : tie.Need-add-total Inv-loop μ-loop
 add-total c = omega (arith, c .before .before .before .before .before .before .before .before .before .before .before .before .before .before .before .before .before .before .before .loop .inv .small, room-out (c .before .before .before .before .before .before .before), c .before .before .before .before .before .before .before .before .before .before .before .before .before .before .before .before .before .before .loop-test .taken)
 
-notices-of-requires : tie.Need-notices-of-requires Inv-loop μ-loop
-notices-of-requires c κs = search needs
+output-of-requires : tie.Need-output-of-requires Inv-loop μ-loop
+output-of-requires c κs = search needs
 
 send-requires : tie.Need-send-requires Inv-loop μ-loop
-send-requires c κs = omega (arith, ap (λ (o : Output). o .length) (c .before .notices-of .ensures), c .before .before .before .before .before .before .before .before .before .make .ensures .room)
+send-requires c κs = omega (arith, ap (λ (o : Output). o .length) (c .before .output-of .ensures), c .before .before .before .before .before .before .before .before .before .make .ensures .room)
 
 end-of-piece-requires : tie.Need-end-of-piece-requires Inv-loop μ-loop
 end-of-piece-requires c κs = search needs
@@ -156,7 +157,7 @@ read-all-spec =
     returns
     make-requires
     add-total
-    notices-of-requires
+    output-of-requires
     send-requires
     end-of-piece-requires
     same-length-4

@@ -1,2 +1,0 @@
--- What the contracts of program `brn` cite.
-pub mod Warning

@@ -1,3 +1,0 @@
--- Laws of a journal that is read in pieces.
-pub mod PieceLaws
-pub mod ReadingLaws

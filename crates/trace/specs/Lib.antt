@@ -1,2 +1,0 @@
--- What comes of a journal on standard input.
-pub mod Reading
