@@ -4,7 +4,6 @@ use mathlib.Core.Path.{_≡_, refl, sym, ap, ap₂, _∙_}
 use mathlib.Core.Bool.{Bool, true, false, cond}
 use mathlib.Core.List.{List, []}
 use native.Mathlib.Omega.{arith}
-use lib.IntN.{pos}
 use lib.ListN.{length, take, length-append}
 use Rattle.fields.specs.Put.{put, part}
 use Rattle.fields.proofs.PutLaws.{part-put, put-nil}
@@ -18,7 +17,7 @@ use Rattle.replay.specs.declared.End.{End}
 use Rattle.replay.specs.declared.output.Output.{Output}
 use Rattle.replay.specs.declared.Tells.the-variants.{Nothing}
 use Rattle.replay.specs.Reading.{Reads}
-use Rattle.posted.specs.Posting.{tableBy, Tables, Posts}
+use Rattle.posted.specs.Posting.{toPrint, tableBy, Tables, Posts}
 
 size-put : (xs ys : List ℕ) → length ys ≤ length (put xs 0 ys)
 unfolding put
@@ -30,26 +29,26 @@ front xs ys k e = part-put xs 0 ys k (omega arith) (sym e)
 
 -- ---- what is written
 module _ (e : End) (ws before : List ℕ) where
-  by-table : (t after : List ℕ) (n : ℕ) → t ≡ tableBy e ws → n ≡ length t → after ≡ put before 0 t
-      → Tables e ws before after (record { descriptor = pos 1; length = n })
-  by-table t after n p s q =
+  by-table : (t after : List ℕ) (n : ℕ) (o : Output) → t ≡ tableBy e ws → n ≡ length t → after ≡ put before 0 t → o ≡ toPrint n
+      → Tables e ws before after o
+  by-table t after n o p s q w =
       record {
-        descriptor = refl;
+        descriptor = ap (λ (k : Output). k .descriptor) w;
         bytes = q ∙ ap (put before 0) p;
-        size = s ∙ ap length p;
-        within = omega (arith, s, ap length q, size-put before t);
+        size = ap (λ (k : Output). k .length) w ∙ s ∙ ap length p;
+        within = omega (arith, ap (λ (k : Output). k .length) w, s, ap length q, size-put before t);
       }
 
-  pub tables-none : e .failed ≡ true → Tables e ws before before (record { descriptor = pos 1; length = 0 })
-  tables-none f =
-      by-table [] before 0 (sym (ap (λ (b : Bool). cond b [] (tableOf (book (ledgerOf ws)) (endsBad (e .stopped) (e .left) (e .seen)))) f)) refl (put-nil before 0)
+  pub tables-none : (o : Output) → e .failed ≡ true → o ≡ toPrint 0 → Tables e ws before before o
+  tables-none o f w =
+      by-table [] before 0 o (sym (ap (λ (b : Bool). cond b [] (tableOf (book (ledgerOf ws)) (endsBad (e .stopped) (e .left) (e .seen)))) f)) refl (put-nil before 0) w
 
-  pub tables : (bad : Bool) (after : List ℕ) (n : ℕ) → e .failed ≡ false → bad ≡ endsBad (e .stopped) (e .left) (e .seen)
-      → n ≡ length (tableOf (book (ledgerOf ws)) bad) → after ≡ put before 0 (tableOf (book (ledgerOf ws)) bad)
-      → Tables e ws before after (record { descriptor = pos 1; length = n })
-  tables bad after n f b s q =
+  pub tables : (bad : Bool) (after : List ℕ) (n : ℕ) (o : Output) → e .failed ≡ false → bad ≡ endsBad (e .stopped) (e .left) (e .seen)
+      → n ≡ length (tableOf (book (ledgerOf ws)) bad) → after ≡ put before 0 (tableOf (book (ledgerOf ws)) bad) → o ≡ toPrint n
+      → Tables e ws before after o
+  tables bad after n o f b s q w =
       let t : Bool → List ℕ = λ k. tableOf (book (ledgerOf ws)) k in
-      by-table (t bad) after n (ap t b ∙ sym (ap (λ (k : Bool). cond k [] (t (endsBad (e .stopped) (e .left) (e .seen)))) f)) s q
+      by-table (t bad) after n o (ap t b ∙ sym (ap (λ (k : Bool). cond k [] (t (endsBad (e .stopped) (e .left) (e .seen)))) f)) s q w
 
 -- ---- whose table it is
 posted-is : (ws buf : List ℕ) (e : End) (r : Reads Nothing ws buf e)

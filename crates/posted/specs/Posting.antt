@@ -14,11 +14,15 @@ use Rattle.report.specs.Report.{postedOf, Claimed}
 use Rattle.replay.specs.declared.End.{End}
 use Rattle.replay.specs.declared.output.Output.{Output}
 
+-- so many bytes for standard output, 1
+abbrev pub toPrint : ℕ → Output
+toPrint n = record { descriptor = pos 1; length = n }
+
 -- the table of the ledger in words, or nothing where a read failed
 abbrev pub tableBy : End → List ℕ → List ℕ
 tableBy e ws = cond (e .failed) [] (tableOf (book (ledgerOf ws)) (endsBad (e .stopped) (e .left) (e .seen)))
 
--- it goes to standard output, 1
+-- it goes to standard output
 pub record Tables (e : End) (ws before after : List ℕ) (o : Output) : Type 0 where
   pub descriptor : o .descriptor ≡ pos 1
   pub bytes : after ≡ put before 0 (tableBy e ws)

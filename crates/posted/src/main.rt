@@ -5,7 +5,7 @@ ghost use lib.ListN.{length};
 ghost use Rattle.ledger.specs.Sound.{soundLedger};
 ghost use Rattle.words.specs.Layout.{ledgerSize, ledgerOf};
 ghost use Rattle.table.specs.Table.{tableRoom};
-ghost use Rattle.posted.specs.Posting.{Tables, Posts};
+ghost use Rattle.posted.specs.Posting.{toPrint, Tables, Posts};
 use engine::run;
 use libc::STDERR_FILENO;
 use libc::STDOUT_FILENO;
@@ -14,23 +14,27 @@ use replay::Tells;
 use replay::output;
 use replay::output::Output;
 
+// So many bytes of the output go to standard output.
+fn printed(length: usize) -> Output
+    ensures { λ o. ⌜ o ≡ toPrint length ⌝ }
+{
+    Output {
+        descriptor: STDOUT_FILENO,
+        length,
+    }
+}
+
 // What is written at the end: to standard output, the table of the ledger in words, in `out`; nothing where a read failed.
 fn table_of(ws: &[u64], out: &mut [u8], e: End) -> Output
     requires { ⌜ (e .failed ≡ false → soundLedger (ledgerOf (now ws)) ≡ true) × (length (now out) ≡ tableRoom) ⌝ }
     ensures { λ o. ⌜ Tables e (now (ws .entry)) (now (out .entry)) (now (out .exit)) o ⌝ }
 {
     if e.failed {
-        return Output {
-            descriptor: STDOUT_FILENO,
-            length: 0,
-        };
+        return printed(0);
     }
     let bad = journal::ends_bad(e.stopped, e.left, e.seen);
     let length = table::write_words(out, ws, bad);
-    Output {
-        descriptor: STDOUT_FILENO,
-        length,
-    }
+    printed(length)
 }
 
 // Reads standard input; what is left to write is its posted table in `out`.
