@@ -5,7 +5,9 @@
  * Every function returns 0 if the call is carried out, else one of the causes below; then all that was lent to it
  * (ledger, out, change, counts, place, amounts, written, told) holds what it held before, but for the told of
  * clearing_entry, which is always written. Output past the bytes written is untouched. Nothing is kept between calls,
- * and nothing but what was lent is read or written. A call needs no heap and less than 512 KB of stack (tested).
+ * and nothing but what was lent is read or written. A call needs no heap. Stack: less than 8 KB for a call, a lookup,
+ * clearing_entry and clearing_ledger_table, 32 KB for clearing_table (measured), 192 KB for clearing_notices (tested:
+ * 128,400 bytes of it are the buffer of the last notices, 39,000 its ledgers).
  *
  * Pointers may not be null, must be aligned for their type and may not overlap one another; a pointer with a length
  * must have that many elements, and for an empty one (length 0) any pointer that is not null will do.
