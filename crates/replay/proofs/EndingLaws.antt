@@ -4,7 +4,6 @@ use mathlib.Core.Path.{_≡_, refl, sym, ap, _∙_}
 use mathlib.Core.Bool.{Bool, true, false, not, _&&_}
 use mathlib.Core.List.{List, []}
 use native.Mathlib.Omega.{arith}
-use lib.IntN.{ℤ}
 use lib.ListN.{length, take, length-append}
 use Rattle.fields.specs.Put.{put, part}
 use Rattle.fields.proofs.PutLaws.{part-put}
@@ -12,7 +11,6 @@ use Rattle.table.specs.Table.{stopLine}
 use Rattle.journal.specs.Journal.{endsBad}
 use Rattle.replay.specs.declared.Tells.{Tells}
 use Rattle.replay.specs.declared.End.{End}
-use Rattle.replay.specs.declared.output.Output.{Output}
 use Rattle.replay.specs.Reading.{Reads}
 use Rattle.replay.specs.Ending.{stopBy, StopLine, Told}
 
@@ -24,37 +22,35 @@ front : (xs ys : List ℕ) (k : ℕ) → k ≡ length ys → take k (put xs 0 ys
 unfolding part
 front xs ys k e = part-put xs 0 ys k (omega arith) (sym e)
 
-pub stop-line : (d : ℤ) (e : End) (bad : Bool) (n : ℕ) (before after : List ℕ) → bad ≡ endsBad (e .stopped) (e .left) (e .seen)
+pub stop-line : (e : End) (bad : Bool) (n : ℕ) (before after : List ℕ) → bad ≡ endsBad (e .stopped) (e .left) (e .seen)
     → n ≡ 0 + length (stopLine (not (e .failed) && bad)) → after ≡ put before 0 (stopLine (not (e .failed) && bad))
-    → StopLine d e before after (record { descriptor = d; length = n })
-stop-line d e bad n before after b s q =
+    → StopLine e before after n
+stop-line e bad n before after b s q =
     let line = ap (λ (k : Bool). stopLine (not (e .failed) && k)) b in
     let bytes : after ≡ put before 0 (stopBy e) = q ∙ ap (put before 0) line in
     let size : n ≡ length (stopBy e) = omega (arith, s, ap length line) in
     record {
-      descriptor = refl;
       bytes = bytes;
       size = size;
       within = omega (arith, size, ap length bytes, size-put before (stopBy e));
     }
 
-module _ (t : Tells) (d : ℤ) (ws buf out₀ out : List ℕ) (e : End) (o : Output) (x : e .failed ≡ false → Reads t ws buf e) (w : StopLine d e out₀ out o) where
-  told : take (o .length) out ≡ stopBy e
-  told = ap (take (o .length)) (w .bytes) ∙ front out₀ (stopBy e) (o .length) (w .size)
+module _ (t : Tells) (ws buf out₀ out : List ℕ) (e : End) (n : ℕ) (x : e .failed ≡ false → Reads t ws buf e) (w : StopLine e out₀ out n) where
+  told : take n out ≡ stopBy e
+  told = ap (take n) (w .bytes) ∙ front out₀ (stopBy e) n (w .size)
 
-  by-failed : (f : Bool) → e .failed ≡ f → take (o .length) out ≡ stopLine (not f && endsBad (e .stopped) (e .left) (e .seen))
+  by-failed : (f : Bool) → e .failed ≡ f → take n out ≡ stopLine (not f && endsBad (e .stopped) (e .left) (e .seen))
   by-failed f q = told ∙ ap (λ (b : Bool). stopLine (not b && endsBad (e .stopped) (e .left) (e .seen))) q
 
-  by : (f : Bool) → e .failed ≡ f → Told d out o
-  by true q = record { failed = true; bytes = []; descriptor = w .descriptor; told = by-failed true q; within = w .within }
+  by : (f : Bool) → e .failed ≡ f → Told out n
+  by true q = record { failed = true; bytes = []; told = by-failed true q; within = w .within }
   by false q =
       record {
         failed = false;
         bytes = x q .bytes;
-        descriptor = w .descriptor;
         told = by-failed false q ∙ ap stopLine (x q .bad);
         within = w .within;
       }
 
-  pub all-told : Told d out o
+  pub all-told : Told out n
   all-told = by (e .failed) refl

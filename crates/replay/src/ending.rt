@@ -6,25 +6,23 @@ ghost use Rattle.words.specs.Layout.{ledgerSize};
 ghost use Rattle.replay.specs.Ending.{StopLine, Told};
 use crate::End;
 use crate::Tells;
-use crate::output::Output;
 use engine::run;
 
-// What is written at the end: to a descriptor, that a bad entry stopped the reading, if one did and nothing failed.
-fn stop_line(out: &mut [u8], e: End, descriptor: i32) -> Output
+// Puts the line that says that a bad entry stopped the reading, if one did and nothing failed; answers its length.
+fn stop_line(out: &mut [u8], e: End) -> usize
     requires { ⌜ 11 ≤ length (now out) ⌝ }
-    ensures { λ o. ⌜ StopLine descriptor e (now (out .entry)) (now (out .exit)) o ⌝ }
+    ensures { λ n. ⌜ StopLine e (now (out .entry)) (now (out .exit)) n ⌝ }
 {
     let bad = journal::ends_bad(e.stopped, e.left, e.seen);
-    let length = table::put_stop(out, 0, !e.failed & bad);
-    Output { descriptor, length }
+    table::put_stop(out, 0, !e.failed & bad)
 }
 
-// Reads standard input and writes what is asked for of its entries; what is left to write is the line in `out`.
-pub fn tell_input(ws: &mut [u64], buf: &mut [u8], out: &mut [u8], tells: Tells, descriptor: i32) -> Output
+// Reads standard input and writes what is asked for of its entries; what is left to write is the line in `out`, of so many bytes.
+pub fn tell_input(ws: &mut [u64], buf: &mut [u8], out: &mut [u8], tells: Tells) -> usize
     requires { ⌜ (length (now ws) ≡ ledgerSize) × (length (now buf) ≡ 262144) × (length (now out) ≡ 262144) ⌝ }
-    ensures { λ o. ⌜ Told descriptor (now (out .exit)) o ⌝ }
+    ensures { λ n. ⌜ Told (now (out .exit)) n ⌝ }
 {
     run::start(ws);
     let e = crate::read_all(ws, buf, out, tells);
-    stop_line(out, e, descriptor)
+    stop_line(out, e)
 }

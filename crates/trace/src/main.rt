@@ -27,9 +27,13 @@ fn explain() {
 // Reads standard input and writes the lines of its entries; what is left to write is in `out`, and goes to standard output.
 fn post_input(ws: &mut [u64], buf: &mut [u8], out: &mut [u8]) -> Output
     requires { ⌜ (length (now ws) ≡ ledgerSize) × (length (now buf) ≡ 262144) × (length (now out) ≡ 262144) ⌝ }
-    ensures { λ o. ⌜ Told (pos 1) (now (out .exit)) o ⌝ }
+    ensures { λ o. ⌜ (o .descriptor ≡ pos 1) × Told (now (out .exit)) (o .length) ⌝ }
 {
-    ending::tell_input(ws, buf, out, Tells::Lines, STDOUT_FILENO)
+    let length = ending::tell_input(ws, buf, out, Tells::Lines);
+    Output {
+        descriptor: STDOUT_FILENO,
+        length,
+    }
 }
 
 fn main() {

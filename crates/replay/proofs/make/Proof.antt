@@ -28,7 +28,7 @@ same-length-3 : tie.Need-same-length-3
 same-length-3 c = search needs
 
 returns : tie.Need-returns
-returns c = made _ _ _ _ _ _ _ _ _ (c .before .before .before .before .before .before .before .before .before .before .before .before .before .before .before .before .pre .1) (c .before .before .before .before .before .before .before .before .before .run-telling .ensures) _ _ _ (c .before .before .before .keep .ensures .0) (c .before .before .before .keep .ensures .1) (c .before .before .before .keep .kept .0) (c .counted .ensures)
+returns c = made _ _ _ _ _ _ _ _ _ (c .before .before .before .before .before .before .before .before .before .before .before .before .before .before .before .pre .1) (c .before .before .before .before .before .before .before .before .run-telling .ensures) _ _ (c .before .before .keep .ensures .0) (c .before .before .keep .ensures .1) (c .before .before .keep .kept .0)
 
 pub make-spec : {M : Type 1} → statement M
 make-spec =

@@ -14,7 +14,7 @@ same-length : tie.Need-same-length
 same-length c = search needs
 
 returns : tie.Need-returns
-returns c = stop-line _ (c .before .before .before .before .before .before .before .args .e) _ _ _ _ (c .before .before .before .before .before .ends-bad .ensures) (c .before .before .put-stop .ensures .0) (c .before .before .put-stop .ensures .1)
+returns c = stop-line (c .before .before .before .before .before .before .before .args .e) _ _ _ _ (c .before .before .before .before .before .ends-bad .ensures) (c .before .before .put-stop .ensures .0) (c .before .before .put-stop .ensures .1)
 
 pub stop-line-spec : {M : Type 1} → statement M
 stop-line-spec = tie.close (tie.spec ends-bad-requires put-stop-requires same-length returns)
