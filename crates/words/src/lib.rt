@@ -345,8 +345,8 @@ pub fn write_empty(words: &mut [u64], today: u64, tracking: u64, confirmation: u
     words[3] = 0;
     let mut i = 0;
     while i < PLACES {
-        let b = Bill::blank();
-        put_bill(words, HEADER_SIZE + PLACE_SIZE * i, b);
+        let blank = Bill::blank();
+        put_bill(words, HEADER_SIZE + PLACE_SIZE * i, blank);
         i += 1;
     }
 }
