@@ -1,4 +1,4 @@
-// The ledger: its bills found, replaced, added and summed, and the signed change of its total.
+// The ledger: its bills found, stored and summed, and the signed change of its total.
 ghost use mathlib.Core.Path.{_≡_};
 ghost use mathlib.Core.Bool.{true};
 ghost use Prim.Native.Nat.{_+_, _<_, _≤_, _^_};
@@ -6,7 +6,7 @@ ghost use lib.ListN.{length, getD, take};
 ghost use lib.IntN.{pos, _-ℤ_};
 ghost use Rattle.ledger.specs.Lists.{every};
 ghost use Rattle.ledger.specs.Bills.{blankBill};
-ghost use Rattle.ledger.specs.Books.{emptyLedger, live, placeOf, replaced, updated, within, slotOf, billCharge, smallCharge, totalOf};
+ghost use Rattle.ledger.specs.Books.{emptyLedger, live, placeOf, updated, within, slotOf, billCharge, smallCharge, totalOf};
 use crate::Bill;
 use crate::Found;
 use crate::Identity;
@@ -45,15 +45,6 @@ impl Ledger {
             i += 1;
         }
         Found::Nothing
-    }
-
-    // The ledger with the bill at a place replaced.
-    pub fn replace(mut self, i: usize, b: Bill) -> Ledger
-        requires { ⌜ i < 128 ⌝ }
-        ensures { λ r. ⌜ r ≡ replaced self i b ⌝ }
-    {
-        self.bills[i] = b;
-        self
     }
 
     // The ledger with a header, and a bill at a place.
