@@ -8,28 +8,15 @@ ghost use Rattle.ledger.specs.Sound.{soundLedger};
 ghost use Rattle.causes.specs.Causes.{close};
 ghost use Rattle.causes.specs.Requests.{closes};
 ghost use Rattle.calls.specs.Machine.{called};
-ghost use Rattle.calls.specs.Days.{quietAnswer, freshCalled};
+ghost use Rattle.calls.specs.Days.{freshCalled};
 use crate::Answer;
 use crate::Called;
-use crate::Returned;
+use crate::carried_out;
 use causes::Start;
 use causes::checks;
 use ledger::Ledger;
 use units::Date;
 use verdict::Check;
-
-// What a call that writes and posts nothing returns.
-pub fn quiet(closed: u64) -> Answer
-    ensures { λ r. ⌜ r ≡ quietAnswer closed ⌝ }
-{
-    Answer::Done(Returned {
-        change: 0,
-        written: 0,
-        accepted: 0,
-        rejected: 0,
-        closed,
-    })
-}
 
 // Begins a history: whatever the ledger held is gone.
 pub fn fresh(l: Ledger, s: Start) -> Called
@@ -43,7 +30,7 @@ pub fn fresh(l: Ledger, s: Start) -> Called
         },
         Check::Clear => Called {
             ledger: Ledger::empty(s.today, s.tracking, s.confirmation),
-            answer: quiet(0),
+            answer: carried_out::quiet(0),
         },
     }
 }
@@ -83,7 +70,7 @@ fn close_on_sound(l: Ledger, d: Date) -> Called
             next.today = d;
             Called {
                 ledger: next,
-                answer: quiet(closed),
+                answer: carried_out::quiet(closed),
             }
         }
     }
@@ -93,7 +80,7 @@ fn close_on_sound(l: Ledger, d: Date) -> Called
 pub fn close_day(l: Ledger, d: Date) -> Called
     ensures { λ a. ⌜ a ≡ called l (close d) ⌝ }
 {
-    if !l.sound() {
+    if !sound_ledger::sound(l) {
         return Called {
             ledger: l,
             answer: Answer::Refused(2),

@@ -1,8 +1,7 @@
 // The calls on a ledger by value, and what they answer.
-pub mod bills;
+pub mod carried_out;
 pub mod days;
 pub mod files;
-pub mod lookups;
 
 use ledger::Ledger;
 

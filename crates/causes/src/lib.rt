@@ -1,8 +1,6 @@
 // What decides on a call, on small values: its arguments, the first cause against it, what a request or a cancel leaves of the bill at its place, and its notice.
 // Who holds the ledger finds the bill and stores what is left: calls by value, engine in words.
 pub mod checks;
-pub mod notice;
-pub mod requests;
 
 use ledger::Identity;
 use ledger::Update;

@@ -5,14 +5,14 @@ ghost use Rattle.fields.specs.Put.{put};
 ghost use Rattle.causes.specs.Causes.{request, file, cancel, close};
 ghost use Rattle.calls.specs.Machine.{stepIn, called};
 ghost use Rattle.calls.specs.Days.{freshCalled};
-ghost use Rattle.calls.specs.Lookups.{OpenBill, amountsIn};
+ghost use Rattle.lookups.specs.Lookups.{OpenBill, amountsIn};
 use calls::Answer;
-use calls::lookups::Amounts;
-use calls::lookups::Place;
 use causes::Request;
 use causes::Start;
 use ledger::Identity;
 use ledger::Ledger;
+use lookups::Amounts;
+use lookups::Place;
 use units::Date;
 
 // Begins a history: whatever the ledger held is gone.
@@ -39,7 +39,7 @@ pub fn request_bill(ledger: &mut Ledger, r: Request, out: &mut [u8]) -> Answer
         × ((a ≡ called (now (ledger .entry)) (request r (length (now (out .entry)))) .answer)
         × (now (out .exit) ≡ put (now (out .entry)) 0 (stepIn (now (ledger .entry)) (request r (length (now (out .entry)))) .written))) ⌝ }
 {
-    let c = calls::bills::request_bill(*ledger, out, r);
+    let c = bill_calls::request_bill(*ledger, out, r);
     *ledger = c.ledger;
     c.answer
 }
@@ -50,7 +50,7 @@ pub fn cancel_bill(ledger: &mut Ledger, id: Identity, out: &mut [u8]) -> Answer
         × ((a ≡ called (now (ledger .entry)) (cancel id (length (now (out .entry)))) .answer)
         × (now (out .exit) ≡ put (now (out .entry)) 0 (stepIn (now (ledger .entry)) (cancel id (length (now (out .entry)))) .written))) ⌝ }
 {
-    let c = calls::bills::cancel_bill(*ledger, out, id);
+    let c = bill_calls::cancel_bill(*ledger, out, id);
     *ledger = c.ledger;
     c.answer
 }
@@ -70,12 +70,12 @@ pub fn take_file(ledger: &mut Ledger, s: &[u8], out: &mut [u8]) -> Answer
 pub fn open_bill_of(ledger: &Ledger, account: u64) -> Place
     ensures { λ a. ⌜ OpenBill (now (ledger .entry)) account a ⌝ }
 {
-    calls::lookups::open_bill_of(*ledger, account)
+    lookups::open_bill_of(*ledger, account)
 }
 
 // The amounts of the bill with this identity.
 pub fn amounts_of(ledger: &Ledger, id: Identity) -> Amounts
     ensures { λ a. ⌜ a ≡ amountsIn (now (ledger .entry)) id ⌝ }
 {
-    calls::lookups::amounts_of(*ledger, id)
+    lookups::amounts_of(*ledger, id)
 }

@@ -34,7 +34,8 @@ use Rattle.journal.specs.Entries.{headOf}
 use Rattle.journal.specs.Made.{madeIn, writtenIn}
 use Rattle.journal.proofs.Body as declared
 use Rattle.journal.proofs.MadeLaws.{Taken}
-use Rattle.engine.specs.InWords.{MadeIn, wordsLeft}
+use Rattle.engine.specs.InWords.{wordsLeft}
+use Rattle.entries.specs.Stepping.{MadeIn}
 use Rattle.clearing_c.specs.Boundary.{numberOf, changeLeft, countsLeft, Stores, Gives, freshIn, entryIn, Leaves, headCalled, headWritten, headTold}
 
 -- ---- a call that is no fresh

@@ -17,12 +17,12 @@ use Rattle.causes.specs.declared.Request.{Request}
 use Rattle.calls.specs.declared.Called.{Called}
 use Rattle.calls.specs.declared.Answer.{Answer}
 use Rattle.calls.specs.declared.Answer.the-variants as answer
-use Rattle.calls.specs.declared.lookups.Place.{Place}
-use Rattle.calls.specs.declared.lookups.Place.the-variants as place
-use Rattle.calls.specs.declared.lookups.Amounts.{Amounts}
-use Rattle.calls.specs.declared.lookups.Amounts.the-variants as amounts
+use Rattle.lookups.specs.declared.Place.{Place}
+use Rattle.lookups.specs.declared.Place.the-variants as place
+use Rattle.lookups.specs.declared.Amounts.{Amounts}
+use Rattle.lookups.specs.declared.Amounts.the-variants as amounts
 use Rattle.calls.specs.Days.{freshCalled}
-use Rattle.calls.specs.Lookups.{OpenBill}
+use Rattle.lookups.specs.Lookups.{OpenBill}
 use Rattle.journal.specs.declared.Body.{Body}
 use Rattle.journal.specs.declared.Body.the-variants as body
 use Rattle.journal.specs.declared.Head.{Head}

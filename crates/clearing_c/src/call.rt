@@ -7,7 +7,7 @@ ghost use Rattle.journal.specs.Made.{writtenIn};
 ghost use Rattle.clearing_c.specs.Boundary.{entryIn, Leaves, Stores, Gives};
 use calls::Answer;
 use engine::call;
-use engine::entry;
+use entries::entry;
 use journal::Body;
 
 // Makes a call in the lent words: a fresh asks that they are 2,436, and any other that they are those of a sound ledger (2).
@@ -20,7 +20,7 @@ fn make(ledger: &mut [u64], out: &mut [u8], body: Body, s: &[u8]) -> Answer
         }
         return call::fresh_in(ledger, start);
     }
-    if !words::sound(ledger) {
+    if !places::checks::sound(ledger) {
         return Answer::Refused(2);
     }
     let room = out.len();

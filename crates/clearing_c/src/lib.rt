@@ -10,18 +10,17 @@ ghost use Rattle.fields.specs.Put.{put};
 ghost use Rattle.words.specs.Layout.{ledgerOf};
 ghost use Rattle.causes.specs.Causes.{request, file, cancel, close};
 ghost use Rattle.calls.specs.Machine.{stepIn, called};
-ghost use Rattle.calls.specs.Lookups.{amountsIn};
+ghost use Rattle.lookups.specs.Lookups.{amountsIn};
 ghost use Rattle.journal.specs.Entries.{headOf};
 ghost use Rattle.clearing_c.specs.Boundary.{dateOf, startOf, identityOf, requestOf, freshIn, Gives, headCalled, headWritten, headTold, Opens, amountsNumber, amountsLeft, Prints};
-use calls::lookups::Amounts;
-use calls::lookups::Place;
 use causes::CodeField;
 use causes::Request;
 use causes::Start;
-use engine::lookup;
 use journal::Body;
 use journal::Head;
 use ledger::Identity;
+use lookups::Amounts;
+use lookups::Place;
 use table::Printed;
 use units::Ccf;
 use units::Date;
@@ -142,7 +141,7 @@ pub extern "C" fn clearing_cancel(
 pub extern "C" fn clearing_open_bill(ledger: &[u64], account: u64, place: &mut u64) -> u64
     ensures { λ n. ⌜ Opens (ledgerOf (now (ledger .entry))) account (now (place .entry)) (now (place .exit)) n ⌝ }
 {
-    let found = lookup::open_bill_in(ledger, account);
+    let found = lookups_in_words::open_bill_in(ledger, account);
     match found {
         Place::At(p) => {
             *place = p as u64;
@@ -163,7 +162,7 @@ pub extern "C" fn clearing_amounts(
     ensures { λ n. ⌜ n ≡ amountsNumber (amountsIn (ledgerOf (now (ledger .entry))) (identityOf account key)) ⌝ }
     ensures { λ _. ⌜ now (amounts .exit) ≡ amountsLeft (now (amounts .entry)) (amountsIn (ledgerOf (now (ledger .entry))) (identityOf account key)) ⌝ }
 {
-    let found = lookup::amounts_in(ledger, Identity { account, key });
+    let found = lookups_in_words::amounts_in(ledger, Identity { account, key });
     match found {
         Amounts::Posted {
             charge,

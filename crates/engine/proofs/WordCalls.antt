@@ -18,7 +18,7 @@ use Rattle.ledger.specs.Books.{live, ofId, placeOf, headerOf, withHeader, slotO
 use Rattle.ledger.specs.Sound.{soundLedger}
 use Rattle.ledger.proofs.SoundLaws.{ledger-count}
 use Rattle.words.specs.Layout.{holdsLedger, ledgerOf}
-use Rattle.words.proofs.PartLaws.{places-of}
+use Rattle.places.proofs.PartLaws.{places-of}
 use Rattle.words.proofs.WordLaws.{sound-holds}
 use Rattle.verdict.specs.declared.Check.{Check}
 use Rattle.verdict.specs.declared.Check.the-variants.{Clear, Stop}

@@ -16,14 +16,14 @@ use calls::Answer;
 use causes::Request;
 use causes::Start;
 use causes::checks;
-use causes::notice;
-use causes::requests;
+use decisions::notice;
+use decisions::requests;
 use ledger::Identity;
 use ledger::LedgerHeader;
+use places::place;
 use units::Cents;
 use units::Date;
 use verdict::Check;
-use words::place;
 
 // The call request.
 pub fn request_in(ws: &mut [u64], out: &mut [u8], writes: bool, room: usize, r: Request) -> Answer
@@ -44,7 +44,7 @@ pub fn request_in(ws: &mut [u64], out: &mut [u8], writes: bool, room: usize, r: 
     let c = u.bill;
     notice::put_bil(out, writes, h, f, b, c);
     place::update(ws, p, u);
-    calls::bills::noticed(0)
+    calls::carried_out::noticed(0)
 }
 
 // The call cancel.
@@ -67,7 +67,7 @@ pub fn cancel_in(ws: &mut [u64], out: &mut [u8], writes: bool, room: usize, id: 
     notice::put_cxl(out, writes, h, b);
     let u = d.update;
     place::update(ws, p, u);
-    calls::bills::noticed(change)
+    calls::carried_out::noticed(change)
 }
 
 // The file call.
@@ -81,7 +81,7 @@ pub fn file_in(ws: &mut [u64], out: &mut [u8], writes: bool, room: usize, s: &[u
         return Answer::Refused(n);
     }
     let c = file_groups::take(ws, out, writes, s, s.len() / 321);
-    calls::files::cleared(c)
+    calls::carried_out::cleared(c)
 }
 
 // How many of the first n bills a close closes.
@@ -118,7 +118,7 @@ pub fn close_in(ws: &mut [u64], d: Date) -> Answer
         count: h.count,
     };
     place::put_header(ws, next);
-    calls::days::quiet(closed)
+    calls::carried_out::quiet(closed)
 }
 
 // Fresh: whatever the words held is gone; a fresh that is refused leaves each as it was.
@@ -131,5 +131,5 @@ pub fn fresh_in(ws: &mut [u64], s: Start) -> Answer
         return Answer::Refused(n);
     }
     words::write_empty(ws, s.today.0, s.tracking, s.confirmation);
-    calls::days::quiet(0)
+    calls::carried_out::quiet(0)
 }

@@ -8,7 +8,7 @@ ghost use Rattle.notices.specs.Layout.{recordsFrom};
 ghost use Rattle.file.specs.File.{groups};
 ghost use Rattle.group.specs.Turns.{Ready, Fine, TurnedOn, TookBy};
 use group::Tally;
-use words::place;
+use places::place;
 
 // One group's turn: its bill found, the group decided and answered, and what that leaves stored.
 fn turn(

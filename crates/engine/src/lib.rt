@@ -1,7 +1,4 @@
 // The engine: a ledger that is lent as words and changed in place. Each call does to the ledger that the words hold what the call by value does; an entry of
 // a journal is one call of `step`.
 pub mod call;
-pub mod entry;
 pub mod file_groups;
-pub mod lookup;
-pub mod run;

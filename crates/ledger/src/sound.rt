@@ -1,9 +1,8 @@
-// When a ledger is sound. The tests are strict (`&`), in the order of the definition.
+// When the parts of a ledger are sound. The tests are strict (`&`), in the order of the definition.
 ghost use mathlib.Core.Path.{_≡_};
 ghost use Rattle.ledger.specs.Bills.{isLetter, isRateCode, codeBytes};
-ghost use Rattle.ledger.specs.Sound.{isNext, soundTerms, balanced, soundAmounts, soundBill, soundLedger};
+ghost use Rattle.ledger.specs.Sound.{isNext, soundTerms, balanced, soundAmounts, soundBill};
 use crate::Bill;
-use crate::Ledger;
 use crate::Posted;
 use crate::RateCode;
 use crate::Terms;
@@ -93,41 +92,5 @@ impl Bill {
         let terms = self.terms;
         let posted = self.posted;
         terms.sound() & posted.sound(terms)
-    }
-}
-
-impl Ledger {
-    // Whether the ledger is sound: cause 2 where it is not.
-    pub fn sound(self) -> bool
-        ensures { λ r. ⌜ r ≡ soundLedger self ⌝ }
-    {
-        let n = self.count;
-        let today = self.today;
-        let head = today.valid()
-            & is_next(self.next_tracking)
-            & is_next(self.next_confirmation)
-            & (n <= 128);
-        if !head {
-            return false;
-        }
-        let mut i = 0;
-        'bills: while i < n {
-            let b = self.bills[i];
-            if !b.sound() {
-                return false;
-            }
-            let terms = b.terms;
-            let id = terms.identity;
-            let mut j = i + 1;
-            'others: while j < n {
-                let o = self.bills[j];
-                if o.terms.is_of(id) {
-                    return false;
-                }
-                j += 1;
-            }
-            i += 1;
-        }
-        true
     }
 }

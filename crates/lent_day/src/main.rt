@@ -6,14 +6,14 @@ ghost use Rattle.fields.specs.Put.{put};
 ghost use Rattle.causes.specs.Causes.{request, file, close};
 ghost use Rattle.calls.specs.Machine.{stepIn, called, ran};
 ghost use Rattle.calls.specs.Days.{freshCalled};
-ghost use Rattle.calls.specs.Lookups.{amountsIn};
-use calls::lookups::Amounts;
+ghost use Rattle.lookups.specs.Lookups.{amountsIn};
 use causes::CodeField;
 use causes::Request;
 use causes::Start;
 use ledger::Identity;
 use ledger::Ledger;
 use libc::STDOUT_FILENO;
+use lookups::Amounts;
 use units::Ccf;
 use units::Date;
 

@@ -6,7 +6,7 @@ ghost use Rattle.ledger.specs.Sound.{soundLedger};
 ghost use Rattle.words.specs.Layout.{ledgerSize, ledgerOf};
 ghost use Rattle.table.specs.Table.{tableRoom};
 ghost use Rattle.posted.specs.Posting.{toPrint, Tables, Posts};
-use engine::run;
+use entries::run;
 use libc::STDERR_FILENO;
 use libc::STDOUT_FILENO;
 use replay::End;

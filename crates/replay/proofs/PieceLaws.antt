@@ -8,8 +8,8 @@ use lib.ListN.{length, take, drop}
 use lib.Seq.{length-take-le, take-add, drop-at}
 use Rattle.fields.specs.Put.{part, put}
 use Rattle.fields.proofs.PutLaws.{length-part, part-put}
-use Rattle.engine.specs.declared.run.Ran.{Ran}
-use Rattle.engine.specs.Running.{ranTo, RanIn}
+use Rattle.entries.specs.declared.run.Ran.{Ran}
+use Rattle.entries.specs.Running.{ranTo, RanIn}
 use Rattle.tracing.specs.declared.Ran as traced
 use Rattle.tracing.specs.Tracing.{TracesIn}
 use Rattle.input.specs.declared.Filled as filled

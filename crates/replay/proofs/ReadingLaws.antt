@@ -18,8 +18,8 @@ use Rattle.journal.specs.Journal.{Entry, Parsed, parse, parseUpTo, makes, noBoo
 use Rattle.journal.specs.Made.{madeAll, noticesOf}
 use Rattle.journal.proofs.JournalLaws.{fed, parse-fed}
 use Rattle.journal.proofs.BeginLaws.{makes-append}
-use Rattle.engine.specs.Running.{behind, firstLedger}
-use Rattle.engine.proofs.RunLaws.{notices-append, made-append}
+use Rattle.entries.specs.Running.{behind, firstLedger}
+use Rattle.entries.proofs.RunLaws.{notices-append, made-append}
 use Rattle.trace_lines.specs.Trace.{traceLines}
 use Rattle.tracing.proofs.RunLaws.{lines-append}
 use Rattle.input.specs.declared.Filled as filled

@@ -11,8 +11,8 @@ use Rattle.ledger.specs.Sound.{soundLedger}
 use Rattle.words.specs.Layout as layout
 use Rattle.journal.specs.Journal.{Entry, Parsed, parse, makes, noBook, endsBad, ledgerOf, isBad}
 use Rattle.journal.specs.Made.{madeAll, noticesOf}
-use Rattle.engine.specs.declared.run.Ran.{Ran}
-use Rattle.engine.specs.Running.{behind, firstLedger}
+use Rattle.entries.specs.declared.run.Ran.{Ran}
+use Rattle.entries.specs.Running.{behind, firstLedger}
 use Rattle.trace_lines.specs.Trace.{traceLines}
 use Rattle.input.specs.declared.Filled as filled
 use Rattle.input.specs.declared.Filled.the-variants as filled-as

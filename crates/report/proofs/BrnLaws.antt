@@ -15,9 +15,9 @@ use Rattle.ledger.specs.Books.{Book, book}
 use Rattle.words.specs.Layout as layout
 use Rattle.journal.specs.Journal.{Entry, parse, noBook, isBad}
 use Rattle.journal.specs.Made.{noticesOf, brnOf}
-use Rattle.engine.specs.declared.run.Ran.{Ran}
-use Rattle.engine.specs.Running.{RanIn}
-use Rattle.engine.proofs.RanLaws.{ran-split, ran-within, all-notices, journal-notices}
+use Rattle.entries.specs.declared.run.Ran.{Ran}
+use Rattle.entries.specs.Running.{RanIn}
+use Rattle.entries.proofs.RanLaws.{ran-split, ran-within, all-notices, journal-notices}
 use Rattle.report.specs.declared.Report.the-variants.{Written, TooSmall}
 use Rattle.report.specs.NoticesOf.{noticesReport, noticed, ReportsNotices}
 

@@ -7,7 +7,7 @@ ghost use Rattle.journal.specs.Made.{brnOf};
 ghost use Rattle.report.specs.NoticesOf.{ReportsNotices};
 use crate::Report;
 use crate::Reported;
-use engine::run;
+use entries::run;
 
 // Writes the notices of a journal into an output that has room for them. A run stops where fewer bytes are left than one entry may write, so the last
 // notices, which have fewer, are made in a buffer of twice that and put behind.

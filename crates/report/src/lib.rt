@@ -4,7 +4,7 @@ pub mod brn_file;
 ghost use mathlib.Core.Path.{_≡_};
 ghost use lib.ListN.{length};
 ghost use Rattle.report.specs.Report.{Reports};
-use engine::run;
+use entries::run;
 
 // So many bytes were written; or the output lent is too small: for a table one under 10,970 bytes, which the longest table has.
 pub enum Report {

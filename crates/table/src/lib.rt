@@ -21,9 +21,9 @@ use ledger::State;
 use ledger::Terms;
 use ledger::bills;
 use ledger::books;
+use places::place;
 use units::Cents;
 use units::Date;
-use words::place;
 
 // The bytes that the longest table has: an output for a table has room for it.
 pub const TABLE_ROOM: usize = 10970;
@@ -235,7 +235,7 @@ pub fn print(out: &mut [u8], l: Ledger, stopped: bool) -> Printed
     ensures { λ r. ⌜ r ≡ printedBy l stopped (length (now (out .entry))) ⌝ }
     ensures { λ _. ⌜ now (out .exit) ≡ put (now (out .entry)) 0 (printed l stopped (length (now (out .entry)))) ⌝ }
 {
-    if !l.sound() {
+    if !sound_ledger::sound(l) {
         return Printed::Refused(2);
     }
     if out.len() < TABLE_ROOM {
@@ -249,7 +249,7 @@ pub fn print_words(out: &mut [u8], ws: &[u64], stopped: bool) -> Printed
     ensures { λ r. ⌜ r ≡ printedBy (ledgerOf (now (ws .entry))) stopped (length (now (out .entry))) ⌝ }
     ensures { λ _. ⌜ now (out .exit) ≡ put (now (out .entry)) 0 (printed (ledgerOf (now (ws .entry))) stopped (length (now (out .entry)))) ⌝ }
 {
-    if !words::sound(ws) {
+    if !places::checks::sound(ws) {
         return Printed::Refused(2);
     }
     if out.len() < TABLE_ROOM {

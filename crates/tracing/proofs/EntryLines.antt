@@ -30,9 +30,9 @@ use Rattle.journal.specs.Entries.{bodyOf, headOf}
 use Rattle.journal.specs.Made.{madeIn, writtenIn}
 use Rattle.journal.proofs.HeadLaws.{tagIn, whole-fits, whole-small, whole-holds, whole-bytes}
 use Rattle.journal.proofs.BeginLaws.{whole-taken}
-use Rattle.engine.specs.declared.entry.Stepped.{Stepped}
-use Rattle.engine.specs.declared.entry.Stepped.the-variants as step
-use Rattle.engine.specs.InWords.{MadeIn, StepOn, SteppedIn}
+use Rattle.entries.specs.declared.entry.Stepped.{Stepped}
+use Rattle.entries.specs.declared.entry.Stepped.the-variants as step
+use Rattle.entries.specs.Stepping.{MadeIn, StepOn, SteppedIn}
 use Rattle.trace_lines.specs.Lines.{tagOf, callLine, groupLines}
 use Rattle.trace_lines.specs.Read.{Lined}
 use Rattle.trace_lines.specs.Trace.{answerTo, entryAnswer, linesUnder, entryLines}

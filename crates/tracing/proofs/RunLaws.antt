@@ -24,7 +24,7 @@ use Rattle.journal.proofs.HeadLaws.{whole-fits}
 use Rattle.journal.proofs.JournalLaws.{parse-cut, parse-bad, parse-whole}
 use Rattle.journal.proofs.BeginLaws.{whole-taken, makes-append}
 use Rattle.journal.proofs.MadeLaws.{made-book}
-use Rattle.engine.specs.Running.{behind}
+use Rattle.entries.specs.Running.{behind}
 use Rattle.trace_lines.specs.Trace.{entryLines, traceLines}
 use Rattle.tracing.specs.declared.Traced.{Traced}
 use Rattle.tracing.specs.declared.Traced.the-variants as traced

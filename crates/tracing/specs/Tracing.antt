@@ -18,7 +18,7 @@ use Rattle.journal.specs.declared.Head.the-variants.{Cut, Bad, Whole}
 use Rattle.journal.specs.Entries.{headOf}
 use Rattle.journal.specs.Journal.{Entry, parse, makes}
 use Rattle.journal.specs.Made.{madeIn, writtenIn, madeAll}
-use Rattle.engine.specs.Running.{behind}
+use Rattle.entries.specs.Running.{behind}
 use Rattle.trace_lines.specs.Trace.{entryLines, traceLines}
 use Rattle.tracing.specs.declared.Ran.{Ran}
 use Rattle.tracing.specs.declared.Traced.{Traced}

@@ -7,7 +7,7 @@ ghost use Rattle.ledger.specs.Sound.{soundLedger};
 ghost use Rattle.words.specs.Layout.{ledgerOf};
 ghost use Rattle.tracing.specs.Tracing.{isDone, LinesOf, EntryIn, TracesIn};
 use calls::Answer;
-use engine::entry::Stepped;
+use entries::entry::Stepped;
 
 // Whether a call was carried out.
 fn is_done(a: Answer) -> bool
@@ -62,7 +62,7 @@ fn entry(
     requires { ⌜ (soundLedger (ledgerOf (now ws)) ≡ true) × (64200 ≤ length (now sent)) × (at + 8652 ≤ length (now out)) ⌝ }
     ensures { λ r. ⌜ EntryIn seen (now (src .entry)) at (now (ws .entry)) (now (out .entry)) (now (ws .exit)) (now (out .exit)) r ⌝ }
 {
-    let r = engine::entry::step(ws, sent, src, seen, true);
+    let r = entries::entry::step(ws, sent, src, seen, true);
     match r {
         Stepped::Cut => Traced::Cut,
         Stepped::Bad => Traced::Bad,

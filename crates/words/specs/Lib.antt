@@ -1,3 +1,2 @@
 -- A ledger as an array of 64-bit words.
 pub mod Layout
-pub mod Slots

@@ -1,20 +1,14 @@
-// A ledger as an array of 64-bit words: 2436 words read as a ledger, and a ledger written as 2436 words.
+// A ledger as an array of 64-bit words: which words are those of a ledger, and a bill read from and written as the words of a place.
 ghost use mathlib.Core.Path.{_≡_};
 ghost use mathlib.Core.Bool.{true};
 ghost use Prim.Native.Nat.{_+_, _≤_, _<_};
 ghost use lib.ListN.{length, drop};
 ghost use Rattle.fields.specs.Put.{put};
 ghost use Rattle.ledger.specs.Books.{emptyLedger};
-ghost use Rattle.ledger.specs.Sound.{soundLedger};
-ghost use Rattle.words.specs.Layout.{placeSize, ledgerSize, markWord, termsWords, latestWords, postedWords, billWords, ledgerWords, holdsCode, holdsPosted, holdsBill, holdsLedger, productIn, postedIn, codeIn, latestIn, termsIn, billIn, ledgerIn, noLedger, ledgerOf, date};
-
-pub mod checks;
-pub mod place;
-
+ghost use Rattle.words.specs.Layout.{placeSize, ledgerSize, markWord, termsWords, latestWords, postedWords, billWords, ledgerWords, holdsCode, holdsPosted, holdsBill, holdsLedger, productIn, postedIn, codeIn, latestIn, termsIn, billIn, ledgerOf, date};
 use ledger::Bill;
 use ledger::Identity;
 use ledger::Latest;
-use ledger::Ledger;
 use ledger::Posted;
 use ledger::Product;
 use ledger::RateCode;
@@ -61,7 +55,7 @@ fn fits_in(words: &[u64], at: usize) -> bool
 }
 
 // Whether the words are those of a ledger.
-fn fits(words: &[u64]) -> bool
+pub fn fits(words: &[u64]) -> bool
     ensures { λ r. ⌜ r ≡ holdsLedger (now (words .entry)) ⌝ }
 {
     if words.len() != LEDGER_SIZE {
@@ -175,56 +169,6 @@ pub fn bill_in(words: &[u64], at: usize) -> Bill
     Bill { terms, posted }
 }
 
-// The ledger of words that are those of a ledger.
-fn ledger_in(words: &[u64]) -> Ledger
-    requires { ⌜ holdsLedger (now words) ≡ true ⌝ }
-    ensures { λ r. ⌜ r ≡ ledgerIn (now (words .entry)) ⌝ }
-{
-    let mut l = Ledger::empty(Date(words[0]), words[1], words[2]);
-    l.count = words[3] as usize;
-    let mut i = 0;
-    while i < PLACES {
-        let b = bill_in(words, HEADER_SIZE + PLACE_SIZE * i);
-        l.bills[i] = b;
-        i += 1;
-    }
-    l
-}
-
-// A ledger that is not sound.
-fn none() -> Ledger
-    ensures { λ r. ⌜ r ≡ noLedger ⌝ }
-{
-    let mut l = Ledger::empty(Date(0), 0, 0);
-    l.count = 129;
-    l
-}
-
-// The ledger whose words these are; one that is not sound where they are those of none.
-pub fn read(words: &[u64]) -> Ledger
-    ensures { λ r. ⌜ r ≡ ledgerOf (now (words .entry)) ⌝ }
-{
-    if fits(words) {
-        return ledger_in(words);
-    }
-    none()
-}
-
-// Whether the words are those of a sound ledger: cause 2 where they are not. No ledger is made of them.
-pub fn sound(words: &[u64]) -> bool
-    ensures { λ r. ⌜ r ≡ soundLedger (ledgerOf (now (words .entry))) ⌝ }
-{
-    if !fits(words) {
-        return false;
-    }
-    let h = place::header(words);
-    let n = h.count;
-    if !checks::good_header(h) {
-        return false;
-    }
-    checks::good_bills(words, n) & checks::all_distinct(words, n)
-}
-
 // ---- a ledger's words
 // Writes src into words from index `at` on.
 fn put_words(words: &mut [u64], at: usize, src: &[u64])
@@ -315,25 +259,7 @@ pub fn put_bill(words: &mut [u64], at: usize, b: Bill)
     put_words(words, at + 15, &third);
 }
 
-// Writes the ledger's words, which read back as the ledger.
-pub fn write(words: &mut [u64], l: Ledger)
-    requires { ⌜ length (now words) ≡ ledgerSize ⌝ }
-    ensures { λ _. ⌜ now (words .exit) ≡ ledgerWords l ⌝ }
-    ensures { λ _. ⌜ ledgerOf (now (words .exit)) ≡ l ⌝ }
-{
-    words[0] = l.today.0;
-    words[1] = l.next_tracking;
-    words[2] = l.next_confirmation;
-    words[3] = l.count as u64;
-    let mut i = 0;
-    while i < PLACES {
-        let b = l.bills[i];
-        put_bill(words, HEADER_SIZE + PLACE_SIZE * i, b);
-        i += 1;
-    }
-}
-
-// The same of a ledger with no bills, of which none is made.
+// Writes the words of a ledger with no bills, which read back as that ledger; none is made.
 pub fn write_empty(words: &mut [u64], today: u64, tracking: u64, confirmation: u64)
     requires { ⌜ length (now words) ≡ ledgerSize ⌝ }
     ensures { λ _. ⌜ now (words .exit) ≡ ledgerWords (emptyLedger (date today) tracking confirmation) ⌝ }

@@ -9,14 +9,14 @@ use Rattle.ledger.specs.declared.Identity.{Identity}
 use Rattle.ledger.specs.declared.Ledger.{Ledger}
 use Rattle.ledger.proofs.Identity as P
 use Rattle.ledger.proofs.Identity.Laws as P′
-use Rattle.calls.specs.declared.lookups.Amounts.{Amounts}
-use Rattle.calls.specs.Lookups.{amountsIn}
+use Rattle.lookups.specs.declared.Amounts.{Amounts}
+use Rattle.lookups.specs.Lookups.{amountsIn}
 use Rattle.clearing.proofs.Argument.{Arg, declared, enumerated}
-use Rattle.calls.proofs.lookups.Amounts as R
-use Rattle.calls.proofs.lookups.Amounts.Laws as R′
-use Rattle.calls.proofs.lookups.amounts_of.Symbol as core-def
-use Rattle.calls.proofs.lookups.amounts_of.Symbol.{name as #core}
-use Rattle.calls.proofs.lookups.amounts_of.Met as core-thm
+use Rattle.lookups.proofs.Amounts as R
+use Rattle.lookups.proofs.Amounts.Laws as R′
+use Rattle.lookups.proofs.amounts_of.Symbol as core-def
+use Rattle.lookups.proofs.amounts_of.Symbol.{name as #core}
+use Rattle.lookups.proofs.amounts_of.Met as core-thm
 use Rattle.clearing.proofs.LentLedger.{lent}
 use Rattle.clearing.proofs.LookupCalls.{Core-look, meets-look}
 use Rattle.clearing.proofs.amounts_of.Key.{name as #amounts}
@@ -42,4 +42,4 @@ amounts-of-spec 𝓤 H 𝓜 𝓖 𝓡 =
     (λ κs a g r e. factI 𝓤 _ (emp 𝓤) e)
     #core (tablesOf 𝓤 H 𝓜 (tables 𝓤 H 𝓜 𝓡 code.env))
     (cited 𝓤 H (Core-look lent P.the-row argument R.the-row answer Found 𝓤 H (𝓖 .A))
-    𝓜 𝓡 code.env #core core-def.routine code.calls-calls·lookups·amounts-of (core-thm.met 𝓤 H 𝓜 𝓖 𝓡)))
+    𝓜 𝓡 code.env #core core-def.routine code.calls-lookups·amounts-of (core-thm.met 𝓤 H 𝓜 𝓖 𝓡)))

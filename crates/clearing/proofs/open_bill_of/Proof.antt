@@ -5,13 +5,13 @@ use contract.Running.{givenOf, tables, tablesOf}
 use denote.Builtin.{u64}
 use denote.Triple.Spec.{tripleOf}
 use denote.Triple.Table.{entered, cited}
-use Rattle.calls.specs.Lookups.{OpenBill}
+use Rattle.lookups.specs.Lookups.{OpenBill}
 use Rattle.clearing.proofs.Argument.{Arg, number, enumerated}
-use Rattle.calls.proofs.lookups.Place as R
-use Rattle.calls.proofs.lookups.Place.Laws as R′
-use Rattle.calls.proofs.lookups.open_bill_of.Symbol as core-def
-use Rattle.calls.proofs.lookups.open_bill_of.Symbol.{name as #core}
-use Rattle.calls.proofs.lookups.open_bill_of.Met as core-thm
+use Rattle.lookups.proofs.Place as R
+use Rattle.lookups.proofs.Place.Laws as R′
+use Rattle.lookups.proofs.open_bill_of.Symbol as core-def
+use Rattle.lookups.proofs.open_bill_of.Symbol.{name as #core}
+use Rattle.lookups.proofs.open_bill_of.Met as core-thm
 use Rattle.clearing.proofs.LentLedger.{lent}
 use Rattle.clearing.proofs.LookupCalls.{Core-look, meets-look}
 use Rattle.clearing.proofs.open_bill_of.Key.{name as #open}
@@ -31,4 +31,4 @@ open-bill-of-spec 𝓤 H 𝓜 𝓖 𝓡 =
     (λ κs a g r e. factI 𝓤 _ (emp 𝓤) e)
     #core (tablesOf 𝓤 H 𝓜 (tables 𝓤 H 𝓜 𝓡 code.env))
     (cited 𝓤 H (Core-look lent u64 number R.the-row answer OpenBill 𝓤 H (𝓖 .A))
-    𝓜 𝓡 code.env #core core-def.routine code.calls-calls·lookups·open-bill-of (core-thm.met 𝓤 H 𝓜 𝓖 𝓡)))
+    𝓜 𝓡 code.env #core core-def.routine code.calls-lookups·open-bill-of (core-thm.met 𝓤 H 𝓜 𝓖 𝓡)))

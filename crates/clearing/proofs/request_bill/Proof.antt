@@ -16,9 +16,9 @@ use Rattle.ledger.specs.declared.Ledger.{Ledger}
 use Rattle.calls.specs.declared.Called.{Called}
 use Rattle.causes.specs.Causes.{request}
 use Rattle.calls.specs.Machine.{stepIn, called}
-use Rattle.calls.proofs.bills.request_bill.Symbol as core-def
-use Rattle.calls.proofs.bills.request_bill.Symbol.{name as #core}
-use Rattle.calls.proofs.bills.request_bill.Met as core-thm
+use Rattle.bill_calls.proofs.request_bill.Symbol as core-def
+use Rattle.bill_calls.proofs.request_bill.Symbol.{name as #core}
+use Rattle.bill_calls.proofs.request_bill.Met as core-thm
 use Rattle.clearing.proofs.Argument.{Arg, declared}
 use Rattle.clearing.proofs.LentLedger.{lent, outcome}
 use Rattle.clearing.proofs.BillCalls.{Core-bill, meets-bill}
@@ -45,4 +45,4 @@ request-bill-spec 𝓤 H 𝓜 𝓖 𝓡 =
     (λ κs a g r zs e w. factI 𝓤 _ (emp 𝓤) (ap (λ (z : Called). z .ledger) e, (ap (λ (z : Called). z .answer) e, w)))
     #core (tablesOf 𝓤 H 𝓜 (tables 𝓤 H 𝓜 𝓡 code.env))
     (cited 𝓤 H (Core-bill lent outcome P.the-row argument returned written 𝓤 H (𝓖 .A))
-    𝓜 𝓡 code.env #core core-def.routine code.calls-calls·bills·request-bill (core-thm.met 𝓤 H 𝓜 𝓖 𝓡)))
+    𝓜 𝓡 code.env #core core-def.routine code.calls-bill-calls·request-bill (core-thm.met 𝓤 H 𝓜 𝓖 𝓡)))

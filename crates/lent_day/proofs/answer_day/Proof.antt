@@ -15,12 +15,12 @@ use Rattle.ledger.specs.declared.Ledger.{Ledger}
 use Rattle.ledger.proofs.Identity as P
 use Rattle.ledger.proofs.Identity.Laws as P′
 use Rattle.calls.specs.declared.Called.{Called}
-use Rattle.calls.specs.declared.lookups.Amounts.{Amounts}
+use Rattle.lookups.specs.declared.Amounts.{Amounts}
 use Rattle.causes.specs.Causes.{file}
 use Rattle.calls.specs.Machine.{stepIn, called}
-use Rattle.calls.specs.Lookups.{amountsIn}
-use Rattle.calls.proofs.lookups.Amounts as R
-use Rattle.calls.proofs.lookups.Amounts.Laws as R′
+use Rattle.lookups.specs.Lookups.{amountsIn}
+use Rattle.lookups.proofs.Amounts as R
+use Rattle.lookups.proofs.Amounts.Laws as R′
 use Rattle.clearing.proofs.Argument.{Arg, declared, enumerated}
 use Rattle.clearing.proofs.LentLedger.{lent, outcome}
 use Rattle.clearing.proofs.take_file.Symbol as file-def

@@ -1,7 +1,7 @@
 -- `report::post_table` meets its contract: the run makes the whole journal, and the table is that of its end.
 use mathlib.Core.Path.{_≡_, refl, sym, _∙_}
 use mathlib.Core.Bool.{false}
-use Rattle.engine.proofs.RanLaws.{journal-books, journal-bad}
+use Rattle.entries.proofs.RanLaws.{journal-books, journal-bad}
 use Rattle.report.proofs.ReportLaws.{table-is, refused, posted}
 use borrow.Author.Needs.{needs}
 use Rattle.report.proofs.post_table.Statement.{statement}

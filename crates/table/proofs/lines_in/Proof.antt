@@ -9,7 +9,7 @@ use Rattle.fields.specs.Put.{put}
 use Rattle.fields.proofs.PutLaws.{put-nil}
 use Rattle.ledger.specs.declared.Bill.{Bill}
 use Rattle.words.specs.Layout.{ledgerOf}
-use Rattle.words.proofs.PartLaws.{places-of}
+use Rattle.places.proofs.PartLaws.{places-of}
 use Rattle.table.specs.Table.{linesOf}
 use Rattle.table.proofs.TableLaws.{lines-kept, line-in}
 use Rattle.table.proofs.lines_in.Statement.{statement}

@@ -8,7 +8,7 @@ use Rattle.ledger.specs.Books.{smallCharge}
 use Rattle.ledger.proofs.SoundLaws.{ledger-count, ledger-small}
 use Rattle.words.specs.Layout.{ledgerOf}
 use Rattle.words.proofs.WordLaws.{sound-holds}
-use Rattle.words.proofs.PartLaws.{places-of}
+use Rattle.places.proofs.PartLaws.{places-of}
 use Rattle.table.proofs.TableLaws.{table-by}
 use borrow.Author.Needs.{needs}
 use Rattle.table.proofs.write_words.Statement.{statement}

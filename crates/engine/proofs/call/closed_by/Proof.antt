@@ -15,7 +15,7 @@ use Rattle.ledger.proofs.ListLaws.{slice-end}
 use Rattle.words.specs.Layout.{ledgerOf}
 use Rattle.causes.specs.Requests.{closes}
 use Rattle.calls.proofs.DayLaws.{count-turn}
-use Rattle.words.proofs.PartLaws.{places-of}
+use Rattle.places.proofs.PartLaws.{places-of}
 use Rattle.engine.proofs.call.closed_by.Statement.{statement}
 use Rattle.engine.proofs.call.closed_by.Tie as tie
 

@@ -2,7 +2,7 @@
 use mathlib.Core.Path.{refl, sym, ap, _∙_}
 use native.Mathlib.Omega.{arith}
 use Rattle.words.specs.Layout.{ledgerOf}
-use Rattle.words.proofs.PartLaws.{places-of}
+use Rattle.places.proofs.PartLaws.{places-of}
 use Rattle.words.proofs.WordLaws.{sound-holds}
 use Rattle.group.proofs.ReadyLaws.{sound-ready}
 use Rattle.engine.proofs.WordCalls.{stopped-in, carried-in, found-is, slot-is}

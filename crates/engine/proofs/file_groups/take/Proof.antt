@@ -7,7 +7,7 @@ use mathlib.Core.Bool.{Bool, true}
 use mathlib.Core.List.{List}
 use native.Mathlib.Omega.{arith}
 use Rattle.words.specs.Layout.{holdsLedger, ledgerOf}
-use Rattle.words.proofs.PartLaws.{places-of}
+use Rattle.places.proofs.PartLaws.{places-of}
 use Rattle.words.proofs.WordLaws.{words-long}
 use Rattle.group.specs.declared.Tally.{Tally}
 use Rattle.group.proofs.GroupWalk.{Walk, walk-start, walk-detail, walk-fine, walk-room, walk-turn, walk-end}

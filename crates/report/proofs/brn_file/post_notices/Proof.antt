@@ -2,7 +2,7 @@
 use mathlib.Core.Path.{_≡_, refl, sym, _∙_}
 use mathlib.Core.Bool.{false}
 use native.Mathlib.Omega.{arith}
-use Rattle.engine.proofs.RanLaws.{journal-bad, journal-written}
+use Rattle.entries.proofs.RanLaws.{journal-bad, journal-written}
 use Rattle.report.proofs.BrnLaws.{too-small, given}
 use borrow.Author.Needs.{needs}
 use Rattle.report.proofs.brn_file.post_notices.Statement.{statement}

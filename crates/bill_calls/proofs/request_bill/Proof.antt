@@ -1,0 +1,27 @@
+-- `bill_calls::request_bill` meets its contract: 2 where the ledger is not sound, else as `request_on_sound` says.
+use borrow.Author.Needs.{needs}
+use mathlib.Core.Path.{sym, _∙_}
+use borrow.Author.Tests.{not-true, not-false}
+use Rattle.calls.proofs.CallLaws.{cause-unsound, stopped, stopped-called}
+use Rattle.bill_calls.proofs.request_bill.Statement.{statement}
+use Rattle.bill_calls.proofs.request_bill.Tie as tie
+
+sound-requires : tie.Need-sound-requires
+sound-requires c κs = search needs
+
+returns : tie.Need-returns
+returns c =
+    let a = c .before .before .before .args in
+    stopped-called (stopped (a .l) _ 2 (cause-unsound (a .l) _ (sym (c .before .sound .ensures) ∙ not-true _ (c .if1 .taken)))) _
+
+request-on-sound-requires : tie.Need-request-on-sound-requires
+request-on-sound-requires c κs = sym (c .before .before .sound .ensures) ∙ not-false _ (c .before .if1 .left)
+
+same-length : tie.Need-same-length
+same-length c = search needs
+
+returns-2 : tie.Need-returns-2
+returns-2 c = c .before .before .request-on-sound .ensures
+
+pub request-bill-spec : {M : Type 1} → statement M
+request-bill-spec = tie.close (tie.spec sound-requires returns request-on-sound-requires same-length returns-2)

@@ -1,0 +1,22 @@
+-- `decisions::notice::put_cxl` meets its contract.
+use borrow.Author.Tests.{not-true, not-false}
+use mathlib.Core.Path.{_∙_}
+use Rattle.fields.proofs.PutLaws.{put-nil}
+use borrow.Author.Needs.{needs}
+use Rattle.decisions.proofs.notice.put_cxl.Statement.{statement}
+use Rattle.decisions.proofs.notice.put_cxl.Tie as tie
+
+returns : tie.Need-returns
+returns c = rw (not-true (c .before .before .args .writes) (c .if1 .taken)) (put-nil _ _)
+
+write-requires : tie.Need-write-requires
+write-requires c κs = c .before .before .before .before .before .pre (not-false (c .before .before .before .before .before .args .writes) (c .before .before .before .if1 .left))
+
+same-length : tie.Need-same-length
+same-length c = search needs
+
+returns-2 : tie.Need-returns-2
+returns-2 c = rw (not-false (c .before .before .before .before .before .before .before .before .args .writes) (c .before .before .before .before .before .before .if1 .left)) (c .before .before .write .ensures)
+
+pub put-cxl-spec : {M : Type 1} → statement M
+put-cxl-spec = tie.close (tie.spec returns write-requires same-length returns-2)

@@ -1,0 +1,68 @@
+// The notices of a request and of a cancel, where the bill at its place is at hand: written at the start of an output, if notices are written.
+ghost use mathlib.Core.Path.{_≡_};
+ghost use mathlib.Core.Bool.{true};
+ghost use Prim.Native.Nat.{_≤_};
+ghost use lib.ListN.{length};
+ghost use Rattle.fields.specs.Put.{put};
+ghost use Rattle.group.specs.Turns.{said};
+ghost use Rattle.causes.specs.Requests.{previousBy, bilBy, cxlBy};
+use ledger::Bill;
+use ledger::Found;
+use ledger::LedgerHeader;
+use notices::bil::Bil;
+use notices::cxl::Cxl;
+use units::Ccf;
+
+// The consumption before a request.
+fn previous(f: Found, b: Bill) -> Ccf
+    ensures { λ r. ⌜ r ≡ previousBy f b ⌝ }
+{
+    match f {
+        Found::Nothing => Ccf(0),
+        Found::At(_) => b.terms.latest.consumption,
+    }
+}
+
+// The BIL of a request: b stood at its place, and c does now.
+pub fn put_bil(out: &mut [u8], writes: bool, h: LedgerHeader, f: Found, b: Bill, c: Bill)
+    requires { ⌜ (writes ≡ true → 642 ≤ length (now out)) ⌝ }
+    ensures { λ _. ⌜ now (out .exit) ≡ put (now (out .entry)) 0 (said writes (bilBy h f b c)) ⌝ }
+{
+    if !writes {
+        return;
+    }
+    let former = previous(f, b);
+    let today = h.today;
+    notices::bil::write(
+        out,
+        0,
+        Bil {
+            bill: c,
+            former,
+            today,
+            confirmation: h.confirmation,
+        },
+    );
+}
+
+// The CXL of a cancel: b stood at its place.
+pub fn put_cxl(out: &mut [u8], writes: bool, h: LedgerHeader, b: Bill)
+    requires { ⌜ (writes ≡ true → 642 ≤ length (now out)) ⌝ }
+    ensures { λ _. ⌜ now (out .exit) ≡ put (now (out .entry)) 0 (said writes (cxlBy h b)) ⌝ }
+{
+    if !writes {
+        return;
+    }
+    let terms = b.terms;
+    let today = h.today;
+    notices::cxl::write(
+        out,
+        0,
+        Cxl {
+            terms,
+            tracking: h.tracking,
+            today,
+            confirmation: h.confirmation,
+        },
+    );
+}

@@ -1,0 +1,294 @@
+-- The loop over the entries at the start of some bytes. Assumes nothing.
+use Prim.Native.Nat.{ℕ, _+_, _-_, _*_, _≤_, _<_}
+use mathlib.Core.Path.{_≡_, refl, sym, ap, ap₂, _∙_, subst}
+use mathlib.Core.Bool.{Bool, true, false, cond, _&&_, true≢false, false≢true}
+use mathlib.Core.List.{List, [], _∷_, _++_, append-assoc, append-nil}
+use native.Mathlib.Omega.{arith}
+use native.Mathlib.Nat.{add-zero, zero-add}
+use lib.Dec.{ltb}
+use lib.ListN.{length, take, drop, length-drop, length-append}
+use lib.Seq.{drop-drop, take-all}
+use borrow.Rule.Slice.PartMut.{putMid}
+use borrow.Author.Tests.{ltb-false}
+use Rattle.fields.specs.Put.{put, part}
+use Rattle.fields.proofs.PutLaws.{put-lent, put-nil, length-part}
+use Rattle.ledger.specs.declared.Ledger.{Ledger}
+use Rattle.ledger.specs.Books.{Book, book}
+use Rattle.ledger.specs.Sound.{soundLedger}
+use Rattle.words.specs.Layout.{ledgerOf}
+use Rattle.group.specs.Turns.{said}
+use Rattle.group.proofs.OutputLaws.{Out, out-start, out-more}
+use Rattle.calls.specs.declared.Answer.{Answer}
+use Rattle.calls.specs.Machine.{outcomes}
+use Rattle.journal.specs.declared.Body.{Body}
+use Rattle.journal.specs.declared.Head.{Head}
+use Rattle.journal.specs.declared.Head.the-variants.{Cut, Bad, Whole}
+use Rattle.journal.specs.Entries.{headOf}
+use Rattle.journal.specs.Journal.{Entry, Parsed, parse, made, makes, callOf}
+use Rattle.journal.specs.Made.{madeIn, writtenIn, madeAll, noticesOf, writtenBy, lengthOf}
+use Rattle.journal.proofs.HeadLaws.{whole-fits}
+use Rattle.journal.proofs.JournalLaws.{parse-cut, parse-bad, parse-whole}
+use Rattle.journal.proofs.BeginLaws.{whole-taken, makes-append}
+use Rattle.journal.proofs.MadeLaws.{made-book, made-written}
+use Rattle.journal.proofs.ShortLaws.{made-short, made-length}
+use Rattle.entries.specs.declared.entry.Stepped.{Stepped}
+use Rattle.entries.specs.declared.entry.Stepped.the-variants as step
+use Rattle.entries.specs.declared.run.Ran.{Ran}
+use Rattle.entries.specs.Stepping.{StepOn, SteppedIn}
+use Rattle.entries.specs.Running.{behind, NextOn, NextIn, ranTo, RanIn}
+
+-- ---- entries one after another
+pub made-append : (l : Ledger) (es fs : List Entry) → madeAll l (es ++ fs) ≡ madeAll (madeAll l es) fs
+unfolding madeAll
+made-append l [] fs = refl
+made-append l (e ∷ es) fs = made-append (madeIn 64200 l (e .body) (e .bytes) .ledger) es fs
+
+pub notices-append : (k : Book) (es fs : List Entry) → noticesOf k (es ++ fs) ≡ noticesOf k es ++ noticesOf (makes k es) fs
+unfolding noticesOf makes
+notices-append k [] fs = refl
+notices-append k (e ∷ es) fs =
+    let w = writtenBy (outcomes k (callOf (e .body) (e .bytes))) in
+    let j = made (e .body) (e .bytes) k in
+    ap (λ (x : List ℕ). w ++ x) (notices-append j es fs) ∙ sym (append-assoc w (noticesOf j es) (noticesOf (makes j es) fs))
+
+-- ---- one step, its output lent from an index on
+module _ (writes : Bool) (n : ℕ) (out₀ : List ℕ) (room : writes ≡ true → n + 64200 ≤ length out₀) (to : ℕ) (te : to ≡ cond writes n 0) where
+  abbrev lent : List ℕ
+  lent = take (length out₀ - to) (drop to out₀)
+
+  to-true : writes ≡ true → to ≡ n
+  to-true e = te ∙ rw e
+
+  to-false : writes ≡ false → to ≡ 0
+  to-false e = te ∙ rw e
+
+  pub to-within : to ≤ length out₀
+  to-within = go writes refl
+    where
+      go : (b : Bool) → writes ≡ b → to ≤ length out₀
+      go true e = omega (arith, room e, to-true e)
+      go false e = omega (arith, to-false e)
+
+  pub lent-room : writes ≡ true → 64200 ≤ length lent
+  unfolding part
+  lent-room e = omega (arith, length-part out₀ to (length out₀ - to) (omega (arith, to-within)), room e, to-true e)
+
+  put-said : (now w : List ℕ) → length w ≤ 64200 → now ≡ put lent 0 (said writes w) → putMid to (length out₀ - to) out₀ now ≡ put out₀ n (said writes w)
+  unfolding part
+  put-said now w short e = go writes refl
+    where
+      go : (b : Bool) → writes ≡ b → putMid to (length out₀ - to) out₀ now ≡ put out₀ n (said writes w)
+      go true z =
+          let r = room z in
+          let t = to-true z in
+          let e′ : now ≡ put (part out₀ to (length out₀ - to)) 0 w = e ∙ rw z in
+          put-lent out₀ to (length out₀ - to) 0 w now (omega arith) (omega arith) e′ ∙ rw (z, add-zero to, t)
+      go false z =
+          let t = to-within in
+          let e′ : now ≡ put (part out₀ to (length out₀ - to)) 0 [] = e ∙ rw z in
+          put-lent out₀ to (length out₀ - to) 0 [] now (omega arith) (omega arith) e′ ∙ sym (put-nil out₀ (to + 0)) ∙ put-nil out₀ n ∙ rw z
+
+  put-same : (now : List ℕ) → now ≡ lent → putMid to (length out₀ - to) out₀ now ≡ out₀
+  unfolding part
+  put-same now e =
+      let t = to-within in
+      put-lent out₀ to (length out₀ - to) 0 [] now (omega arith) (omega arith) (e ∙ put-nil (part out₀ to (length out₀ - to)) 0) ∙ sym (put-nil out₀ (to + 0))
+
+  -- what a step on the parts comes to
+  pub next-in : (seen : ℕ) (src s ws₀ ws now : List ℕ) (r : Stepped) → s ≡ src → SteppedIn writes seen s ws₀ lent ws now r
+      → NextIn writes n seen src ws₀ out₀ ws (putMid to (length out₀ - to) out₀ now) r
+  next-in seen src s ws₀ ws now r e x = go (headOf seen src) (rw e at x)
+    where
+      go : (h : Head) → StepOn h writes src ws₀ lent ws now r → NextOn h writes n src ws₀ out₀ ws (putMid to (length out₀ - to) out₀ now) r
+      go Cut w = (w .0, put-same now (w .1), w .2)
+      go Bad w = (w .0, put-same now (w .1), w .2)
+      go (Whole b m) w =
+          let y = w .2 in
+          let bytes = part src 3 (m - 3) in
+          (w .0, w .1, y .sound, y .ledger, y .answer, put-said now (writtenIn 64200 (ledgerOf ws₀) b bytes) (omega (arith, made-length 64200 (ledgerOf ws₀) b bytes, made-short (ledgerOf ws₀) b bytes)) (y .bytes))
+
+-- ---- what stood there, by what a step answered
+module _ (writes : Bool) (n : ℕ) (src ws₀ out₀ ws out : List ℕ) where
+  abbrev Was : Head → ℕ → Answer → Type 0
+  Was h m a =
+      (b : Body) × (h ≡ Whole b m) × (soundLedger (ledgerOf ws) ≡ true) × (ledgerOf ws ≡ madeIn 64200 (ledgerOf ws₀) b (part src 3 (m - 3)) .ledger)
+      × (a ≡ madeIn 64200 (ledgerOf ws₀) b (part src 3 (m - 3)) .answer) × (out ≡ put out₀ n (said writes (writtenIn 64200 (ledgerOf ws₀) b (part src 3 (m - 3)))))
+
+  back-cut : (h : Head) (r : Stepped) → NextOn h writes n src ws₀ out₀ ws out r → r ≡ step.Cut → (h ≡ Cut) × (ws ≡ ws₀) × (out ≡ out₀)
+  back-cut Cut r w e = (refl, w .0, w .1)
+  back-cut Bad r w e = let q : step.Bad ≡ step.Cut = sym (w .2) ∙ e in let z : _≡_ {A = ℕ} 0 1 = cc in absurd (omega arith)
+  back-cut (Whole b m) r w e = let q : step.Made m (w .0) ≡ step.Cut = sym (w .1) ∙ e in let z : _≡_ {A = ℕ} 0 1 = cc in absurd (omega arith)
+
+  back-bad : (h : Head) (r : Stepped) → NextOn h writes n src ws₀ out₀ ws out r → r ≡ step.Bad → (h ≡ Bad) × (ws ≡ ws₀) × (out ≡ out₀)
+  back-bad Bad r w e = (refl, w .0, w .1)
+  back-bad Cut r w e = let q : step.Cut ≡ step.Bad = sym (w .2) ∙ e in let z : _≡_ {A = ℕ} 0 1 = cc in absurd (omega arith)
+  back-bad (Whole b m) r w e = let q : step.Made m (w .0) ≡ step.Bad = sym (w .1) ∙ e in let z : _≡_ {A = ℕ} 0 1 = cc in absurd (omega arith)
+
+  back-made : (h : Head) (r : Stepped) (m : ℕ) (a : Answer) → NextOn h writes n src ws₀ out₀ ws out r → r ≡ step.Made m a → Was h m a
+  back-made Cut r m a w e = let q : step.Cut ≡ step.Made m a = sym (w .2) ∙ e in let z : _≡_ {A = ℕ} 0 1 = cc in absurd (omega arith)
+  back-made Bad r m a w e = let q : step.Bad ≡ step.Made m a = sym (w .2) ∙ e in let z : _≡_ {A = ℕ} 0 1 = cc in absurd (omega arith)
+  back-made (Whole b k) r m a w e =
+      let q : step.Made k (w .0) ≡ step.Made m a = sym (w .1) ∙ e in
+      let z : k ≡ m = cc in
+      let y : w .0 ≡ a = cc in
+      subst (λ (i : ℕ). Was (Whole b k) i a) z (b, refl, w .2, w .3, sym y ∙ w .4, w .5)
+
+-- ---- what holds before each entry
+pub record Running (src ws₀ : List ℕ) (seen₀ : ℕ) (writes : Bool) (out₀ ws out : List ℕ) (at seen n : ℕ) : Type 0 where
+  pub within : at ≤ length src
+  pub sure : soundLedger (ledgerOf ws) ≡ true
+  pub done : List Entry
+  pub parsed : parse seen₀ src ≡ behind done (parse seen (drop at src))
+  pub whole : ledgerOf ws ≡ madeAll (ledgerOf ws₀) done
+  pub books : book (ledgerOf ws) ≡ makes (book (ledgerOf ws₀)) done
+  pub count : seen ≡ seen₀ + length done
+  pub wrote : Out writes 0 out₀ out (noticesOf (book (ledgerOf ws₀)) done) n
+  pub small : n ≤ length done * 64200
+
+pub running-start : (src ws : List ℕ) (seen : ℕ) (writes : Bool) (out : List ℕ) → soundLedger (ledgerOf ws) ≡ true
+    → Running src ws seen writes out ws out 0 seen 0
+unfolding madeAll makes noticesOf
+running-start src ws seen writes out h =
+    record {
+      within = omega arith;
+      sure = h;
+      done = [];
+      parsed = refl;
+      whole = refl;
+      books = refl;
+      count = sym (add-zero seen);
+      wrote = out-start writes 0 out (λ z. omega arith);
+      small = omega arith;
+    }
+
+module _ (src ws₀ : List ℕ) (seen₀ : ℕ) (writes : Bool) (out₀ ws out : List ℕ) (at seen n : ℕ)
+    (w : Running src ws₀ seen₀ writes out₀ ws out at seen n) where
+  -- what may be asked of the output: it is full only where notices are written
+  pub running-len : writes ≡ true → n ≤ length out
+  running-len z = omega (arith, w .wrote .within z, w .wrote .kept)
+
+  full-room : (b : Bool) → writes ≡ b → (writes && ltb (length out - n) 64200) ≡ false → writes ≡ true → n + 64200 ≤ length out
+  full-room true e f z = let x = rw e at f in omega (arith, ltb-false (length out - n) 64200 x, running-len z)
+  full-room false e f z = absurd (true≢false (sym z ∙ e))
+
+  pub running-room : (writes && ltb (length out - n) 64200) ≡ false → writes ≡ true → n + 64200 ≤ length out
+  running-room f z = full-room writes refl f z
+
+  -- the output has no room for another entry's notices
+  pub ran-full : (writes && ltb (length out - n) 64200) ≡ true → RanIn seen₀ writes src ws₀ out₀ ws out (ranTo at seen n true false)
+  ran-full f =
+      record {
+        sound = w .sure;
+        used = w .within;
+        done = w .done;
+        parsed = w .parsed;
+        ledger = w .whole;
+        books = w .books;
+        count = w .count;
+        kept = w .wrote .kept;
+        bytes = w .wrote .bytes;
+        written = w .wrote .size ∙ zero-add _;
+        within = w .wrote .within;
+        full = sym (ap (λ (k : ℕ). writes && ltb (k - n) 64200) (sym (w .wrote .kept)) ∙ f);
+        left = λ z. absurd (true≢false z);
+        goes = λ z. refl;
+      }
+
+  ended : (b : Bool) → (writes && ltb (length out - n) 64200) ≡ false → parse seen (drop at src) ≡ record { entries = []; stopped = b; rest = drop at src }
+      → RanIn seen₀ writes src ws₀ out₀ ws out (ranTo at seen n false b)
+  ended b f e =
+      record {
+        sound = w .sure;
+        used = w .within;
+        done = w .done;
+        parsed = w .parsed;
+        ledger = w .whole;
+        books = w .books;
+        count = w .count;
+        kept = w .wrote .kept;
+        bytes = w .wrote .bytes;
+        written = w .wrote .size ∙ zero-add _;
+        within = w .wrote .within;
+        full = sym (ap (λ (k : ℕ). writes && ltb (k - n) 64200) (sym (w .wrote .kept)) ∙ f);
+        left = λ z. e;
+        goes = λ z. absurd (false≢true z);
+      }
+
+  module _ (ws′ out′ : List ℕ) (r : Stepped) (s : NextIn writes n seen (drop at src) ws out ws′ out′ r) where
+    -- no whole entry stands there
+    pub ran-cut : (writes && ltb (length out - n) 64200) ≡ false → r ≡ step.Cut → RanIn seen₀ writes src ws₀ out₀ ws′ out′ (ranTo at seen n false false)
+    ran-cut f e =
+        let x = back-cut writes n (drop at src) ws out ws′ out′ (headOf seen (drop at src)) r s e in
+        rw (x .1, x .2) (ended false f (parse-cut seen (drop at src) (x .0)))
+
+    pub ran-bad : (writes && ltb (length out - n) 64200) ≡ false → r ≡ step.Bad → RanIn seen₀ writes src ws₀ out₀ ws′ out′ (ranTo at seen n false true)
+    ran-bad f e =
+        let x = back-bad writes n (drop at src) ws out ws′ out′ (headOf seen (drop at src)) r s e in
+        rw (x .1, x .2) (ended true f (parse-bad seen (drop at src) (x .0)))
+
+    module _ (m : ℕ) (a : Answer) (e : r ≡ step.Made m a) where
+      abbrev was : Was writes n (drop at src) ws out ws′ out′ (headOf seen (drop at src)) m a
+      was = back-made writes n (drop at src) ws out ws′ out′ (headOf seen (drop at src)) r m a s e
+
+      abbrev bytes : List ℕ
+      bytes = part (drop at src) 3 (m - 3)
+
+      abbrev one : Entry
+      one = record { body = was .0; bytes = bytes }
+
+      wrote-long : length (writtenIn 64200 (ledgerOf ws) (was .0) bytes) ≡ lengthOf a
+      wrote-long = made-length 64200 (ledgerOf ws) (was .0) bytes ∙ ap lengthOf (sym (was .4))
+
+      short : lengthOf a ≤ 64200
+      short = omega (arith, ap lengthOf (was .4), made-short (ledgerOf ws) (was .0) bytes)
+
+      pub ran-fits : (3 ≤ m) × (at + m ≤ length src) × (seen < 1000000000) × (n + lengthOf a ≤ 1000000000 * 64200)
+      ran-fits =
+          let x = whole-fits seen (drop at src) (was .0) m (was .1) in
+          (x .0, omega (arith, x .1, length-drop at src, w .within), x .2, omega (arith, x .2, w .small, w .count, short))
+
+      parsed-on : parse seen (drop at src) ≡ behind (one ∷ []) (parse (seen + 1) (drop (at + m) src))
+      parsed-on = parse-whole seen (drop at src) (was .0) m (was .1) ∙ rw (drop-drop m at src)
+
+      abbrev k : Book
+      k = book (ledgerOf ws)
+
+      book-on : book (ledgerOf ws′) ≡ made (was .0) bytes k
+      book-on = ap book (was .3) ∙ made-book (ledgerOf ws) (w .sure) (was .0) bytes (whole-taken seen (drop at src) (was .0) m (was .1))
+
+      notice-on : writtenIn 64200 (ledgerOf ws) (was .0) bytes ≡ noticesOf k (one ∷ [])
+      unfolding noticesOf
+      notice-on = made-written (ledgerOf ws) (w .sure) (was .0) bytes ∙ sym (append-nil _)
+
+      all-notices : noticesOf (book (ledgerOf ws₀)) (w .done) ++ writtenIn 64200 (ledgerOf ws) (was .0) bytes ≡ noticesOf (book (ledgerOf ws₀)) (w .done ++ (one ∷ []))
+      all-notices =
+          ap (λ (x : List ℕ). noticesOf (book (ledgerOf ws₀)) (w .done) ++ x) (notice-on ∙ ap (λ (x : Book). noticesOf x (one ∷ [])) (w .books))
+          ∙ sym (notices-append (book (ledgerOf ws₀)) (w .done) (one ∷ []))
+
+      pub ran-on : (writes && ltb (length out - n) 64200) ≡ false → Running src ws₀ seen₀ writes out₀ ws′ out′ (at + m) (seen + 1) (n + lengthOf a)
+      unfolding madeAll makes
+      ran-on f =
+          record {
+            within = ran-fits .1;
+            sure = was .2;
+            done = w .done ++ (one ∷ []);
+            parsed =
+                w .parsed
+                ∙ ap (behind (w .done)) parsed-on
+                ∙ ap (λ (es : List Entry). record { entries = es; stopped = parse (seen + 1) (drop (at + m) src) .stopped; rest = parse (seen + 1) (drop (at + m) src) .rest })
+                (sym (append-assoc (w .done) (one ∷ []) (parse (seen + 1) (drop (at + m) src) .entries)));
+            whole =
+                was .3
+                ∙ ap (λ (j : Ledger). madeAll j (one ∷ [])) (w .whole)
+                ∙ sym (made-append (ledgerOf ws₀) (w .done) (one ∷ []));
+            books =
+                book-on
+                ∙ ap (λ (j : Book). makes j (one ∷ [])) (w .books)
+                ∙ sym (makes-append (book (ledgerOf ws₀)) (w .done) (one ∷ []));
+            count = omega (arith, w .count, length-append (w .done) (one ∷ []));
+            wrote =
+                subst (λ (ys : List ℕ). Out writes 0 out₀ out′ ys (n + lengthOf a)) all-notices
+                (out-more writes 0 out₀ out (noticesOf (book (ledgerOf ws₀)) (w .done)) n (w .wrote) (writtenIn 64200 (ledgerOf ws) (was .0) bytes) out′ (n + lengthOf a)
+                (λ z. omega (arith, running-room f z, wrote-long, short)) (was .5) (ap (λ (i : ℕ). n + i) (sym wrote-long)));
+            small = omega (arith, w .small, short, length-append (w .done) (one ∷ []));
+          }

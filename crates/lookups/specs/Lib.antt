@@ -1,0 +1,2 @@
+-- The two lookups.
+pub mod Lookups

@@ -1,0 +1,2 @@
+-- For the test of equal identities.
+pub mod Slots
