@@ -155,7 +155,9 @@ uint64_t clearing_entry(uint64_t *ledger, size_t ledger_len, const uint8_t *jour
 /* The posted table, which ends in `stopped,13` if told[1] is 13. Refused: 1 for out_len under CLEARING_TABLE_BYTES. */
 uint64_t clearing_table(const uint8_t *journal, size_t journal_len, uint8_t *out, size_t out_len, uint64_t told[2]);
 
-/* The notices of every call carried out, one after another. Refused: 1 for out_len under their length. */
+/* The notices of every call carried out, one after another. Refused: 1 for out_len under their length. An output of
+   CLEARING_NOTICE_BYTES for each request and cancel and the length of each file in the journal is always long enough,
+   and is written in one pass; for a shorter one the notices are measured first, which makes the calls twice. */
 uint64_t clearing_notices(const uint8_t *journal, size_t journal_len, uint8_t *out, size_t out_len, uint64_t told[2]);
 
 #ifdef __cplusplus

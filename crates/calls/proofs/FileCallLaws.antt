@@ -135,7 +135,7 @@ answers-within before l (r ∷ rs) h = go (λ x k. answers-within x k rs (h .1))
         )
     go f false = omega (arith, f before l)
 
-file-within : (l : Book) (s : List ℕ) → length (answers [] l (fileGroups s)) ≤ length s
+pub file-within : (l : Book) (s : List ℕ) → length (answers [] l (fileGroups s)) ≤ length s
 unfolding fileGroups records
 file-within l s =
     omega (

@@ -17,6 +17,8 @@ use Rattle.journal.specs.declared.Body.{Body}
 use Rattle.journal.specs.declared.Body.the-variants as body
 use Rattle.journal.specs.declared.Head.{Head}
 use Rattle.journal.specs.declared.Head.the-variants.{Cut, Bad, Whole}
+use Rattle.journal.specs.declared.Frame.{Frame}
+use Rattle.journal.specs.declared.Frame.the-variants.{Nothing, Sized}
 
 -- ---- the bodies: a field of digits is a number; a body with another field there is refused (2)
 -- the bytes at positions a to b hold digits only
@@ -119,3 +121,10 @@ headBy seen s tag n =
 -- what stands at the start of s, after so many entries: "high byte first"
 unfoldable pub headOf : ℕ → List ℕ → Head
 headOf seen s = cond (ltb (length s) 3) Cut (headBy seen s (getD s 0 0) (getD s 1 0 * 256 + getD s 2 0))
+
+-- what stands at the start of s by its tag and length alone: an entry whose bytes are all there, if the two go together
+unfoldable pub frameOf : List ℕ → Frame
+frameOf s =
+    let tag = getD s 0 0 in
+    let n = getD s 1 0 * 256 + getD s 2 0 in
+    cond (goodLength tag n && leb (n + 3) (length s)) (Sized tag n) Nothing

@@ -2,11 +2,11 @@
 
 ghost use mathlib.Core.Path.{_≡_};
 ghost use mathlib.Core.Bool.{true};
-ghost use Prim.Native.Nat.{_+_, _-_, _≤_, _<_};
-ghost use lib.ListN.{length};
+ghost use Prim.Native.Nat.{_+_, _-_, _*_, _≤_, _<_};
+ghost use lib.ListN.{length, getD};
 ghost use Rattle.fields.specs.Put.{part, put};
 ghost use Rattle.journal.specs.Journal.{endsBad};
-ghost use Rattle.journal.specs.Entries.{codeIn, freshBody, requestBody, cancelBody, closeBody, bodyOf, goodLength, inTurn, wholeOf, headBy, headOf};
+ghost use Rattle.journal.specs.Entries.{codeIn, freshBody, requestBody, cancelBody, closeBody, bodyOf, goodLength, inTurn, wholeOf, headBy, headOf, frameOf};
 use causes::CodeField;
 use causes::Request;
 use causes::Start;
@@ -31,6 +31,12 @@ pub enum Head {
     Cut,
     Bad,
     Whole(Body, usize),
+}
+
+// What stands there by its tag and length alone: no whole entry, or one with this tag and so many bytes in its body.
+pub enum Frame {
+    Nothing,
+    Sized(u8, usize),
 }
 
 // The body of a fresh: today, Tracking, Confirmation.
@@ -202,6 +208,16 @@ fn wide(x: u8) -> usize
     x as usize
 }
 
+// The length that the entry at the start of s says its body has.
+fn length_at(s: &[u8]) -> usize
+    requires { ⌜ 3 ≤ length (now s) ⌝ }
+    ensures { λ r. ⌜ (r ≡ getD (now (s .entry)) 1 0 * 256 + getD (now (s .entry)) 2 0) × (r < 65536) ⌝ }
+{
+    let high = wide(s[1]);
+    let low = wide(s[2]);
+    high * 256 + low
+}
+
 // What stands at the start of s, after so many entries.
 pub fn head_at(s: &[u8], seen: u64) -> Head
     ensures { λ r. ⌜ r ≡ headOf seen (now (s .entry)) ⌝ }
@@ -209,9 +225,22 @@ pub fn head_at(s: &[u8], seen: u64) -> Head
     if s.len() < 3 {
         return Head::Cut;
     }
-    let high = wide(s[1]);
-    let low = wide(s[2]);
-    head_by(s, seen, s[0], high * 256 + low)
+    head_by(s, seen, s[0], length_at(s))
+}
+
+// What stands at the start of s by its tag and length alone: whoever only looks for the entries reads no digits.
+pub fn frame_at(s: &[u8]) -> Frame
+    ensures { λ r. ⌜ r ≡ frameOf (now (s .entry)) ⌝ }
+{
+    if s.len() < 3 {
+        return Frame::Nothing;
+    }
+    let n = length_at(s);
+    let whole = good_length(s[0], n) & (n + 3 <= s.len());
+    if !whole {
+        return Frame::Nothing;
+    }
+    Frame::Sized(s[0], n)
 }
 
 // Moves the bytes from index `from` up to n to the start, and answers how many there are.

@@ -1,3 +1,4 @@
 -- Laws that belong to no one function.
 pub mod ReportLaws
 pub mod BrnLaws
+pub mod RoomLaws

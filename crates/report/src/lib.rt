@@ -1,5 +1,6 @@
 // What a journal comes to, whole in a slice: its posted table, and its notices.
 pub mod brn_file;
+pub mod room;
 
 ghost use mathlib.Core.Path.{_≡_};
 ghost use lib.ListN.{length};

@@ -1,11 +1,11 @@
 -- `report::brn_file::write_notices` meets its contract: the last notices are put behind the others.
-use borrow.Author.Tests.{not-true, not-false}
-use mathlib.Core.Path.{_≡_, refl, sym, ap, _∙_}
+use mathlib.Core.Path.{refl, sym, ap, _∙_}
 use native.Mathlib.Omega.{arith}
 use lib.ListN.{length}
 use lib.Seq.{length-take-le}
+use borrow.Author.Tests.{not-true, not-false}
 use Rattle.fields.proofs.PutLaws.{length-put}
-use Rattle.report.proofs.BrnLaws.{ran-tail, size-within, room, all-put, whole-put}
+use Rattle.report.proofs.BrnLaws.{all-given, size-within, sum-within, used-within, room, last-given}
 use borrow.Author.Needs.{needs}
 use Rattle.report.proofs.brn_file.write_notices.Statement.{statement}
 use Rattle.report.proofs.brn_file.write_notices.Tie as tie
@@ -22,11 +22,17 @@ slice-aggregate-run c = search needs
 run-requires : tie.Need-run-requires
 run-requires c κs = search needs
 
+sub-left : tie.Need-sub-left
+sub-left c = search needs
+
+ends-bad-requires : tie.Need-ends-bad-requires
+ends-bad-requires c κs = search needs
+
 same-length : tie.Need-same-length
 same-length c = search needs
 
 returns : tie.Need-returns
-returns c = whole-put _ _ _ _ _ _ (c .before .before .before .before .run .ensures) (c .before .before .before .before .before .before .before .before .start .ensures .2) (not-true _ (c .if1 .taken))
+returns c = all-given _ _ _ _ _ _ (c .before .before .before .before .before .before .run .ensures) (c .before .before .before .before .before .before .before .before .before .before .start .ensures .2) (c .before .before .before .before .before .before .before .before .before .before .before .before .before .before .pre) (not-true _ (c .before .if1 .taken)) _ (c .ends-bad .ensures)
 
 slice-aggregate-run-2 : tie.Need-slice-aggregate-run-2
 slice-aggregate-run-2 c = search needs
@@ -47,19 +53,28 @@ run-requires-2 : tie.Need-run-requires-2
 run-requires-2 c κs = search needs
 
 array-share-prefix-last : tie.Need-array-share-prefix-last
-array-share-prefix-last c = size-within _ _ _ _ _ _ (c .before .before .before .before .before .before .before .before .before .before .before .run .ensures) (c .before .before .before .before .before .before .before .before .before .before .before .before .before .before .before .start .ensures .2) (c .before .before .before .before .before .before .before .before .before .before .before .before .before .before .before .before .before .before .before .pre) (not-false _ (c .before .before .before .before .before .before .before .if1 .left)) _ refl _ _ _ (ran-tail _ (c .before .before .before .before .before .before .before .before .before .before .before .before .before .before .before .before .before .before .before .args .src .now) _ _ _ _ _ _ (c .before .before .before .run2 .ensures))
+array-share-prefix-last c = size-within _ _ _ _ _ _ (c .before .before .before .before .before .before .before .before .before .before .before .before .run .ensures) (c .before .before .before .before .before .before .before .before .before .before .before .before .before .before .before .before .start .ensures .2) (c .before .before .before .before .before .before .before .before .before .before .before .before .before .before .before .before .before .before .before .before .pre) (not-false _ (c .before .before .before .before .before .before .before .if1 .left)) _ refl _ _ _ (c .before .before .before .run2 .ensures)
 
 slice-aggregate-put-bytes : tie.Need-slice-aggregate-put-bytes
-slice-aggregate-put-bytes c = sym (length-take-le _ _ (size-within _ _ _ _ _ _ (c .before .before .before .before .before .before .before .before .before .before .before .before .run .ensures) (c .before .before .before .before .before .before .before .before .before .before .before .before .before .before .before .before .start .ensures .2) (c .before .before .before .before .before .before .before .before .before .before .before .before .before .before .before .before .before .before .before .before .pre) (not-false _ (c .before .before .before .before .before .before .before .before .if1 .left)) _ refl _ _ _ (ran-tail _ (c .before .before .before .before .before .before .before .before .before .before .before .before .before .before .before .before .before .before .before .before .args .src .now) _ _ _ _ _ _ (c .before .before .before .before .run2 .ensures))))
+slice-aggregate-put-bytes c = sym (length-take-le _ _ (size-within _ _ _ _ _ _ (c .before .before .before .before .before .before .before .before .before .before .before .before .before .run .ensures) (c .before .before .before .before .before .before .before .before .before .before .before .before .before .before .before .before .before .start .ensures .2) (c .before .before .before .before .before .before .before .before .before .before .before .before .before .before .before .before .before .before .before .before .before .pre) (not-false _ (c .before .before .before .before .before .before .before .before .if1 .left)) _ refl _ _ _ (c .before .before .before .before .run2 .ensures)))
 
 put-bytes-requires : tie.Need-put-bytes-requires
-put-bytes-requires c κs = room _ _ _ _ _ _ (c .before .before .before .before .before .before .before .before .before .before .before .before .run .ensures) (c .before .before .before .before .before .before .before .before .before .before .before .before .before .before .before .before .start .ensures .2) (c .before .before .before .before .before .before .before .before .before .before .before .before .before .before .before .before .before .before .before .before .pre) (not-false _ (c .before .before .before .before .before .before .before .before .if1 .left)) _ refl _ _ _ (ran-tail _ (c .before .before .before .before .before .before .before .before .before .before .before .before .before .before .before .before .before .before .before .before .args .src .now) _ _ _ _ _ _ (c .before .before .before .before .run2 .ensures))
+put-bytes-requires c κs = room _ _ _ _ _ _ (c .before .before .before .before .before .before .before .before .before .before .before .before .before .run .ensures) (c .before .before .before .before .before .before .before .before .before .before .before .before .before .before .before .before .before .start .ensures .2) (c .before .before .before .before .before .before .before .before .before .before .before .before .before .before .before .before .before .before .before .before .before .pre) (not-false _ (c .before .before .before .before .before .before .before .before .if1 .left)) _ refl _ _ _ (c .before .before .before .before .run2 .ensures)
+
+add-t18 : tie.Need-add-t18
+add-t18 c = omega (arith, c .before .before .before .before .before .before .before .before .before .before .before .before .before .before .before .before .before .before .before .before .before .before .before .before .before .good .1 .0 .0, sum-within _ _ _ _ _ _ (c .before .before .before .before .before .before .before .before .before .before .before .before .before .before .before .before .before .run .ensures) (c .before .before .before .before .before .before .before .before .before .before .before .before .before .before .before .before .before .before .before .before .before .start .ensures .2) (c .before .before .before .before .before .before .before .before .before .before .before .before .before .before .before .before .before .before .before .before .before .before .before .before .before .pre) (not-false _ (c .before .before .before .before .before .before .before .before .before .before .before .before .if1 .left)) _ refl _ _ _ (c .before .before .before .before .before .before .before .before .run2 .ensures))
+
+sub-ends-bad : tie.Need-sub-ends-bad
+sub-ends-bad c = used-within _ _ _ _ _ _ (c .before .before .before .before .before .before .before .before .before .before .before .before .before .before .before .before .before .before .run .ensures) (c .before .before .before .before .before .before .before .before .before .before .before .before .before .before .before .before .before .before .before .before .before .before .start .ensures .2) (c .before .before .before .before .before .before .before .before .before .before .before .before .before .before .before .before .before .before .before .before .before .before .before .before .before .before .pre) (not-false _ (c .before .before .before .before .before .before .before .before .before .before .before .before .before .if1 .left)) _ refl _ _ _ (c .before .before .before .before .before .before .before .before .before .run2 .ensures)
+
+ends-bad-requires-2 : tie.Need-ends-bad-requires-2
+ends-bad-requires-2 c κs = search needs
 
 same-length-2 : tie.Need-same-length-2
-same-length-2 c = ap length (c .before .before .put-bytes .ensures) ∙ length-put _ _ _ (room _ _ _ _ _ _ (c .before .before .before .before .before .before .before .before .before .before .before .before .before .before .before .run .ensures) (c .before .before .before .before .before .before .before .before .before .before .before .before .before .before .before .before .before .before .before .start .ensures .2) (c .before .before .before .before .before .before .before .before .before .before .before .before .before .before .before .before .before .before .before .before .before .before .before .pre) (not-false _ (c .before .before .before .before .before .before .before .before .before .before .before .if1 .left)) _ refl _ _ _ (ran-tail _ (c .before .before .before .before .before .before .before .before .before .before .before .before .before .before .before .before .before .before .before .before .before .before .before .args .src .now) _ _ _ _ _ _ (c .before .before .before .before .before .before .before .run2 .ensures))) ∙ c .before .before .before .before .before .before .before .before .before .before .before .before .before .before .before .run .ensures .kept
+same-length-2 c = ap length (c .before .before .before .before .before .put-bytes .ensures) ∙ length-put _ _ _ (room _ _ _ _ _ _ (c .before .before .before .before .before .before .before .before .before .before .before .before .before .before .before .before .before .before .before .run .ensures) (c .before .before .before .before .before .before .before .before .before .before .before .before .before .before .before .before .before .before .before .before .before .before .before .start .ensures .2) (c .before .before .before .before .before .before .before .before .before .before .before .before .before .before .before .before .before .before .before .before .before .before .before .before .before .before .before .pre) (not-false _ (c .before .before .before .before .before .before .before .before .before .before .before .before .before .before .if1 .left)) _ refl _ _ _ (c .before .before .before .before .before .before .before .before .before .before .run2 .ensures)) ∙ c .before .before .before .before .before .before .before .before .before .before .before .before .before .before .before .before .before .before .before .run .ensures .kept
 
 returns-2 : tie.Need-returns-2
-returns-2 c = c .before .before .put-bytes .ensures ∙ all-put _ _ _ _ _ _ (c .before .before .before .before .before .before .before .before .before .before .before .before .before .before .before .run .ensures) (c .before .before .before .before .before .before .before .before .before .before .before .before .before .before .before .before .before .before .before .start .ensures .2) (c .before .before .before .before .before .before .before .before .before .before .before .before .before .before .before .before .before .before .before .before .before .before .before .pre) (not-false _ (c .before .before .before .before .before .before .before .before .before .before .before .if1 .left)) _ refl _ _ _ (ran-tail _ (c .before .before .before .before .before .before .before .before .before .before .before .before .before .before .before .before .before .before .before .before .before .before .before .args .src .now) _ _ _ _ _ _ (c .before .before .before .before .before .before .before .run2 .ensures))
+returns-2 c = last-given _ _ _ _ _ _ (c .before .before .before .before .before .before .before .before .before .before .before .before .before .before .before .before .before .before .before .run .ensures) (c .before .before .before .before .before .before .before .before .before .before .before .before .before .before .before .before .before .before .before .before .before .before .before .start .ensures .2) (c .before .before .before .before .before .before .before .before .before .before .before .before .before .before .before .before .before .before .before .before .before .before .before .before .before .before .before .pre) (not-false _ (c .before .before .before .before .before .before .before .before .before .before .before .before .before .before .if1 .left)) _ refl _ _ _ (c .before .before .before .before .before .before .before .before .before .before .run2 .ensures) _ _ (c .before .before .before .before .before .put-bytes .ensures) (c .ends-bad2 .ensures)
 
 pub write-notices-spec : {M : Type 1} → statement M
 write-notices-spec =
@@ -69,6 +84,8 @@ write-notices-spec =
     start-requires
     slice-aggregate-run
     run-requires
+    sub-left
+    ends-bad-requires
     same-length
     returns
     slice-aggregate-run-2
@@ -80,5 +97,8 @@ write-notices-spec =
     array-share-prefix-last
     slice-aggregate-put-bytes
     put-bytes-requires
+    add-t18
+    sub-ends-bad
+    ends-bad-requires-2
     same-length-2
     returns-2)
