@@ -5,6 +5,7 @@ use std::io::{self, BufReader, ErrorKind, Read, Write};
 use crate::cause::Cause;
 use crate::file::FILE_LIMIT;
 use crate::ledger::{Done, FileDone, Ledger, Request};
+use crate::notices::NOTICE_LENGTH;
 
 /// Any entry after this one is bad.
 pub const ENTRY_LIMIT: u64 = 1_000_000_000;
@@ -193,6 +194,20 @@ pub fn replay_notices(journal: impl Read, notices: &mut impl Write) -> io::Resul
         Ok(effect) => notices.write_all(&out[..effect.written]),
         Err(_) => Ok(()),
     })
+}
+
+/// No journal with these entries has longer notices: a request or a cancel writes one, a file no more than it has.
+pub fn longest_notices(journal: &[u8]) -> usize {
+    let (mut seen, mut at, mut longest) = (0, 0, 0);
+    while let Start::Entry(entry, length) = start(&journal[at..], seen) {
+        longest += match entry {
+            Entry::Request(_) | Entry::Cancel(_) => NOTICE_LENGTH,
+            Entry::File(file) => file.len(),
+            Entry::Fresh(_) | Entry::Close(_) => 0,
+        };
+        (seen, at) = (seen + 1, at + length);
+    }
+    longest
 }
 
 /// Gives every entry after a good fresh to `call`, up to the end or a bad entry.

@@ -5,7 +5,7 @@ use std::hint::black_box;
 use library::Request;
 use reference::file::FILE_LIMIT;
 use reference::groups;
-use reference::journal::{carry_out, replay, replay_notices, start, Replayed, Start, FILE, REQUEST};
+use reference::journal::{carry_out, longest_notices, replay, replay_notices, start, Replayed, Start, FILE, REQUEST};
 use reference::notices::NOTICE_LENGTH;
 use reference::words::{self, text, BLANK, HEAD};
 use reference::{table, Cause, Ledger};
@@ -54,6 +54,7 @@ pub fn all(bills: usize) -> Vec<Kind> {
     let words = words::of(&held);
     let one_fewer = words::of(&ledger::holding(bills - 1));
     let last = bills - 1;
+    let journal = ledger::journal(bills, ENTRIES);
     let accepted = if bills < GROUPS { format!("{bills} accepted, rest BR16") } else { "all accepted".into() };
     vec![
         fresh(&words),
@@ -72,8 +73,9 @@ pub fn all(bills: usize) -> Vec<Kind> {
             &words,
             groups::entry(FILE, &ledger::responses(&held.bills()[last..], 4000)),
         ),
-        whole_table(ledger::journal(bills, ENTRIES)),
-        whole_notices(ledger::journal(bills, ENTRIES)),
+        whole_table(journal.clone()),
+        whole_notices("exact", journal.clone(), notices(&journal).0.len()),
+        whole_notices("ample", journal.clone(), longest_notices(&journal)),
     ]
 }
 
@@ -243,24 +245,27 @@ fn whole_table(journal: Vec<u8>) -> Kind {
     }
 }
 
-/// The output is as long as the notices.
-fn whole_notices(journal: Vec<u8>) -> Kind {
+/// The reference, too, leaves an output that is too short as it was: it makes the notices first and then copies them.
+fn whole_notices(which: &str, journal: Vec<u8>, output: usize) -> Kind {
     let same = journal.clone();
-    let mut notices = Vec::new();
-    replay_notices(&journal[..], &mut notices).expect("written to memory");
     Kind {
-        name: format!("notices, journal of {ENTRIES} entries"),
+        name: format!("notices, journal of {ENTRIES} entries, {which} output"),
         words: vec![],
-        output: notices.len(),
+        output,
         library: Box::new(move |lent| library::notices(&journal, &mut lent.out, &mut lent.told)),
         reference: Box::new(move |lent| {
-            let length = lent.out.len();
-            let mut rest = &mut lent.out[..];
-            let replayed = replay_notices(&same[..], &mut rest).map_err(|_| Cause::OutputTooShort)?;
-            lent.told = told(length - rest.len(), &replayed);
+            let (notices, replayed) = notices(&same);
+            lent.out.get_mut(..notices.len()).ok_or(Cause::OutputTooShort)?.copy_from_slice(&notices);
+            lent.told = told(notices.len(), &replayed);
             Ok(())
         }),
     }
+}
+
+fn notices(journal: &[u8]) -> (Vec<u8>, Replayed) {
+    let mut notices = Vec::new();
+    let replayed = replay_notices(journal, &mut notices).expect("written to memory");
+    (notices, replayed)
 }
 
 fn told(written: usize, replayed: &Replayed) -> [u64; 2] {

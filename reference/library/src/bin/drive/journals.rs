@@ -2,7 +2,7 @@
 
 use reference::generator;
 use reference::groups::entry;
-use reference::journal::{replay, replay_notices, FRESH, REQUEST};
+use reference::journal::{longest_notices, replay, replay_notices, FRESH, REQUEST};
 use reference::ledger::BILL_LIMIT;
 use reference::prng::Prng;
 use reference::table::{table, LONGEST};
@@ -20,6 +20,8 @@ struct Wanted<'a> {
     journal: &'a [u8],
     bytes: &'a [u8],
     enough: usize,
+    /// An output of this length is known to be enough before the journal is made; the library measures for a shorter one.
+    ample: usize,
     stopped: bool,
 }
 
@@ -50,22 +52,19 @@ fn try_journal(journal: &[u8], rng: &mut Prng, tally: &mut Tally) -> Result<(), 
     let mut notices = Vec::new();
     let replayed = replay_notices(journal, &mut notices).map_err(|error| error.to_string())?;
     let (lines, stopped) = (table(&replayed), replayed.stopped);
-    let of_table = Wanted { name: "table", function: library::table, journal, bytes: &lines, enough: LONGEST, stopped };
-    let of_notices = Wanted {
-        name: "notices",
-        function: library::notices,
-        journal,
-        bytes: &notices,
-        enough: notices.len(),
-        stopped,
-    };
+    let wanted =
+        |name, function, bytes, enough, ample| Wanted { name, function, journal, bytes, enough, ample, stopped };
+    let of_table = wanted("table", library::table as Function, &lines[..], LONGEST, LONGEST);
+    let of_notices = wanted("notices", library::notices, &notices[..], notices.len(), longest_notices(journal));
     for wanted in [of_table, of_notices] {
-        let enough = wanted.enough;
+        let (enough, ample) = (wanted.enough, wanted.ample);
         if rng.chance(40) && enough > 0 {
             let short = *rng.pick(&[0, enough - 1, enough - 1, enough / 2, lines.len().min(enough - 1)]);
             try_length(&wanted, short, tally)?;
         }
-        try_length(&wanted, enough + *rng.pick(&[0, 0, 0, 1, 321, 5000]), tally)?;
+        let past = ample.saturating_sub(enough);
+        let more = *rng.pick(&[0, 0, 0, 1, 321, 5000, past, past.saturating_sub(1)]);
+        try_length(&wanted, enough + more, tally)?;
     }
     tally.label(format!("journals: told {}", if stopped { 13 } else { 0 }));
     Ok(())
