@@ -7,8 +7,8 @@ ghost use Rattle.replay.specs.Ending.{Told};
 use libc::STDERR_FILENO;
 use replay::Tells;
 use replay::ending;
-use replay::output;
-use replay::output::Output;
+use streams::output;
+use streams::output::Output;
 
 // Says on standard error what the program does: it was given an argument, and takes none.
 fn explain() {

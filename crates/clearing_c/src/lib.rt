@@ -182,7 +182,7 @@ pub extern "C" fn clearing_amounts(
 pub extern "C" fn clearing_ledger_table(ledger: &[u64], out: &mut [u8], written: &mut u64) -> u64
     ensures { λ n. ⌜ Prints (ledgerOf (now (ledger .entry))) (now (out .entry)) (now (written .entry)) (now (out .exit)) (now (written .exit)) n ⌝ }
 {
-    let p = table::print_words(out, ledger, false);
+    let p = table_in_words::print_words(out, ledger, false);
     match p {
         Printed::Table(n) => {
             *written = n as u64;

@@ -13,8 +13,8 @@ use Rattle.table.specs.Table.{tableOf}
 use Rattle.journal.specs.Journal.{endsBad}
 use Rattle.report.specs.Report.{postedOf}
 use Rattle.report.proofs.ReportLaws.{claimed}
-use Rattle.replay.specs.declared.End.{End}
-use Rattle.replay.specs.declared.output.Output.{Output}
+use Rattle.streams.specs.declared.pieces.End.{End}
+use Rattle.streams.specs.declared.output.Output.{Output}
 use Rattle.replay.specs.declared.Tells.the-variants.{Nothing}
 use Rattle.replay.specs.Reading.{Reads}
 use Rattle.posted.specs.Posting.{toPrint, tableBy, Tables, Posts}

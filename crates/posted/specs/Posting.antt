@@ -11,8 +11,8 @@ use Rattle.words.specs.Layout.{ledgerOf}
 use Rattle.table.specs.Table.{tableOf}
 use Rattle.journal.specs.Journal.{endsBad}
 use Rattle.report.specs.Report.{postedOf, Claimed}
-use Rattle.replay.specs.declared.End.{End}
-use Rattle.replay.specs.declared.output.Output.{Output}
+use Rattle.streams.specs.declared.pieces.End.{End}
+use Rattle.streams.specs.declared.output.Output.{Output}
 
 -- so many bytes for standard output, 1
 abbrev pub toPrint : ℕ → Output

@@ -9,10 +9,10 @@ ghost use Rattle.posted.specs.Posting.{toPrint, Tables, Posts};
 use entries::run;
 use libc::STDERR_FILENO;
 use libc::STDOUT_FILENO;
-use replay::End;
 use replay::Tells;
-use replay::output;
-use replay::output::Output;
+use streams::output;
+use streams::output::Output;
+use streams::pieces::End;
 
 // So many bytes of the output go to standard output.
 fn printed(length: usize) -> Output
@@ -33,7 +33,7 @@ fn table_of(ws: &[u64], out: &mut [u8], e: End) -> Output
         return printed(0);
     }
     let bad = journal::ends_bad(e.stopped, e.left, e.seen);
-    let length = table::write_words(out, ws, bad);
+    let length = table_in_words::write_words(out, ws, bad);
     printed(length)
 }
 

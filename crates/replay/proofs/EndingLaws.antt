@@ -10,7 +10,7 @@ use Rattle.fields.proofs.PutLaws.{part-put}
 use Rattle.table.specs.Table.{stopLine}
 use Rattle.journal.specs.Journal.{endsBad}
 use Rattle.replay.specs.declared.Tells.{Tells}
-use Rattle.replay.specs.declared.End.{End}
+use Rattle.streams.specs.declared.pieces.End.{End}
 use Rattle.replay.specs.Reading.{Reads}
 use Rattle.replay.specs.Ending.{stopBy, StopLine, Told}
 

@@ -28,9 +28,10 @@ use Rattle.input.specs.Filled.{notEnded}
 use Rattle.input.proofs.FilledLaws.{ended}
 use Rattle.replay.specs.declared.Tells.{Tells}
 use Rattle.replay.specs.declared.Tells.the-variants.{Nothing, Notices, Lines}
-use Rattle.replay.specs.declared.End.{End}
-use Rattle.replay.specs.declared.Piece.{Piece}
-use Rattle.replay.specs.Reading.{toldOf, Waits, Made, endOfInput, endOfPiece, Reads}
+use Rattle.streams.specs.declared.pieces.End.{End}
+use Rattle.streams.specs.declared.pieces.Piece.{Piece}
+use Rattle.replay.specs.Reading.{toldOf, Waits, Made, Reads}
+use Rattle.streams.specs.Ends.{endOfInput, endOfPiece}
 
 -- ---- entries behind entries
 behind-behind : (es fs : List Entry) (p : Parsed) → behind es (behind fs p) ≡ behind (es ++ fs) p

@@ -7,7 +7,7 @@ use lib.ListN.{length, take}
 use Rattle.fields.specs.Put.{put}
 use Rattle.table.specs.Table.{stopLine}
 use Rattle.journal.specs.Journal.{endsBad, isBad}
-use Rattle.replay.specs.declared.End.{End}
+use Rattle.streams.specs.declared.pieces.End.{End}
 
 -- the line `stopped,13` where the reading ended bad and nothing failed
 abbrev pub stopBy : End → List ℕ

@@ -1,9 +1,8 @@
 -- What comes of a journal that is read in pieces. No contract can say which bytes come: the claim is of some. Assumes nothing.
 use Prim.Native.Nat.{ℕ, _+_, _-_, _≤_}
 use mathlib.Core.Path.{_≡_}
-use mathlib.Core.Bool.{Bool, true, false, not}
+use mathlib.Core.Bool.{Bool, true, false}
 use mathlib.Core.List.{List, []}
-use lib.IntN.{pos}
 use lib.ListN.{length, take, drop}
 use Rattle.fields.specs.Put.{put}
 use Rattle.ledger.specs.Books.{Book, book}
@@ -18,10 +17,8 @@ use Rattle.input.specs.declared.Filled as filled
 use Rattle.input.specs.declared.Filled.the-variants as filled-as
 use Rattle.replay.specs.declared.Tells.{Tells}
 use Rattle.replay.specs.declared.Tells.the-variants.{Nothing, Notices, Lines}
-use Rattle.replay.specs.declared.End.{End}
-use Rattle.input.specs.Filled.{notEnded}
-use Rattle.replay.specs.declared.Piece.{Piece}
-use Rattle.replay.specs.declared.output.Output.{Output}
+use Rattle.streams.specs.declared.pieces.End.{End}
+use Rattle.streams.specs.declared.pieces.Piece.{Piece}
 
 -- ---- a read
 -- a buffer of so many bytes, of which some were held before, holds no fewer than before, and no more than it has; where entries are left to be
@@ -83,19 +80,6 @@ pub record Made (seen : ℕ) (t : Tells) (n : ℕ) (ws₀ buf₀ out₀ ws buf o
   pub room : p .written ≤ length out
   pub waits : p .full ≡ false → Waits (p .seen) (take (p .left) buf) (p .stopped)
   pub goes : p .full ≡ true → p .stopped ≡ false
-
--- ---- what is written, and how the reading ends
--- what is written of a piece goes to standard output, 1
-abbrev pub pieceOutput : Piece → Output
-pieceOutput p = record { descriptor = pos 1; length = p .written }
-
--- a read that brought no bytes: the end of the input is no failure, and a failed read not the end
-abbrev pub endOfInput : filled.Filled → ℕ → ℕ → ℕ → End
-endOfInput f seen left total = record { seen = seen; stopped = false; left = left; total = total; failed = notEnded f }
-
--- after a piece: a bad entry is no failure
-abbrev pub endOfPiece : Piece → ℕ → Bool → End
-endOfPiece p total written = record { seen = p .seen; stopped = p .stopped; left = p .left; total = total; failed = not written }
 
 -- ---- the whole
 -- some bytes came in pieces: the ledger, the count of entries, whether a bad one stopped the reading and the bytes left in the buffer are those of reading

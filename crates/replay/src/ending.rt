@@ -4,9 +4,9 @@ ghost use Prim.Native.Nat.{_≤_};
 ghost use lib.ListN.{length};
 ghost use Rattle.words.specs.Layout.{ledgerSize};
 ghost use Rattle.replay.specs.Ending.{StopLine, Told};
-use crate::End;
 use crate::Tells;
 use entries::run;
+use streams::pieces::End;
 
 // Puts the line that says that a bad entry stopped the reading, if one did and nothing failed; answers its length.
 fn stop_line(out: &mut [u8], e: End) -> usize

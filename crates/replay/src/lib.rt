@@ -8,41 +8,22 @@ ghost use Rattle.ledger.specs.Sound.{soundLedger};
 ghost use Rattle.words.specs.Layout.{ledgerOf};
 ghost use Rattle.entries.specs.Running.{firstLedger};
 ghost use Rattle.replay.specs.declared.Tells.the-variants.{Lines};
-ghost use Rattle.replay.specs.Reading.{Runs, FillsMore, Made, pieceOutput, endOfInput, endOfPiece, Reads};
+ghost use Rattle.replay.specs.Reading.{Runs, FillsMore, Made, Reads};
 use entries::run;
 use entries::run::Ran;
 use input::Filled;
-use libc::STDOUT_FILENO;
-use output::Output;
+use streams::output;
+use streams::pieces;
+use streams::pieces::End;
+use streams::pieces::Piece;
 
 pub mod ending;
-pub mod output;
 
 // What is written of the entries: nothing, their notices, or lines that say what became of each.
 pub enum Tells {
     Nothing,
     Notices,
     Lines,
-}
-
-// Where the reading ended: how many entries came, whether a bad one stopped it, how many bytes are left at the start of the buffer, how many bytes
-// were written, and whether a read or a write failed.
-pub struct End {
-    pub seen: u64,
-    pub stopped: bool,
-    pub left: usize,
-    pub total: usize,
-    pub failed: bool,
-}
-
-// What a piece came to: how many entries came by now, how many bytes are left at the start of the buffer, how many bytes stand in the output,
-// whether it has no room for another entry's, and whether a bad entry stands there.
-pub struct Piece {
-    pub seen: u64,
-    pub left: usize,
-    pub written: usize,
-    pub full: bool,
-    pub stopped: bool,
 }
 
 // Reads on where all entries that were read are made.
@@ -109,43 +90,6 @@ fn make(ws: &mut [u64], buf: &mut [u8], out: &mut [u8], tells: Tells, n: usize, 
     }
 }
 
-// What is written of a piece goes to standard output.
-fn output_of(p: Piece) -> Output
-    ensures { λ o. ⌜ o ≡ pieceOutput p ⌝ }
-{
-    Output {
-        descriptor: STDOUT_FILENO,
-        length: p.written,
-    }
-}
-
-// How the reading ends where a read brought no bytes: the input has ended, or the read failed.
-fn end_of_input(f: Filled, seen: u64, left: usize, total: usize) -> End
-    ensures { λ e. ⌜ e ≡ endOfInput f seen left total ⌝ }
-{
-    let failed = input::unread(f);
-    End {
-        seen,
-        stopped: false,
-        left,
-        total,
-        failed,
-    }
-}
-
-// How the reading ends after a piece: at a bad entry, or since its bytes could not be written.
-fn end_of_piece(p: Piece, total: usize, written: bool) -> End
-    ensures { λ e. ⌜ e ≡ endOfPiece p total written ⌝ }
-{
-    End {
-        seen: p.seen,
-        stopped: p.stopped,
-        left: p.left,
-        total,
-        failed: !written,
-    }
-}
-
 // Reads standard input in pieces and makes its entries. A billion entries have fewer bytes than there are turns.
 pub fn read_all(ws: &mut [u64], buf: &mut [u8], out: &mut [u8], tells: Tells) -> End
     requires { ⌜ (ledgerOf (now ws) ≡ firstLedger) × (length (now buf) ≡ 262144) × (length (now out) ≤ 262144) ⌝ }
@@ -160,13 +104,13 @@ pub fn read_all(ws: &mut [u64], buf: &mut [u8], out: &mut [u8], tells: Tells) ->
         turns -= 1;
         let f = more(buf, left, full);
         let Filled::Bytes(n) = f else {
-            return end_of_input(f, seen, left, total);
+            return pieces::end_of_input(f, seen, left, total);
         };
         let p = make(ws, buf, out, tells, n, seen);
         total += p.written;
-        let is_written = output::send(output_of(p), out);
+        let is_written = output::send(pieces::output_of(p), out);
         if !is_written | p.stopped {
-            return end_of_piece(p, total, is_written);
+            return pieces::end_of_piece(p, total, is_written);
         }
         seen = p.seen;
         left = p.left;

@@ -22,8 +22,8 @@ use Rattle.report.specs.declared.Report.the-variants.{Written, TooSmall}
 use Rattle.report.specs.declared.brn_file.Fit.{Fit}
 use Rattle.report.specs.declared.brn_file.Fit.the-variants.{Fits, Short}
 use Rattle.report.specs.NoticesOf.{noticesReport, noticed, fitOf, ReportsNotices}
-use Rattle.report.specs.Room.{mostIn}
-use Rattle.report.proofs.RoomLaws.{brn-within}
+use Rattle.room.specs.Room.{mostIn}
+use Rattle.room.proofs.RoomLaws.{brn-within}
 
 -- ---- whether they have room
 module _ (s : List ℕ) (room : ℕ) where

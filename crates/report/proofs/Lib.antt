@@ -1,4 +1,3 @@
 -- Laws that belong to no one function.
 pub mod ReportLaws
 pub mod BrnLaws
-pub mod RoomLaws

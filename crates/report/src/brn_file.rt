@@ -6,7 +6,6 @@ ghost use Rattle.journal.specs.Made.{brnOf};
 ghost use Rattle.report.specs.NoticesOf.{fitOf, ReportsNotices};
 use crate::Report;
 use crate::Reported;
-use crate::room;
 use entries::run;
 
 // Whether the notices of a journal have room in an output; where they have none, whether the journal ended bad.

@@ -1,6 +1,5 @@
 // What a journal comes to, whole in a slice: its posted table, and its notices.
 pub mod brn_file;
-pub mod room;
 
 ghost use mathlib.Core.Path.{_≡_};
 ghost use lib.ListN.{length};
@@ -34,7 +33,7 @@ pub fn post_table(src: &[u8], out: &mut [u8]) -> Reported
             stopped,
         };
     }
-    let n = table::write_words(out, &ws, stopped);
+    let n = table_in_words::write_words(out, &ws, stopped);
     Reported {
         report: Report::Written(n),
         stopped,

@@ -9,8 +9,6 @@ ghost use Rattle.fields.specs.Put.{put};
 ghost use Rattle.ledger.specs.Lists.{every};
 ghost use Rattle.ledger.specs.Bills.{codeBytes, productByte};
 ghost use Rattle.ledger.specs.Books.{book, live, smallCharge};
-ghost use Rattle.ledger.specs.Sound.{soundLedger};
-ghost use Rattle.words.specs.Layout.{ledgerPlaces, holdsLedger, ledgerOf};
 ghost use Rattle.table.specs.Table.{cell, stateByte, termsCells, amountCells, stateCell, heading, lineOf, linesOf, totalLine, stopLine, tableOf, tableRoom, printedBy, printed};
 use ledger::Bill;
 use ledger::Ledger;
@@ -21,7 +19,6 @@ use ledger::State;
 use ledger::Terms;
 use ledger::bills;
 use ledger::books;
-use places::place;
 use units::Cents;
 use units::Date;
 
@@ -111,7 +108,7 @@ fn put_state(out: &mut [u8], at: usize, t: Terms, today: Date)
 }
 
 // Writes a bill's line, 85 bytes.
-fn put_line(out: &mut [u8], at: usize, b: Bill, today: Date)
+pub fn put_line(out: &mut [u8], at: usize, b: Bill, today: Date)
     requires { ⌜ at + 85 ≤ length (now out) ⌝ }
     ensures { λ _. ⌜ now (out .exit) ≡ put (now (out .entry)) at (lineOf today b) ⌝ }
 {
@@ -148,7 +145,7 @@ fn lines_first(bills: [Bill; 128], n: usize, out: &mut [u8], at: usize, today: D
 }
 
 // Writes the total's line, 23 bytes.
-fn put_total(out: &mut [u8], at: usize, total: Cents)
+pub fn put_total(out: &mut [u8], at: usize, total: Cents)
     requires { ⌜ at + 23 ≤ length (now out) ⌝ }
     ensures { λ _. ⌜ now (out .exit) ≡ put (now (out .entry)) at (totalLine (total .0)) ⌝ }
 {
@@ -171,7 +168,7 @@ pub fn put_stop(out: &mut [u8], at: usize, stopped: bool) -> usize
 }
 
 // Writes the heading, 56 bytes.
-fn put_heading(out: &mut [u8])
+pub fn put_heading(out: &mut [u8])
     requires { ⌜ 56 ≤ length (now out) ⌝ }
     ensures { λ _. ⌜ now (out .exit) ≡ put (now (out .entry)) 0 heading ⌝ }
 {
@@ -199,37 +196,6 @@ pub fn write(out: &mut [u8], l: Ledger, stopped: bool) -> usize
     put_stop(out, end + 23, stopped)
 }
 
-// The lines of the first n bills of a ledger in words, and where they end.
-fn lines_in(ws: &[u64], n: usize, out: &mut [u8], at: usize, today: Date) -> usize
-    requires { ⌜ (holdsLedger (now ws) ≡ true) × (n ≤ ledgerPlaces) × (at + 85 * n ≤ length (now out)) ⌝ }
-    ensures { λ r. ⌜ (r ≡ at + 85 * n) × (now (out .exit) ≡ put (now (out .entry)) at (linesOf today (take n (ledgerOf (now (ws .entry)) .bills)))) ⌝ }
-{
-    let mut i = 0;
-    while i < n {
-        let b = place::bill_at(ws, i);
-        put_line(out, at + 85 * i, b, today);
-        i += 1;
-    }
-    at + 85 * n
-}
-
-// Writes the table of a ledger that is lent as words, and answers how many bytes it has.
-pub fn write_words(out: &mut [u8], ws: &[u64], stopped: bool) -> usize
-    requires { ⌜ (soundLedger (ledgerOf (now ws)) ≡ true) × (tableRoom ≤ length (now out)) ⌝ }
-    ensures { λ r. ⌜ r ≡ length (tableOf (book (ledgerOf (now (ws .entry)))) stopped) ⌝ }
-    ensures { λ _. ⌜ now (out .exit) ≡ put (now (out .entry)) 0 (tableOf (book (ledgerOf (now (ws .entry)))) stopped) ⌝ }
-    ensures { λ r. ⌜ r ≤ tableRoom ⌝ }
-{
-    put_heading(out);
-    let h = place::header(ws);
-    let n = h.count;
-    let today = h.today;
-    let end = lines_in(ws, n, out, 56, today);
-    let total = place::total(ws, n);
-    put_total(out, end, total);
-    put_stop(out, end + 23, stopped)
-}
-
 // Writes the table of a ledger, unless the ledger is not sound (2) or the output has no room (1).
 pub fn print(out: &mut [u8], l: Ledger, stopped: bool) -> Printed
     ensures { λ r. ⌜ r ≡ printedBy l stopped (length (now (out .entry))) ⌝ }
@@ -242,18 +208,4 @@ pub fn print(out: &mut [u8], l: Ledger, stopped: bool) -> Printed
         return Printed::Refused(1);
     }
     Printed::Table(write(out, l, stopped))
-}
-
-// The same of a ledger that is lent as words: any words at all.
-pub fn print_words(out: &mut [u8], ws: &[u64], stopped: bool) -> Printed
-    ensures { λ r. ⌜ r ≡ printedBy (ledgerOf (now (ws .entry))) stopped (length (now (out .entry))) ⌝ }
-    ensures { λ _. ⌜ now (out .exit) ≡ put (now (out .entry)) 0 (printed (ledgerOf (now (ws .entry))) stopped (length (now (out .entry)))) ⌝ }
-{
-    if !places::checks::sound(ws) {
-        return Printed::Refused(2);
-    }
-    if out.len() < TABLE_ROOM {
-        return Printed::Refused(1);
-    }
-    Printed::Table(write_words(out, ws, stopped))
 }

@@ -7,7 +7,7 @@ use mathlib.Core.Bool.{Bool, true, false, not, true≢false}
 use mathlib.Core.List.{List}
 use lib.ListN.{length, take}
 use Rattle.fields.proofs.BoolLaws.{or-both}
-use Rattle.replay.specs.declared.output.Output.{Output}
+use Rattle.streams.specs.declared.output.Output.{Output}
 use Rattle.replay.specs.declared.Tells.{Tells}
 use Rattle.replay.specs.Reading.{Waits}
 use Rattle.replay.proofs.ReadingLaws.{Reading, reading-start, waits-start, reading-kept, reading-more, input-ended, piece-ended}

@@ -1,0 +1,59 @@
+// The posted table of a ledger that is lent as words.
+ghost use mathlib.Core.Path.{_≡_};
+ghost use mathlib.Core.Bool.{true};
+ghost use Prim.Native.Nat.{_+_, _*_, _≤_};
+ghost use lib.ListN.{length, take};
+ghost use Rattle.fields.specs.Put.{put};
+ghost use Rattle.ledger.specs.Books.{book};
+ghost use Rattle.ledger.specs.Sound.{soundLedger};
+ghost use Rattle.words.specs.Layout.{ledgerPlaces, holdsLedger, ledgerOf};
+ghost use Rattle.table.specs.Table.{linesOf, tableOf, tableRoom, printedBy, printed};
+use places::place;
+use table::Printed;
+use table::TABLE_ROOM;
+use units::Date;
+
+// The lines of the first n bills of a ledger in words, and where they end.
+fn lines_in(ws: &[u64], n: usize, out: &mut [u8], at: usize, today: Date) -> usize
+    requires { ⌜ (holdsLedger (now ws) ≡ true) × (n ≤ ledgerPlaces) × (at + 85 * n ≤ length (now out)) ⌝ }
+    ensures { λ r. ⌜ (r ≡ at + 85 * n) × (now (out .exit) ≡ put (now (out .entry)) at (linesOf today (take n (ledgerOf (now (ws .entry)) .bills)))) ⌝ }
+{
+    let mut i = 0;
+    while i < n {
+        let b = place::bill_at(ws, i);
+        table::put_line(out, at + 85 * i, b, today);
+        i += 1;
+    }
+    at + 85 * n
+}
+
+// Writes the table of a ledger that is lent as words, and answers how many bytes it has.
+pub fn write_words(out: &mut [u8], ws: &[u64], stopped: bool) -> usize
+    requires { ⌜ (soundLedger (ledgerOf (now ws)) ≡ true) × (tableRoom ≤ length (now out)) ⌝ }
+    ensures { λ r. ⌜ r ≡ length (tableOf (book (ledgerOf (now (ws .entry)))) stopped) ⌝ }
+    ensures { λ _. ⌜ now (out .exit) ≡ put (now (out .entry)) 0 (tableOf (book (ledgerOf (now (ws .entry)))) stopped) ⌝ }
+    ensures { λ r. ⌜ r ≤ tableRoom ⌝ }
+{
+    table::put_heading(out);
+    let h = place::header(ws);
+    let n = h.count;
+    let today = h.today;
+    let end = lines_in(ws, n, out, 56, today);
+    let total = place::total(ws, n);
+    table::put_total(out, end, total);
+    table::put_stop(out, end + 23, stopped)
+}
+
+// Writes the table of the ledger that any words hold, unless it is not sound (2) or the output has no room (1).
+pub fn print_words(out: &mut [u8], ws: &[u64], stopped: bool) -> Printed
+    ensures { λ r. ⌜ r ≡ printedBy (ledgerOf (now (ws .entry))) stopped (length (now (out .entry))) ⌝ }
+    ensures { λ _. ⌜ now (out .exit) ≡ put (now (out .entry)) 0 (printed (ledgerOf (now (ws .entry))) stopped (length (now (out .entry)))) ⌝ }
+{
+    if !places::checks::sound(ws) {
+        return Printed::Refused(2);
+    }
+    if out.len() < TABLE_ROOM {
+        return Printed::Refused(1);
+    }
+    Printed::Table(write_words(out, ws, stopped))
+}
