@@ -11,7 +11,7 @@ use Rattle.history.specs.History.{begun}
 use Rattle.history.specs.Claim.{ByValue}
 use Rattle.history.proofs.ClaimProof.{claim-by-value}
 use Rattle.clearing_c.specs.InWords.{Made, SumInWords}
-use Rattle.clearing_c.proofs.GiveLaws.{fresh-long}
+use Rattle.boundary.proofs.GiveLaws.{fresh-long}
 
 made-ran : (cs : List Call) (ws ws₂ : List ℕ) → Made ws cs ws₂ → ledgerOf ws₂ ≡ ran (ledgerOf ws) cs
 unfolding ran

@@ -1,5 +1,4 @@
 -- Laws that belong to no one function.
-pub mod GiveLaws
 pub mod InWordsProof
 pub mod NumberLaws
 pub mod WholeJournalLaws

@@ -11,7 +11,7 @@ use Rattle.causes.specs.Causes.{Call, freshCauses}
 use Rattle.calls.specs.Machine.{called, ran}
 use Rattle.history.specs.History.{begun}
 use Rattle.history.specs.Claim.{ByValue}
-use Rattle.clearing_c.specs.Boundary.{freshIn}
+use Rattle.boundary.specs.Boundary.{freshIn}
 
 -- the words ws₂ are left by these calls, made on the words ws: of each call the contract says which ledger its words hold (`Gives .ledger`)
 abbrev pub Made : List ℕ → List Call → List ℕ → Type 0

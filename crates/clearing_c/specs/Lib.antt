@@ -1,4 +1,3 @@
 -- What the functions for C and Rust programs answer, and demand 3 over a list of them.
-pub mod Boundary
 pub mod InWords
 pub mod WholeJournals

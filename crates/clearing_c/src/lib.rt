@@ -1,7 +1,6 @@
 // The calls for C and Rust programs: numbers and lent slices only, the ledger lent as 2,436 words (crate words). include/clearing.h is the
 // header. Each answers 0 if it was carried out, else the number of its cause, and then every lent buffer holds what it held (but for what
 // clearing_entry tells of the entry).
-mod call;
 pub mod journals;
 
 ghost use mathlib.Core.Path.{_≡_};
@@ -12,7 +11,7 @@ ghost use Rattle.causes.specs.Causes.{request, file, cancel, close};
 ghost use Rattle.calls.specs.Machine.{stepIn, called};
 ghost use Rattle.lookups.specs.Lookups.{amountsIn};
 ghost use Rattle.journal.specs.Entries.{headOf};
-ghost use Rattle.clearing_c.specs.Boundary.{dateOf, startOf, identityOf, requestOf, freshIn, Gives, headCalled, headWritten, headTold, Opens, amountsNumber, amountsLeft, Prints};
+ghost use Rattle.boundary.specs.Boundary.{dateOf, startOf, identityOf, requestOf, freshIn, Gives, headCalled, headWritten, headTold, Opens, amountsNumber, amountsLeft, Prints};
 use causes::CodeField;
 use causes::Request;
 use causes::Start;
@@ -43,7 +42,7 @@ pub extern "C" fn clearing_fresh(
         confirmation,
     };
     let mut none = [0];
-    call::call(ledger, &mut none, change, counts, Body::Fresh(start), b"")
+    boundary::call(ledger, &mut none, change, counts, Body::Fresh(start), b"")
 }
 
 // Close of day.
@@ -57,7 +56,7 @@ pub extern "C" fn clearing_close(
     ensures { λ n. ⌜ Gives (called (ledgerOf (now (ledger .entry))) (close (dateOf today))) (now (ledger .entry)) (now (change .entry)) (now (counts .entry)) (now (ledger .exit)) (now (change .exit)) (now (counts .exit)) n ⌝ }
 {
     let mut none = [0];
-    call::call(
+    boundary::call(
         ledger,
         &mut none,
         change,
@@ -101,7 +100,7 @@ pub extern "C" fn clearing_request(
         consumption: Ccf(consumption),
         scheduled: Date(scheduled),
     };
-    call::call(ledger, out, change, counts, Body::Request(r), b"")
+    boundary::call(ledger, out, change, counts, Body::Request(r), b"")
 }
 
 // A supplier file: its answers go to out.
@@ -116,7 +115,7 @@ pub extern "C" fn clearing_file(
     ensures { λ n. ⌜ Gives (called (ledgerOf (now (ledger .entry))) (file (now (s .entry)) (length (now (out .entry))))) (now (ledger .entry)) (now (change .entry)) (now (counts .entry)) (now (ledger .exit)) (now (change .exit)) (now (counts .exit)) n ⌝ }
     ensures { λ _. ⌜ now (out .exit) ≡ put (now (out .entry)) 0 (stepIn (ledgerOf (now (ledger .entry))) (file (now (s .entry)) (length (now (out .entry)))) .written) ⌝ }
 {
-    call::call(ledger, out, change, counts, Body::File, s)
+    boundary::call(ledger, out, change, counts, Body::File, s)
 }
 
 // Cancel.
@@ -133,7 +132,7 @@ pub extern "C" fn clearing_cancel(
     ensures { λ _. ⌜ now (out .exit) ≡ put (now (out .entry)) 0 (stepIn (ledgerOf (now (ledger .entry))) (cancel (identityOf account key) (length (now (out .entry)))) .written) ⌝ }
 {
     let id = Identity { account, key };
-    call::call(ledger, out, change, counts, Body::Cancel(id), b"")
+    boundary::call(ledger, out, change, counts, Body::Cancel(id), b"")
 }
 
 // Lookup: the place of an open bill of an account.
@@ -220,7 +219,7 @@ pub extern "C" fn clearing_entry(
         }
         Head::Whole(body, n) => {
             *told = [n as u64, 0];
-            call::call(ledger, out, change, counts, body, &journal[3..n])
+            boundary::call(ledger, out, change, counts, body, &journal[3..n])
         }
     }
 }

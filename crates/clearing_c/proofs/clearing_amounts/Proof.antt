@@ -1,6 +1,6 @@
 -- `clearing_c::clearing_amounts` meets its contract.
 use mathlib.Core.Path.{sym, ap, _∙_}
-use Rattle.clearing_c.specs.Boundary.{amountsNumber, amountsLeft}
+use Rattle.boundary.specs.Boundary.{amountsNumber, amountsLeft}
 use borrow.Author.Needs.{needs}
 use Rattle.clearing_c.proofs.clearing_amounts.Statement.{statement}
 use Rattle.clearing_c.proofs.clearing_amounts.Tie as tie

@@ -3,7 +3,7 @@ use mathlib.Core.Path.{sym, _∙_}
 use lib.ListN.{length}
 use native.Mathlib.Omega.{arith}
 use Rattle.journal.proofs.HeadLaws.{whole-fits}
-use Rattle.clearing_c.proofs.GiveLaws.{entry-cut, entry-bad, entry-whole}
+use Rattle.boundary.proofs.GiveLaws.{entry-cut, entry-bad, entry-whole}
 use borrow.Author.Needs.{needs}
 use Rattle.clearing_c.proofs.clearing_entry.Statement.{statement}
 use Rattle.clearing_c.proofs.clearing_entry.Tie as tie

@@ -1,6 +1,6 @@
 -- `clearing_c::clearing_ledger_table` meets its contract.
 use mathlib.Core.Path.{sym, ap, _∙_}
-use Rattle.clearing_c.specs.Boundary.{printedNumber, printedLeft}
+use Rattle.boundary.specs.Boundary.{printedNumber, printedLeft}
 use borrow.Author.Needs.{needs}
 use Rattle.clearing_c.proofs.clearing_ledger_table.Statement.{statement}
 use Rattle.clearing_c.proofs.clearing_ledger_table.Tie as tie

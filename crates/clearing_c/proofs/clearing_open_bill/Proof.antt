@@ -1,6 +1,6 @@
 -- `clearing_c::clearing_open_bill` meets its contract.
 use mathlib.Core.Path.{sym, ap}
-use Rattle.clearing_c.specs.Boundary.{placeNumber, placeLeft}
+use Rattle.boundary.specs.Boundary.{placeNumber, placeLeft}
 use borrow.Author.Needs.{needs}
 use Rattle.clearing_c.proofs.clearing_open_bill.Statement.{statement}
 use Rattle.clearing_c.proofs.clearing_open_bill.Tie as tie

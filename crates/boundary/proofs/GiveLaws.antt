@@ -36,7 +36,7 @@ use Rattle.journal.proofs.Body as declared
 use Rattle.journal.proofs.MadeLaws.{Taken}
 use Rattle.engine.specs.InWords.{wordsLeft}
 use Rattle.entries.specs.Stepping.{MadeIn}
-use Rattle.clearing_c.specs.Boundary.{numberOf, changeLeft, countsLeft, Stores, Gives, freshIn, entryIn, Leaves, headCalled, headWritten, headTold}
+use Rattle.boundary.specs.Boundary.{numberOf, changeLeft, countsLeft, Stores, Gives, freshIn, entryIn, Leaves, headCalled, headWritten, headTold}
 
 -- ---- a call that is no fresh
 abbrev pub NoFresh : Body → Type 0

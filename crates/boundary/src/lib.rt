@@ -4,7 +4,7 @@ ghost use lib.ListN.{length};
 ghost use Rattle.fields.specs.Put.{put};
 ghost use Rattle.words.specs.Layout.{ledgerOf};
 ghost use Rattle.journal.specs.Made.{writtenIn};
-ghost use Rattle.clearing_c.specs.Boundary.{entryIn, Leaves, Stores, Gives};
+ghost use Rattle.boundary.specs.Boundary.{entryIn, Leaves, Stores, Gives};
 use calls::Answer;
 use engine::call;
 use entries::entry;

@@ -1,12 +1,12 @@
--- `clearing_c::call::make` meets its contract: a fresh on words of another length, a fresh, any other call on words that hold no sound ledger, and on words that do.
+-- `boundary::make` meets its contract: a fresh on words of another length, a fresh, any other call on words that hold no sound ledger, and on words that do.
 use mathlib.Core.Path.{sym, _∙_}
 use lib.ListN.{length}
 use native.Mathlib.Omega.{arith}
 use borrow.Author.Tests.{not-true, not-false}
-use Rattle.clearing_c.proofs.GiveLaws.{no-fresh, no-fresh-taken, fresh-short, fresh-leaves, unsound-leaves, sound-leaves}
+use Rattle.boundary.proofs.GiveLaws.{no-fresh, no-fresh-taken, fresh-short, fresh-leaves, unsound-leaves, sound-leaves}
 use borrow.Author.Needs.{needs}
-use Rattle.clearing_c.proofs.call.make.Statement.{statement}
-use Rattle.clearing_c.proofs.call.make.Tie as tie
+use Rattle.boundary.proofs.make.Statement.{statement}
+use Rattle.boundary.proofs.make.Tie as tie
 
 enum-known-body : tie.Need-enum-known-body
 enum-known-body c = search needs

@@ -1,11 +1,11 @@
--- `clearing_c::call::give` meets its contract.
+-- `boundary::give` meets its contract.
 use mir.Syntax.{w64}
 use mir.ValLaws.{toZ-ofZ}
 use borrow.Author.Needs.{sfits-of}
-use Rattle.clearing_c.proofs.GiveLaws.{stores-done}
+use Rattle.boundary.proofs.GiveLaws.{stores-done}
 use borrow.Author.Needs.{needs}
-use Rattle.clearing_c.proofs.call.give.Statement.{statement}
-use Rattle.clearing_c.proofs.call.give.Tie as tie
+use Rattle.boundary.proofs.give.Statement.{statement}
+use Rattle.boundary.proofs.give.Tie as tie
 
 enum-known-a : tie.Need-enum-known-a
 enum-known-a c = search needs

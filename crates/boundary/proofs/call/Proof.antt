@@ -1,8 +1,8 @@
--- `clearing_c::call::call` meets its contract.
-use Rattle.clearing_c.proofs.GiveLaws.{gives}
+-- `boundary::call` meets its contract.
+use Rattle.boundary.proofs.GiveLaws.{gives}
 use borrow.Author.Needs.{needs}
-use Rattle.clearing_c.proofs.call.call.Statement.{statement}
-use Rattle.clearing_c.proofs.call.call.Tie as tie
+use Rattle.boundary.proofs.call.Statement.{statement}
+use Rattle.boundary.proofs.call.Tie as tie
 
 make-requires : tie.Need-make-requires
 make-requires c κs = search needs

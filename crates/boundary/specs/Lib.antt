@@ -1,0 +1,2 @@
+-- The boundary to C and Rust: what each function answers and leaves.
+pub mod Boundary
