@@ -1,6 +1,6 @@
 //! A request's arguments as the second implementation takes them, for drive and for bench.
 
-use library::Request;
+use clearing::Request;
 use reference::fields::{Product, RateCode};
 use reference::words::{consumption, date, identity};
 

@@ -2,7 +2,7 @@
 
 use std::hint::black_box;
 
-use library::Request;
+use clearing::Request;
 use reference::file::FILE_LIMIT;
 use reference::groups;
 use reference::journal::{carry_out, longest_notices, replay, replay_notices, start, Replayed, Start, FILE, REQUEST};
@@ -86,7 +86,7 @@ fn fresh(words: &[u64]) -> Kind {
         words: words.to_vec(),
         output: 0,
         library: Box::new(move |lent| {
-            library::fresh(&mut lent.words, today, tracking, confirmation, &mut lent.change, &mut lent.counts)
+            clearing::fresh(&mut lent.words, today, tracking, confirmation, &mut lent.change, &mut lent.counts)
         }),
         reference: Box::new(move |lent| {
             let ledger = Ledger::fresh(&text(today, 8), &text(tracking, 9), &text(confirmation, 9))?;
@@ -105,7 +105,7 @@ fn request(name: &str, words: &[u64], request: Request) -> Kind {
         words: words.to_vec(),
         output: NOTICE_LENGTH,
         library: Box::new(move |lent| {
-            library::request(&mut lent.words, &request, &mut lent.out, &mut lent.change, &mut lent.counts)
+            clearing::request(&mut lent.words, &request, &mut lent.out, &mut lent.change, &mut lent.counts)
         }),
         reference: Box::new(move |lent| {
             change(lent, |ledger, out| {
@@ -123,7 +123,7 @@ fn file(name: &str, words: &[u64], file: Vec<u8>) -> Kind {
         words: words.to_vec(),
         output: file.len(),
         library: Box::new(move |lent| {
-            library::file(&mut lent.words, &file, &mut lent.out, &mut lent.change, &mut lent.counts)
+            clearing::file(&mut lent.words, &file, &mut lent.out, &mut lent.change, &mut lent.counts)
         }),
         reference: Box::new(move |lent| {
             change(lent, |ledger, out| {
@@ -140,7 +140,7 @@ fn cancel(words: &[u64], account: u64) -> Kind {
         words: words.to_vec(),
         output: NOTICE_LENGTH,
         library: Box::new(move |lent| {
-            library::cancel(&mut lent.words, account, KEY, &mut lent.out, &mut lent.change, &mut lent.counts)
+            clearing::cancel(&mut lent.words, account, KEY, &mut lent.out, &mut lent.change, &mut lent.counts)
         }),
         reference: Box::new(move |lent| {
             change(lent, |ledger, out| {
@@ -158,7 +158,7 @@ fn close(words: &[u64]) -> Kind {
         name: "close, of all bills".into(),
         words: words.to_vec(),
         output: 0,
-        library: Box::new(move |lent| library::close(&mut lent.words, today, &mut lent.change, &mut lent.counts)),
+        library: Box::new(move |lent| clearing::close(&mut lent.words, today, &mut lent.change, &mut lent.counts)),
         reference: Box::new(move |lent| change(lent, |ledger, _| Ok((0, [0, 0, 0, ledger.close(&text(today, 8))?])))),
     }
 }
@@ -168,7 +168,7 @@ fn open_bill(words: &[u64], account: u64) -> Kind {
         name: "open_bill".into(),
         words: words.to_vec(),
         output: 0,
-        library: Box::new(move |lent| library::open_bill(&lent.words, account, &mut lent.place)),
+        library: Box::new(move |lent| clearing::open_bill(&lent.words, account, &mut lent.place)),
         reference: Box::new(move |lent| {
             lent.place = read(lent)?.open_bill(&text(account, 12))? as u64;
             Ok(())
@@ -181,7 +181,7 @@ fn amounts(words: &[u64], account: u64) -> Kind {
         name: "amounts".into(),
         words: words.to_vec(),
         output: 0,
-        library: Box::new(move |lent| library::amounts(&lent.words, account, KEY, &mut lent.amounts)),
+        library: Box::new(move |lent| clearing::amounts(&lent.words, account, KEY, &mut lent.amounts)),
         reference: Box::new(move |lent| {
             let (charge, applied, owed) = read(lent)?.amounts(&text(account, 12), &text(KEY, 4))?;
             lent.amounts = [charge.0, applied.0, owed.0];
@@ -195,7 +195,7 @@ fn ledger_table(words: &[u64]) -> Kind {
         name: "ledger_table".into(),
         words: words.to_vec(),
         output: table::LONGEST,
-        library: Box::new(move |lent| library::ledger_table(&lent.words, &mut lent.out, &mut lent.written)),
+        library: Box::new(move |lent| clearing::ledger_table(&lent.words, &mut lent.out, &mut lent.written)),
         reference: Box::new(move |lent| {
             let table = table::of_ledger(Some(&read(lent)?));
             lent.out[..table.len()].copy_from_slice(&table);
@@ -215,7 +215,7 @@ fn entry(name: &str, words: &[u64], journal: Vec<u8>) -> Kind {
         output: FILE_LIMIT,
         library: Box::new(move |lent| {
             let Lent { words, out, change, counts, told, .. } = lent;
-            library::entry(words, &journal, seen, out, change, counts, told)
+            clearing::entry(words, &journal, seen, out, change, counts, told)
         }),
         reference: Box::new(move |lent| {
             let Start::Entry(entry, length) = start(&same, seen) else { return Err(Cause::BadEntry) };
@@ -234,7 +234,7 @@ fn whole_table(journal: Vec<u8>) -> Kind {
         name: format!("table, journal of {ENTRIES} entries"),
         words: vec![],
         output: table::LONGEST,
-        library: Box::new(move |lent| library::table(&journal, &mut lent.out, &mut lent.told)),
+        library: Box::new(move |lent| clearing::table(&journal, &mut lent.out, &mut lent.told)),
         reference: Box::new(move |lent| {
             let replayed = replay(&same[..]).expect("read from memory");
             let table = table::table(&replayed);
@@ -252,7 +252,7 @@ fn whole_notices(which: &str, journal: Vec<u8>, output: usize) -> Kind {
         name: format!("notices, journal of {ENTRIES} entries, {which} output"),
         words: vec![],
         output,
-        library: Box::new(move |lent| library::notices(&journal, &mut lent.out, &mut lent.told)),
+        library: Box::new(move |lent| clearing::notices(&journal, &mut lent.out, &mut lent.told)),
         reference: Box::new(move |lent| {
             let (notices, replayed) = notices(&same);
             lent.out.get_mut(..notices.len()).ok_or(Cause::OutputTooShort)?.copy_from_slice(&notices);

@@ -1,6 +1,6 @@
 //! The ledgers, requests, files and journals that the calls are made on.
 
-use library::Request;
+use clearing::Request;
 use reference::groups::{self, Amounts, Sent};
 use reference::ledger::BILL_LIMIT;
 use reference::verdict::Notification;

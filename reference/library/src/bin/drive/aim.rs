@@ -1,6 +1,6 @@
 //! Calls aimed at the state of a ledger: ones that it carries out, and ones that it refuses for each cause.
 
-use library::Request;
+use clearing::Request;
 use reference::dates::Date;
 use reference::file::{FILE_LIMIT, RECORD_LENGTH};
 use reference::groups::{self, Amounts, Sent};

@@ -1,7 +1,7 @@
 //! The place of every argument, word and figure, by numbers that all differ: two that are swapped would show.
 //! Nothing here comes from the reference but the bytes of a group.
 
-use library::Request;
+use clearing::Request;
 use reference::groups::{self, Amounts};
 use reference::verdict::Notification;
 use reference::words;
@@ -168,10 +168,10 @@ fn streamed(held: &mut Held) -> Result<(), String> {
 /// Empty slices: pointers that are not null and point nowhere.
 fn empty(held: &mut Held) -> Result<(), String> {
     let (mut change, mut counts, mut told) = (9, [9; 4], [9; 2]);
-    let number = library::file(held.words.lend(), &[], &mut [], &mut change, &mut counts);
+    let number = clearing::file(held.words.lend(), &[], &mut [], &mut change, &mut counts);
     expect("empty file", &(number, change, counts), &(0, 0, [0; 4]))?;
     held.tally.number("file", number);
-    let number = library::notices(&[], &mut [], &mut told);
+    let number = clearing::notices(&[], &mut [], &mut told);
     expect("notices of an empty journal", &(number, told), &(0, [0, 13]))?;
     held.tally.number("notices", number);
     Ok(())

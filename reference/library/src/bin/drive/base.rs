@@ -1,6 +1,6 @@
 //! The ledger whose words are changed one by one, and the calls that are made on it.
 
-use library::Request;
+use clearing::Request;
 use reference::groups::{self, Amounts};
 use reference::journal::{CLOSE, REQUEST};
 use reference::table::LONGEST;

@@ -2,7 +2,7 @@
 
 use std::fmt;
 
-use library::Request;
+use clearing::Request;
 use reference::fields::{Product, RateCode};
 use reference::journal::{carry_out, fresh, start, Entry, Start};
 use reference::notices::NOTICE_LENGTH;

@@ -54,8 +54,8 @@ fn try_journal(journal: &[u8], rng: &mut Prng, tally: &mut Tally) -> Result<(), 
     let (lines, stopped) = (table(&replayed), replayed.stopped);
     let wanted =
         |name, function, bytes, enough, ample| Wanted { name, function, journal, bytes, enough, ample, stopped };
-    let of_table = wanted("table", library::table as Function, &lines[..], LONGEST, LONGEST);
-    let of_notices = wanted("notices", library::notices, &notices[..], notices.len(), longest_notices(journal));
+    let of_table = wanted("table", clearing::table as Function, &lines[..], LONGEST, LONGEST);
+    let of_notices = wanted("notices", clearing::notices, &notices[..], notices.len(), longest_notices(journal));
     for wanted in [of_table, of_notices] {
         let (enough, ample) = (wanted.enough, wanted.ample);
         if rng.chance(40) && enough > 0 {

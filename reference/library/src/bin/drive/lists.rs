@@ -1,6 +1,6 @@
 //! Lists of calls: those of the generator's journals, with refused calls and lookups strewn in.
 
-use library::Request;
+use clearing::Request;
 use reference::fields::digits;
 use reference::generator;
 use reference::journal::{Entries, Entry, Next};

@@ -1,6 +1,6 @@
 //! Each of 128 places: a bill is found, renewed, answered and cancelled wherever it stands.
 
-use library::Request;
+use clearing::Request;
 use reference::groups::{self, Amounts};
 use reference::verdict::Notification;
 use reference::{words, Bill, Ledger};

@@ -84,29 +84,29 @@ pub fn run(call: &Call, words: &mut [u64], out: &mut [u8], figures: &mut Figures
     let counts = figures.counts.lend().first_chunk_mut().expect("four counts");
     let number = match &given {
         Call::Fresh { today, tracking, confirmation } => {
-            library::fresh(words, *today, *tracking, *confirmation, change, counts)
+            clearing::fresh(words, *today, *tracking, *confirmation, change, counts)
         }
-        Call::Request(request) => library::request(words, request, out, change, counts),
+        Call::Request(request) => clearing::request(words, request, out, change, counts),
         Call::File(file) => {
             let file = Lent::new(file, b'#', out.len() % 8);
-            let number = library::file(words, file.inside(), out, change, counts);
+            let number = clearing::file(words, file.inside(), out, change, counts);
             same(&file, given_bytes(call), "file", &|at| format!("byte {at}"))?;
             number
         }
         Call::Entry { journal, seen } => {
             let journal = Lent::new(journal, b'#', out.len() % 8);
             let told = figures.told.lend().first_chunk_mut().expect("two numbers");
-            let number = library::entry(words, journal.inside(), *seen, out, change, counts, told);
+            let number = clearing::entry(words, journal.inside(), *seen, out, change, counts, told);
             same(&journal, given_bytes(call), "journal", &|at| format!("byte {at}"))?;
             number
         }
-        Call::LedgerTable => library::ledger_table(words, out, &mut figures.written.lend()[0]),
-        Call::Cancel { account, key } => library::cancel(words, *account, *key, out, change, counts),
-        Call::Close { today } => library::close(words, *today, change, counts),
-        Call::OpenBill { account } => library::open_bill(words, *account, &mut figures.place.lend()[0]),
+        Call::LedgerTable => clearing::ledger_table(words, out, &mut figures.written.lend()[0]),
+        Call::Cancel { account, key } => clearing::cancel(words, *account, *key, out, change, counts),
+        Call::Close { today } => clearing::close(words, *today, change, counts),
+        Call::OpenBill { account } => clearing::open_bill(words, *account, &mut figures.place.lend()[0]),
         Call::Amounts { account, key } => {
             let amounts = figures.amounts.lend().first_chunk_mut().expect("three amounts");
-            library::amounts(words, *account, *key, amounts)
+            clearing::amounts(words, *account, *key, amounts)
         }
     };
     if *std::hint::black_box(&given) != *call {

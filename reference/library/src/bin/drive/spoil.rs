@@ -1,6 +1,6 @@
 //! Makes one argument of a call bad, so that it is refused: with 2, or a file with 11.
 
-use library::Request;
+use clearing::Request;
 use reference::file::{FILE_LIMIT, RECORD_LENGTH};
 use reference::prng::Prng;
 

@@ -38,6 +38,7 @@ fn main() {
 fn try_all(reference: &Path, folder: &Path, word: &str) -> io::Result<usize> {
     let copy = folder.join("reference");
     copy_tree(reference, &copy)?;
+    copy_tree(&reference.join("../bindings"), &folder.join("bindings"))?;
     let plain = try_copy(reference, folder)?;
     if !plain.status.success() {
         return Err(io::Error::other(format!("without a fault: {}", String::from_utf8_lossy(&plain.stderr))));
