@@ -154,7 +154,7 @@ module _ (room : ℕ) (ws out s : List ℕ) where
 
   -- words that hold one: what the engine left
   pub sound-leaves : (b : Body) → NoFresh b → soundLedger (ledgerOf ws) ≡ true → (ws₁ out₁ : List ℕ) (a : Answer)
-      → MadeIn true room b s ws out ws₁ out₁ a → Leaves (entryIn room ws b s) (writtenIn room (ledgerOf ws) b s) ws out ws₁ out₁ a
+      → MadeIn true room 0 b s ws out ws₁ out₁ a → Leaves (entryIn room ws b s) (writtenIn room (ledgerOf ws) b s) ws out ws₁ out₁ a
   sound-leaves b n h ws₁ out₁ a m =
       rw (sym (entry-made b n))
       (record {

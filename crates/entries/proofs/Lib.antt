@@ -1,4 +1,6 @@
 -- Laws that belong to no one function.
 pub mod MadeParts
-pub mod RunLaws
+pub mod StoodLaws
+pub mod FirstMadeLaws
+pub mod RunNotices
 pub mod RanLaws

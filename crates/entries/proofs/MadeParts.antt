@@ -27,21 +27,21 @@ module _ (writes : Bool) (room : ℕ) (ws out : List ℕ) (sure : soundLedger (l
   l = ledgerOf ws
 
   pub made-by : (b : Body) → Taken b → (us out′ : List ℕ) (a : Answer) → ledgerOf us ≡ madeIn room l b s .ledger → a ≡ madeIn room l b s .answer
-      → out′ ≡ put out 0 (said writes (writtenIn room l b s)) → MadeIn writes room b s ws out us out′ a
+      → out′ ≡ put out 0 (said writes (writtenIn room l b s)) → MadeIn writes room 0 b s ws out us out′ a
   made-by b t us out′ a e f g = record { sound = rw e (made-sound l sure room b s t); ledger = e; answer = f; bytes = g }
 
-  pub made-unread : MadeIn writes room body.Unread s ws out ws out (Refused 2)
+  pub made-unread : MadeIn writes room 0 body.Unread s ws out ws out (Refused 2)
   made-unread = made-by body.Unread tt ws out (Refused 2) refl refl (said-none writes out)
 
 -- ---- what stands at the start of some bytes
 module _ (writes : Bool) (seen : ℕ) (src ws₀ out₀ : List ℕ) where
-  pub step-cut : headOf seen src ≡ Cut → SteppedIn writes seen src ws₀ out₀ ws₀ out₀ step.Cut
+  pub step-cut : headOf seen src ≡ Cut → SteppedIn writes 0 seen src ws₀ out₀ ws₀ out₀ step.Cut
   step-cut e = rw e (refl, refl, refl)
 
-  pub step-bad : headOf seen src ≡ Bad → SteppedIn writes seen src ws₀ out₀ ws₀ out₀ step.Bad
+  pub step-bad : headOf seen src ≡ Bad → SteppedIn writes 0 seen src ws₀ out₀ ws₀ out₀ step.Bad
   step-bad e = rw e (refl, refl, refl)
 
-  pub step-made : (b : Body) (n : ℕ) → headOf seen src ≡ Whole b n → (ws out : List ℕ) (a : Answer) → MadeIn writes 64200 b (take (n - 3) (drop 3 src)) ws₀ out₀ ws out a
-      → SteppedIn writes seen src ws₀ out₀ ws out (step.Made n a)
+  pub step-made : (b : Body) (n : ℕ) → headOf seen src ≡ Whole b n → (ws out : List ℕ) (a : Answer) → MadeIn writes 64200 0 b (take (n - 3) (drop 3 src)) ws₀ out₀ ws out a
+      → SteppedIn writes 0 seen src ws₀ out₀ ws out (step.Made n a)
   unfolding part
   step-made b n e ws out a m = rw e (a, refl, m)

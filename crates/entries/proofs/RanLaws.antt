@@ -11,7 +11,7 @@ use Rattle.journal.specs.Journal.{Entry, Parsed, parse, makes, noBook, endsBad,
 use Rattle.journal.specs.Made.{noticesOf, brnOf}
 use Rattle.entries.specs.declared.run.Ran.{Ran}
 use Rattle.entries.specs.Running.{behind, RanIn}
-use Rattle.entries.proofs.RunLaws.{notices-append}
+use Rattle.entries.proofs.RunNotices.{notices-append}
 
 module _ (seen : ℕ) (writes : Bool) (src ws₀ out₀ ws out : List ℕ) (r : Ran) (w : RanIn seen writes src ws₀ out₀ ws out r) where
   abbrev k : Book
@@ -21,9 +21,9 @@ module _ (seen : ℕ) (writes : Bool) (src ws₀ out₀ ws out : List ℕ) (r : 
   pub ran-split : noticesOf k (parse seen src .entries) ≡ noticesOf k (w .done) ++ noticesOf (book (layout.ledgerOf ws)) (parse (r .seen) (drop (r .used) src) .entries)
   ran-split =
       let rest = parse (r .seen) (drop (r .used) src) .entries in
-      ap (λ (p : Parsed). noticesOf k (p .entries)) (w .parsed)
+      ap (λ (p : Parsed). noticesOf k (p .entries)) (w .made .parsed)
       ∙ notices-append k (w .done) rest
-      ∙ ap (λ (j : Book). noticesOf k (w .done) ++ noticesOf j rest) (sym (w .books))
+      ∙ ap (λ (j : Book). noticesOf k (w .done) ++ noticesOf j rest) (sym (w .made .books))
 
   pub ran-within : r .written ≤ length (noticesOf k (parse seen src .entries))
   ran-within =
@@ -37,7 +37,7 @@ module _ (seen : ℕ) (writes : Bool) (src ws₀ out₀ ws out : List ℕ) (r : 
   -- a run that was not held up made all entries
   module _ (e : r .full ≡ false) where
     all-parsed : parse seen src ≡ behind (w .done) (record { entries = []; stopped = r .stopped; rest = drop (r .used) src })
-    all-parsed = w .parsed ∙ ap (behind (w .done)) (w .left e)
+    all-parsed = w .made .parsed ∙ ap (behind (w .done)) (w .rest .left e)
 
     pub all-done : parse seen src .entries ≡ w .done
     all-done = ap (λ (p : Parsed). p .entries) all-parsed ∙ append-nil (w .done)
@@ -46,10 +46,10 @@ module _ (seen : ℕ) (writes : Bool) (src ws₀ out₀ ws out : List ℕ) (r : 
     all-notices = ap (noticesOf k) (sym all-done)
 
     pub all-books : book (layout.ledgerOf ws) ≡ makes k (parse seen src .entries)
-    all-books = w .books ∙ ap (makes k) (sym all-done)
+    all-books = w .made .books ∙ ap (makes k) (sym all-done)
 
     pub all-count : r .seen ≡ seen + length (parse seen src .entries)
-    all-count = w .count ∙ ap (λ (es : List Entry). seen + length es) (sym all-done)
+    all-count = w .made .count ∙ ap (λ (es : List Entry). seen + length es) (sym all-done)
 
     pub all-stopped : r .stopped ≡ parse seen src .stopped
     all-stopped = sym (ap (λ (p : Parsed). p .stopped) all-parsed)

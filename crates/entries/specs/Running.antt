@@ -12,13 +12,8 @@ use Rattle.ledger.specs.Sound.{soundLedger}
 use Rattle.words.specs.Layout.{ledgerOf}
 use Rattle.group.specs.Turns.{said}
 use Rattle.journal.specs.Journal.{Entry, Parsed, parse, makes}
-use Rattle.journal.specs.Entries.{headOf}
-use Rattle.journal.specs.Made.{madeIn, writtenIn, madeAll, noticesOf}
-use Rattle.journal.specs.declared.Head.{Head}
-use Rattle.journal.specs.declared.Head.the-variants.{Cut, Bad, Whole}
-use Rattle.calls.specs.declared.Answer.{Answer}
-use Rattle.entries.specs.declared.entry.Stepped.{Stepped}
-use Rattle.entries.specs.declared.entry.Stepped.the-variants as step
+use Rattle.journal.specs.Made.{madeAll, noticesOf}
+use Rattle.journal.specs.declared.Body.{Body}
 use Rattle.entries.specs.declared.run.Ran.{Ran}
 
 -- the entries es, and what is parsed behind them
@@ -28,36 +23,36 @@ behind es p = record { entries = es ++ p .entries; stopped = p .stopped; rest = 
 abbrev pub ranTo : ℕ → ℕ → ℕ → Bool → Bool → Ran
 ranTo used seen written full stopped = record { used = used; seen = seen; written = written; full = full; stopped = stopped }
 
--- what stands at the start of src, made: its notices, if such are written, go behind n bytes of the output
-abbrev pub NextOn : Head → Bool → ℕ → List ℕ → List ℕ → List ℕ → List ℕ → List ℕ → Stepped → Type 0
-NextOn Cut writes n src ws₀ out₀ ws out r = (ws ≡ ws₀) × (out ≡ out₀) × (r ≡ step.Cut)
-NextOn Bad writes n src ws₀ out₀ ws out r = (ws ≡ ws₀) × (out ≡ out₀) × (r ≡ step.Bad)
-NextOn (Whole b m) writes n src ws₀ out₀ ws out r =
-    (a : Answer) × (r ≡ step.Made m a) × (soundLedger (ledgerOf ws) ≡ true) × (ledgerOf ws ≡ madeIn 64200 (ledgerOf ws₀) b (part src 3 (m - 3)) .ledger)
-    × (a ≡ madeIn 64200 (ledgerOf ws₀) b (part src 3 (m - 3)) .answer) × (out ≡ put out₀ n (said writes (writtenIn 64200 (ledgerOf ws₀) b (part src 3 (m - 3)))))
+-- the entry of n bytes at the start of src, whose body is b
+abbrev pub entryAt : List ℕ → Body → ℕ → Entry
+entryAt src b n = record { body = b; bytes = part src 3 (n - 3) }
 
-abbrev pub NextIn : Bool → ℕ → ℕ → List ℕ → List ℕ → List ℕ → List ℕ → List ℕ → Stepped → Type 0
-NextIn writes n seen src = NextOn (headOf seen src) writes n src
+-- the entries `done`, the first of src, were made, after so many entries: they have `at` bytes, and `k` entries came by now
+pub record FirstMade (seen : ℕ) (src ws₀ ws : List ℕ) (at k : ℕ) (done : List Entry) : Type 0 where
+  pub sound : soundLedger (ledgerOf ws) ≡ true
+  pub used : at ≤ length src
+  pub parsed : parse seen src ≡ behind done (parse k (drop at src))
+  pub ledger : ledgerOf ws ≡ madeAll (ledgerOf ws₀) done
+  pub books : book (ledgerOf ws) ≡ makes (book (ledgerOf ws₀)) done
+  pub count : k ≡ seen + length done
+
+-- no entry is left unless the output is full, and then no bad one was met
+pub record NoneLeft (src : List ℕ) (r : Ran) : Type 0 where
+  pub left :
+      r .full ≡ false → parse (r .seen) (drop (r .used) src) ≡ record { entries = []; stopped = r .stopped; rest = drop (r .used) src }
+  pub goes : r .full ≡ true → r .stopped ≡ false
 
 -- the first entries of src were made, after so many entries, and their notices, if such are written, stand at the start of the output; none is left unless the
 -- output has no room for another entry's
 pub record RanIn (seen : ℕ) (writes : Bool) (src ws₀ out₀ ws out : List ℕ) (r : Ran) : Type 0 where
-  pub sound : soundLedger (ledgerOf ws) ≡ true
-  pub used : r .used ≤ length src
-  -- the entries that were made
   pub done : List Entry
-  pub parsed : parse seen src ≡ behind done (parse (r .seen) (drop (r .used) src))
-  pub ledger : ledgerOf ws ≡ madeAll (ledgerOf ws₀) done
-  pub books : book (ledgerOf ws) ≡ makes (book (ledgerOf ws₀)) done
-  pub count : r .seen ≡ seen + length done
+  pub made : FirstMade seen src ws₀ ws (r .used) (r .seen) done
   pub kept : length out ≡ length out₀
   pub bytes : out ≡ put out₀ 0 (said writes (noticesOf (book (ledgerOf ws₀)) done))
   pub written : r .written ≡ length (noticesOf (book (ledgerOf ws₀)) done)
   pub within : writes ≡ true → r .written ≤ length out₀
   pub full : r .full ≡ (writes && ltb (length out₀ - r .written) 64200)
-  pub left :
-      r .full ≡ false → parse (r .seen) (drop (r .used) src) ≡ record { entries = []; stopped = r .stopped; rest = drop (r .used) src }
-  pub goes : r .full ≡ true → r .stopped ≡ false
+  pub rest : NoneLeft src r
 
 -- the ledger before the first entry
 abbrev pub firstLedger : Ledger

@@ -30,7 +30,7 @@ pub fn entry(
 ) -> Answer
     requires { ⌜ (soundLedger (ledgerOf (now ws)) ≡ true) × Taken body ⌝ }
     requires { ⌜ (writes ≡ true → room ≤ length (now out)) ⌝ }
-    ensures { λ a. ⌜ MadeIn writes room body (now (s .entry)) (now (ws .entry)) (now (out .entry)) (now (ws .exit)) (now (out .exit)) a ⌝ }
+    ensures { λ a. ⌜ MadeIn writes room 0 body (now (s .entry)) (now (ws .entry)) (now (out .entry)) (now (ws .exit)) (now (out .exit)) a ⌝ }
 {
     match body {
         Body::Request(r) => call::request_in(ws, out, writes, room, r),
@@ -46,7 +46,7 @@ pub fn entry(
 pub fn step(ws: &mut [u64], out: &mut [u8], src: &[u8], seen: u64, writes: bool) -> Stepped
     requires { ⌜ soundLedger (ledgerOf (now ws)) ≡ true ⌝ }
     requires { ⌜ (writes ≡ true → 64200 ≤ length (now out)) ⌝ }
-    ensures { λ r. ⌜ SteppedIn writes seen (now (src .entry)) (now (ws .entry)) (now (out .entry)) (now (ws .exit)) (now (out .exit)) r ⌝ }
+    ensures { λ r. ⌜ SteppedIn writes 0 seen (now (src .entry)) (now (ws .entry)) (now (out .entry)) (now (ws .exit)) (now (out .exit)) r ⌝ }
 {
     let h = journal::head_at(src, seen);
     match h {

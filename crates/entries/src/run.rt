@@ -9,12 +9,13 @@ ghost use Rattle.ledger.specs.Sound.{soundLedger};
 ghost use Rattle.words.specs.Layout.{ledgerOf};
 ghost use Rattle.journal.specs.Journal.{noBook};
 ghost use Rattle.journal.specs.Made.{lengthOf};
-ghost use Rattle.entries.specs.Running.{NextIn, ranTo, RanIn, firstLedger};
+ghost use Rattle.entries.specs.Stepping.{SteppedIn};
+ghost use Rattle.entries.specs.Running.{ranTo, RanIn, firstLedger};
 use crate::entry;
 use crate::entry::Stepped;
 use calls::Answer;
 
-// How many bytes were read, how many entries came by now, how many bytes their notices have, whether the output has no room for another entry's, and
+// How many bytes were read, how many entries came by now, how many bytes stand of them in the output or would, whether the output has no room for another entry's, and
 // whether a bad entry stands there.
 pub struct Ran {
     pub used: usize,
@@ -24,7 +25,8 @@ pub struct Ran {
     pub stopped: bool,
 }
 
-fn ran_to(used: usize, seen: u64, written: usize, full: bool, stopped: bool) -> Ran
+// What a run came to.
+pub fn ran_to(used: usize, seen: u64, written: usize, full: bool, stopped: bool) -> Ran
     ensures { λ r. ⌜ r ≡ ranTo used seen written full stopped ⌝ }
 {
     Ran {
@@ -75,7 +77,7 @@ fn next(
     seen: u64,
 ) -> Stepped
     requires { ⌜ (soundLedger (ledgerOf (now ws)) ≡ true) × (at ≤ length (now src)) × (writes ≡ true → n + 64200 ≤ length (now out)) ⌝ }
-    ensures { λ r. ⌜ NextIn writes n seen (drop at (now (src .entry))) (now (ws .entry)) (now (out .entry)) (now (ws .exit)) (now (out .exit)) r ⌝ }
+    ensures { λ r. ⌜ SteppedIn writes n seen (drop at (now (src .entry))) (now (ws .entry)) (now (out .entry)) (now (ws .exit)) (now (out .exit)) r ⌝ }
 {
     let to = place_for(writes, n);
     entry::step(ws, &mut out[to..], &src[at..], seen, writes)

@@ -1,4 +1,4 @@
--- One entry: what stood there by what a step answered, and the lines that were written of it. Assumes nothing.
+-- One entry: the lines that were written of it, by what its step answered. Assumes nothing.
 use Prim.Native.Nat.{ℕ, _+_, _-_, _/_, _≤_, _<_}
 use mathlib.Core.Path.{_≡_, refl, sym, ap, ap₂, _∙_, subst}
 use mathlib.Core.Bool.{Bool, true, false, _&&_, true≢false, false≢true}
@@ -32,13 +32,15 @@ use Rattle.journal.proofs.HeadLaws.{tagIn, whole-fits, whole-small, whole-holds
 use Rattle.journal.proofs.BeginLaws.{whole-taken}
 use Rattle.entries.specs.declared.entry.Stepped.{Stepped}
 use Rattle.entries.specs.declared.entry.Stepped.the-variants as step
-use Rattle.entries.specs.Stepping.{MadeIn, StepOn, SteppedIn}
+use Rattle.entries.specs.Stepping.{SteppedIn}
+use Rattle.entries.specs.Running.{entryAt}
+use Rattle.entries.proofs.StoodLaws.{stood-whole, stood-cut, stood-bad}
 use Rattle.trace_lines.specs.Lines.{tagOf, callLine, groupLines}
 use Rattle.trace_lines.specs.Read.{Lined}
 use Rattle.trace_lines.specs.Trace.{answerTo, entryAnswer, linesUnder, entryLines}
 use Rattle.trace_lines.proofs.TraceLaws.{answer-in, Carried, file-done, file-refused, tag-is, put-begins}
 use Rattle.tracing.specs.declared.Traced.the-variants as traced
-use Rattle.tracing.specs.Tracing.{isDone, entryAt, LinesOf, EntryMade, EntryOn, EntryIn}
+use Rattle.tracing.specs.Tracing.{isDone, LinesOf, EntryMade, EntryOn, EntryIn}
 
 -- ---- the lines under an entry's line
 module _ (k : Book) (bytes : List ℕ) where
@@ -158,60 +160,25 @@ module _ (number : ℕ) (src : List ℕ) (n : ℕ) (a : Answer) (sent out₀ : L
         within = s;
       }
 
--- ---- what stood there, by what a step answered
-module _ (seen : ℕ) (src ws₀ o₀ ws o : List ℕ) (r : Stepped) (x : SteppedIn true seen src ws₀ o₀ ws o r) where
-  abbrev Was : ℕ → Answer → Type 0
-  Was m a = (b : Body) × (headOf seen src ≡ Whole b m) × MadeIn true 64200 b (part src 3 (m - 3)) ws₀ o₀ ws o a
-
-  was-made : (m : ℕ) (a : Answer) → r ≡ step.Made m a → Was m a
-  was-made m a q = go (headOf seen src) refl x
-    where
-      go : (h : Head) → headOf seen src ≡ h → StepOn h true src ws₀ o₀ ws o r → Was m a
-      go Cut e w = let p : step.Cut ≡ step.Made m a = sym (w .2) ∙ q in let z : _≡_ {A = ℕ} 0 1 = cc in absurd (omega arith)
-      go Bad e w = let p : step.Bad ≡ step.Made m a = sym (w .2) ∙ q in let z : _≡_ {A = ℕ} 0 1 = cc in absurd (omega arith)
-      go (Whole b k) e w =
-          let p : step.Made k (w .0) ≡ step.Made m a = sym (w .1) ∙ q in
-          let z : k ≡ m = cc in
-          let y : w .0 ≡ a = cc in (
-            b,
-            e ∙ ap (λ (i : ℕ). Whole b i) z,
-            subst (λ (i : ℕ). MadeIn true 64200 b (part src 3 (i - 3)) ws₀ o₀ ws o a) z
-                (subst (λ (v : Answer). MadeIn true 64200 b (part src 3 (k - 3)) ws₀ o₀ ws o v) y (w .2)),
-          )
-
+-- ---- what an entry's turn came to, by what its step answered
+module _ (seen : ℕ) (src ws₀ o₀ ws o : List ℕ) (r : Stepped) (x : SteppedIn true 0 seen src ws₀ o₀ ws o r) where
   pub was-fits : (m : ℕ) (a : Answer) → r ≡ step.Made m a → (3 ≤ m) × (m ≤ length src) × (m ≤ 64203) × (seen < 1000000000)
   was-fits m a q =
-      let w = was-made m a q in
+      let w = stood-whole true 0 seen src ws₀ o₀ ws o r x m a q in
       let f = whole-fits seen src (w .0) m (w .1) in
       (f .0, f .1, omega (arith, f .0, whole-small seen src (w .0) m (w .1)), f .2)
 
-  was-cut : r ≡ step.Cut → (headOf seen src ≡ Cut) × (ws ≡ ws₀)
-  was-cut q = go (headOf seen src) refl x
-    where
-      go : (h : Head) → headOf seen src ≡ h → StepOn h true src ws₀ o₀ ws o r → (headOf seen src ≡ Cut) × (ws ≡ ws₀)
-      go Cut e w = (e, w .0)
-      go Bad e w = let p : step.Bad ≡ step.Cut = sym (w .2) ∙ q in let z : _≡_ {A = ℕ} 0 1 = cc in absurd (omega arith)
-      go (Whole b k) e w = let p : step.Made k (w .0) ≡ step.Cut = sym (w .1) ∙ q in let z : _≡_ {A = ℕ} 0 1 = cc in absurd (omega arith)
-
-  was-bad : r ≡ step.Bad → (headOf seen src ≡ Bad) × (ws ≡ ws₀)
-  was-bad q = go (headOf seen src) refl x
-    where
-      go : (h : Head) → headOf seen src ≡ h → StepOn h true src ws₀ o₀ ws o r → (headOf seen src ≡ Bad) × (ws ≡ ws₀)
-      go Cut e w = let p : step.Cut ≡ step.Bad = sym (w .2) ∙ q in let z : _≡_ {A = ℕ} 0 1 = cc in absurd (omega arith)
-      go Bad e w = (e, w .0)
-      go (Whole b k) e w = let p : step.Made k (w .0) ≡ step.Bad = sym (w .1) ∙ q in let z : _≡_ {A = ℕ} 0 1 = cc in absurd (omega arith)
-
   module _ (at : ℕ) (out₀ : List ℕ) where
     pub entry-cut : r ≡ step.Cut → EntryIn seen src at ws₀ out₀ ws out₀ traced.Cut
-    entry-cut q = let w = was-cut q in rw (w .0) (w .1, refl, refl)
+    entry-cut q = let w = stood-cut true 0 seen src ws₀ o₀ ws o r x q in rw (w .0) (w .1, refl, refl)
 
     pub entry-bad : r ≡ step.Bad → EntryIn seen src at ws₀ out₀ ws out₀ traced.Bad
-    entry-bad q = let w = was-bad q in rw (w .0) (w .1, refl, refl)
+    entry-bad q = let w = stood-bad true 0 seen src ws₀ o₀ ws o r x q in rw (w .0) (w .1, refl, refl)
 
     pub entry-made : soundLedger (ledgerOf ws₀) ≡ true → (m : ℕ) (a : Answer) → r ≡ step.Made m a → (out : List ℕ) (end : ℕ)
         → LinesOf (seen + 1) src m a o out₀ at out end → EntryIn seen src at ws₀ out₀ ws out (traced.Made m end)
     entry-made h m a q out end p =
-        let w = was-made m a q in
+        let w = stood-whole true 0 seen src ws₀ o₀ ws o r x m a q in
         let y = w .2 in
         let s : List ℕ = writtenIn 64200 (ledgerOf ws₀) (w .0) (part src 3 (m - 3)) in
         let g = p .lines seen (ledgerOf ws₀) (w .0) (drop (0 + length s) o₀) (w .1) h (y .answer) (y .bytes ∙ put-begins o₀ s) in

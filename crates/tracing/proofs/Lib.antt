@@ -1,3 +1,3 @@
 -- Laws that belong to no one function.
 pub mod EntryLines
-pub mod RunLaws
+pub mod RunLines

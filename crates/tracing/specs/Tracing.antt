@@ -2,9 +2,9 @@
 use Prim.Native.Nat.{ℕ, _+_, _-_, _≤_}
 use mathlib.Core.Path.{_≡_}
 use mathlib.Core.Bool.{Bool, true, false}
-use mathlib.Core.List.{List, [], _++_}
+use mathlib.Core.List.{List, _++_}
 use lib.Dec.{ltb}
-use lib.ListN.{length, drop}
+use lib.ListN.{length}
 use Rattle.fields.specs.Put.{put, part}
 use Rattle.ledger.specs.declared.Ledger.{Ledger}
 use Rattle.ledger.specs.Books.{book}
@@ -16,11 +16,11 @@ use Rattle.journal.specs.declared.Body.{Body}
 use Rattle.journal.specs.declared.Head.{Head}
 use Rattle.journal.specs.declared.Head.the-variants.{Cut, Bad, Whole}
 use Rattle.journal.specs.Entries.{headOf}
-use Rattle.journal.specs.Journal.{Entry, parse, makes}
-use Rattle.journal.specs.Made.{madeIn, writtenIn, madeAll}
-use Rattle.entries.specs.Running.{behind}
+use Rattle.journal.specs.Journal.{Entry}
+use Rattle.journal.specs.Made.{madeIn, writtenIn}
+use Rattle.entries.specs.declared.run.Ran.{Ran}
+use Rattle.entries.specs.Running.{entryAt, FirstMade, NoneLeft}
 use Rattle.trace_lines.specs.Trace.{entryLines, traceLines}
-use Rattle.tracing.specs.declared.Ran.{Ran}
 use Rattle.tracing.specs.declared.Traced.{Traced}
 use Rattle.tracing.specs.declared.Traced.the-variants as traced
 
@@ -28,10 +28,6 @@ use Rattle.tracing.specs.declared.Traced.the-variants as traced
 abbrev pub isDone : Answer → Bool
 isDone (Done r) = true
 isDone (Refused n) = false
-
--- the entry of n bytes at the start of src, whose body is b
-abbrev pub entryAt : List ℕ → Body → ℕ → Entry
-entryAt src b n = record { body = b; bytes = part src 3 (n - 3) }
 
 -- an entry's line has at most 52 bytes, and each line of its at most 200 groups at most 43
 abbrev pub entryRoom : ℕ
@@ -67,14 +63,8 @@ EntryIn seen src = EntryOn (headOf seen src) seen src
 -- the first entries of src were made, after so many entries: they have `at` bytes, `k` entries came by now, and their lines stand at the start of the
 -- output, `n` bytes
 pub record Traces (seen : ℕ) (src ws₀ out₀ ws out : List ℕ) (at k n : ℕ) : Type 0 where
-  pub sound : soundLedger (ledgerOf ws) ≡ true
-  pub used : at ≤ length src
-  -- the entries that were made
   pub done : List Entry
-  pub parsed : parse seen src ≡ behind done (parse k (drop at src))
-  pub ledger : ledgerOf ws ≡ madeAll (ledgerOf ws₀) done
-  pub books : book (ledgerOf ws) ≡ makes (book (ledgerOf ws₀)) done
-  pub count : k ≡ seen + length done
+  pub made : FirstMade seen src ws₀ ws at k done
   pub kept : length out ≡ length out₀
   pub bytes : out ≡ put out₀ 0 (traceLines (seen + 1) (book (ledgerOf ws₀)) done)
   pub written : n ≡ length (traceLines (seen + 1) (book (ledgerOf ws₀)) done)
@@ -82,8 +72,6 @@ pub record Traces (seen : ℕ) (src ws₀ out₀ ws out : List ℕ) (at k n : �
 
 -- and none is left unless the output has no room for another entry's lines
 pub record TracesIn (seen : ℕ) (src ws₀ out₀ ws out : List ℕ) (r : Ran) : Type 0 where
-  pub made : Traces seen src ws₀ out₀ ws out (r .used) (r .seen) (r .written)
+  pub traces : Traces seen src ws₀ out₀ ws out (r .used) (r .seen) (r .written)
   pub full : r .full ≡ ltb (length out₀ - r .written) entryRoom
-  pub left :
-      r .full ≡ false → parse (r .seen) (drop (r .used) src) ≡ record { entries = []; stopped = r .stopped; rest = drop (r .used) src }
-  pub goes : r .full ≡ true → r .stopped ≡ false
+  pub rest : NoneLeft src r

@@ -8,6 +8,7 @@ ghost use Rattle.words.specs.Layout.{ledgerOf};
 ghost use Rattle.tracing.specs.Tracing.{isDone, LinesOf, EntryIn, TracesIn};
 use calls::Answer;
 use entries::entry::Stepped;
+use entries::run::Ran;
 
 // Whether a call was carried out.
 fn is_done(a: Answer) -> bool
@@ -73,16 +74,6 @@ fn entry(
     }
 }
 
-// How many bytes were read, how many entries came by now, how many bytes their lines have, whether the output has no room for another entry's, and
-// whether a bad entry stands there.
-pub struct Ran {
-    pub used: usize,
-    pub seen: u64,
-    pub written: usize,
-    pub full: bool,
-    pub stopped: bool,
-}
-
 // Makes the entries at the start of src, after so many entries, and writes their lines, as long as the output has room for another entry's.
 pub fn run(ws: &mut [u64], sent: &mut [u8], out: &mut [u8], src: &[u8], seen: u64) -> Ran
     requires { ⌜ (soundLedger (ledgerOf (now ws)) ≡ true) × (64200 ≤ length (now sent)) ⌝ }
@@ -95,22 +86,10 @@ pub fn run(ws: &mut [u64], sent: &mut [u8], out: &mut [u8], src: &[u8], seen: u6
         let r = entry(ws, sent, out, n, &src[used..], k);
         match r {
             Traced::Cut => {
-                return Ran {
-                    used,
-                    seen: k,
-                    written: n,
-                    full: false,
-                    stopped: false,
-                };
+                return entries::run::ran_to(used, k, n, false, false);
             }
             Traced::Bad => {
-                return Ran {
-                    used,
-                    seen: k,
-                    written: n,
-                    full: false,
-                    stopped: true,
-                };
+                return entries::run::ran_to(used, k, n, false, true);
             }
             Traced::Made(m, end) => {
                 used += m;
@@ -119,11 +98,5 @@ pub fn run(ws: &mut [u64], sent: &mut [u8], out: &mut [u8], src: &[u8], seen: u6
             }
         }
     }
-    Ran {
-        used,
-        seen: k,
-        written: n,
-        full: true,
-        stopped: false,
-    }
+    entries::run::ran_to(used, k, n, true, false)
 }

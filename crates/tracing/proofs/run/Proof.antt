@@ -6,7 +6,7 @@ use mathlib.Core.Path.{_≡_, refl, _∙_}
 use mathlib.Core.List.{List}
 use lib.ListN.{length}
 use Rattle.tracing.specs.Tracing.{Traces}
-use Rattle.tracing.proofs.RunLaws.{traces-start, traces-cut, traces-bad, traces-full, traces-fits, traces-on}
+use Rattle.tracing.proofs.RunLines.{traces-start, traces-cut, traces-bad, traces-full, traces-fits, traces-on}
 use Rattle.tracing.proofs.run.Statement.{statement}
 use Rattle.tracing.proofs.run.Tie as tie
 
@@ -26,49 +26,61 @@ loop-holds : tie.Need-loop-holds Inv-loop μ-loop
 loop-holds c = record { traces = traces-start _ _ _ _ (c .before .before .before .before .pre .0); words = refl; room = refl; lent = c .before .before .before .before .pre .1 }
 
 sub-loop : tie.Need-sub-loop Inv-loop μ-loop
-sub-loop c = omega (arith, c .loop .inv .traces .used, c .loop .inv .traces .within, c .loop .inv .traces .kept)
+sub-loop c = omega (arith, c .loop .inv .traces .made .used, c .loop .inv .traces .within, c .loop .inv .traces .kept)
 
 sub-entry : tie.Need-sub-entry Inv-loop μ-loop
-sub-entry c = omega (arith, c .before .before .before .before .loop .inv .traces .used, c .before .before .before .before .loop .inv .traces .within, c .before .before .before .before .loop .inv .traces .kept)
+sub-entry c = omega (arith, c .before .before .before .before .loop .inv .traces .made .used, c .before .before .before .before .loop .inv .traces .within, c .before .before .before .before .loop .inv .traces .kept)
 
 part-entry-start : tie.Need-part-entry-start Inv-loop μ-loop
-part-entry-start c = omega (arith, c .before .before .before .before .loop .inv .traces .used, c .before .before .before .before .loop .inv .traces .within, c .before .before .before .before .loop .inv .traces .kept)
+part-entry-start c = omega (arith, c .before .before .before .before .loop .inv .traces .made .used, c .before .before .before .before .loop .inv .traces .within, c .before .before .before .before .loop .inv .traces .kept)
 
 part-entry-end : tie.Need-part-entry-end Inv-loop μ-loop
-part-entry-end c = omega (arith, c .before .before .before .before .loop .inv .traces .used, c .before .before .before .before .loop .inv .traces .within, c .before .before .before .before .loop .inv .traces .kept)
+part-entry-end c = omega (arith, c .before .before .before .before .loop .inv .traces .made .used, c .before .before .before .before .loop .inv .traces .within, c .before .before .before .before .loop .inv .traces .kept)
 
 entry-requires : tie.Need-entry-requires Inv-loop μ-loop
-entry-requires c κs = (c .before .before .before .before .before .loop .inv .traces .sound, c .before .before .before .before .before .loop .inv .lent, omega (arith, c .before .before .before .before .loop-test .taken, c .before .before .before .before .before .loop .inv .traces .within, c .before .before .before .before .before .loop .inv .traces .kept))
+entry-requires c κs = (c .before .before .before .before .before .loop .inv .traces .made .sound, c .before .before .before .before .before .loop .inv .lent, omega (arith, c .before .before .before .before .loop-test .taken, c .before .before .before .before .before .loop .inv .traces .within, c .before .before .before .before .before .loop .inv .traces .kept))
 
 enum-told : tie.Need-enum-told Inv-loop μ-loop
 enum-told c = search needs
 
+ran-to-requires : tie.Need-ran-to-requires Inv-loop μ-loop
+ran-to-requires c κs = search needs
+
 same-length : tie.Need-same-length Inv-loop μ-loop
-same-length c = c .before .before .before .before .before .before .before .before .entry .kept .0 ∙ c .before .before .before .before .before .before .before .before .before .before .before .before .before .before .loop .inv .words
+same-length c = c .before .before .before .before .before .before .before .before .before .entry .kept .0 ∙ c .before .before .before .before .before .before .before .before .before .before .before .before .before .before .before .loop .inv .words
 
 same-length-2 : tie.Need-same-length-2 Inv-loop μ-loop
-same-length-2 c = c .before .before .before .before .before .before .before .before .entry .kept .1 .0 ∙ c .before .before .before .before .before .before .before .before .before .before .before .before .before .before .loop .inv .room
+same-length-2 c = c .before .before .before .before .before .before .before .before .before .entry .kept .1 .0 ∙ c .before .before .before .before .before .before .before .before .before .before .before .before .before .before .before .loop .inv .room
 
 same-length-3 : tie.Need-same-length-3 Inv-loop μ-loop
-same-length-3 c = c .before .before .before .before .before .before .before .before .entry .kept .1 .1 .0 ∙ c .before .before .before .before .before .before .before .before .before .before .before .before .before .before .loop .inv .traces .kept
+same-length-3 c = c .before .before .before .before .before .before .before .before .before .entry .kept .1 .1 .0 ∙ c .before .before .before .before .before .before .before .before .before .before .before .before .before .before .before .loop .inv .traces .kept
 
 returns : tie.Need-returns Inv-loop μ-loop
-returns c = traces-cut _ _ _ _ _ _ _ _ _ (c .before .before .before .before .before .before .before .before .before .before .before .before .before .before .loop .inv .traces) (omega (arith, c .before .before .before .before .before .before .before .before .before .before .before .before .before .loop-test .taken)) _ _ _ (c .before .before .before .before .before .before .before .before .entry .ensures) (c .enum-told .given .1)
+returns c =
+    let l = c .before .before .before .before .before .before .before .before .before .before .before .before .before .before .before .loop .inv .traces in
+    let t = c .before .before .before .before .before .before .before .before .before .before .before .before .before .before .loop-test .taken in
+    rw (c .ran-to .ensures) (traces-cut _ _ _ _ _ _ _ _ _ l (omega (arith, t)) _ _ _ (c .before .before .before .before .before .before .before .before .before .entry .ensures) (c .before .enum-told .given .1))
 
 enum-told-2 : tie.Need-enum-told-2 Inv-loop μ-loop
 enum-told-2 c = search needs
 
+ran-to-requires-2 : tie.Need-ran-to-requires-2 Inv-loop μ-loop
+ran-to-requires-2 c κs = search needs
+
 same-length-4 : tie.Need-same-length-4 Inv-loop μ-loop
-same-length-4 c = c .before .before .before .before .before .before .before .before .entry .kept .0 ∙ c .before .before .before .before .before .before .before .before .before .before .before .before .before .before .loop .inv .words
+same-length-4 c = c .before .before .before .before .before .before .before .before .before .entry .kept .0 ∙ c .before .before .before .before .before .before .before .before .before .before .before .before .before .before .before .loop .inv .words
 
 same-length-5 : tie.Need-same-length-5 Inv-loop μ-loop
-same-length-5 c = c .before .before .before .before .before .before .before .before .entry .kept .1 .0 ∙ c .before .before .before .before .before .before .before .before .before .before .before .before .before .before .loop .inv .room
+same-length-5 c = c .before .before .before .before .before .before .before .before .before .entry .kept .1 .0 ∙ c .before .before .before .before .before .before .before .before .before .before .before .before .before .before .before .loop .inv .room
 
 same-length-6 : tie.Need-same-length-6 Inv-loop μ-loop
-same-length-6 c = c .before .before .before .before .before .before .before .before .entry .kept .1 .1 .0 ∙ c .before .before .before .before .before .before .before .before .before .before .before .before .before .before .loop .inv .traces .kept
+same-length-6 c = c .before .before .before .before .before .before .before .before .before .entry .kept .1 .1 .0 ∙ c .before .before .before .before .before .before .before .before .before .before .before .before .before .before .before .loop .inv .traces .kept
 
 returns-2 : tie.Need-returns-2 Inv-loop μ-loop
-returns-2 c = traces-bad _ _ _ _ _ _ _ _ _ (c .before .before .before .before .before .before .before .before .before .before .before .before .before .before .loop .inv .traces) (omega (arith, c .before .before .before .before .before .before .before .before .before .before .before .before .before .loop-test .taken)) _ _ _ (c .before .before .before .before .before .before .before .before .entry .ensures) (c .enum-told2 .given .1)
+returns-2 c =
+    let l = c .before .before .before .before .before .before .before .before .before .before .before .before .before .before .before .loop .inv .traces in
+    let t = c .before .before .before .before .before .before .before .before .before .before .before .before .before .before .loop-test .taken in
+    rw (c .ran-to2 .ensures) (traces-bad _ _ _ _ _ _ _ _ _ l (omega (arith, t)) _ _ _ (c .before .before .before .before .before .before .before .before .before .entry .ensures) (c .before .enum-told2 .given .1))
 
 enum-known-r : tie.Need-enum-known-r Inv-loop μ-loop
 enum-known-r c = search needs
@@ -85,17 +97,20 @@ loop-less c = let x = traces-fits _ _ _ _ _ _ _ _ _ (c .before .before .before .
 loop-again : tie.Need-loop-again Inv-loop μ-loop
 loop-again c = record { traces = traces-on _ _ _ _ _ _ _ _ _ (c .before .before .before .before .before .before .before .before .before .before .before .before .before .before .before .loop .inv .traces) (omega (arith, c .before .before .before .before .before .before .before .before .before .before .before .before .before .before .loop-test .taken)) _ _ _ (c .before .before .before .before .before .before .before .before .before .entry .ensures) _ _ (c .before .r .given .1) (c .before .before .before .before .before .before .before .before .before .entry .kept .1 .1 .0); words = c .before .before .before .before .before .before .before .before .before .entry .kept .0 ∙ c .before .before .before .before .before .before .before .before .before .before .before .before .before .before .before .loop .inv .words; room = c .before .before .before .before .before .before .before .before .before .entry .kept .1 .0 ∙ c .before .before .before .before .before .before .before .before .before .before .before .before .before .before .before .loop .inv .room; lent = omega (arith, c .before .before .before .before .before .before .before .before .before .entry .kept .1 .0, c .before .before .before .before .before .before .before .before .before .before .before .before .before .before .before .loop .inv .lent) }
 
+ran-to-requires-3 : tie.Need-ran-to-requires-3 Inv-loop μ-loop
+ran-to-requires-3 c κs = search needs
+
 same-length-7 : tie.Need-same-length-7 Inv-loop μ-loop
-same-length-7 c = c .before .loop .inv .words
+same-length-7 c = c .before .before .loop .inv .words
 
 same-length-8 : tie.Need-same-length-8 Inv-loop μ-loop
-same-length-8 c = c .before .loop .inv .room
+same-length-8 c = c .before .before .loop .inv .room
 
 same-length-9 : tie.Need-same-length-9 Inv-loop μ-loop
-same-length-9 c = c .before .loop .inv .traces .kept
+same-length-9 c = c .before .before .loop .inv .traces .kept
 
 returns-3 : tie.Need-returns-3 Inv-loop μ-loop
-returns-3 c = traces-full _ _ _ _ _ _ _ _ _ (c .before .loop .inv .traces) (omega (arith, c .loop-test .left))
+returns-3 c = rw (c .ran-to3 .ensures) (traces-full _ _ _ _ _ _ _ _ _ (c .before .before .loop .inv .traces) (omega (arith, c .before .loop-test .left)))
 
 pub run-spec : {M : Type 1} → statement M
 run-spec =
@@ -110,11 +125,13 @@ run-spec =
     part-entry-end
     entry-requires
     enum-told
+    ran-to-requires
     same-length
     same-length-2
     same-length-3
     returns
     enum-told-2
+    ran-to-requires-2
     same-length-4
     same-length-5
     same-length-6
@@ -124,6 +141,7 @@ run-spec =
     add-k
     loop-less
     loop-again
+    ran-to-requires-3
     same-length-7
     same-length-8
     same-length-9

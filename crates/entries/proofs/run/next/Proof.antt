@@ -4,7 +4,7 @@ use Prim.Native.Nat.{_-_}
 use mathlib.Core.Path.{ap}
 use lib.ListN.{length, drop, length-drop}
 use lib.Seq.{take-all}
-use Rattle.entries.proofs.RunLaws.{to-within, lent-room, next-in}
+use Rattle.entries.proofs.RunNotices.{to-within, lent-room, next-in}
 use borrow.Author.Needs.{needs}
 use Rattle.entries.proofs.run.next.Statement.{statement}
 use Rattle.entries.proofs.run.next.Tie as tie

@@ -6,7 +6,7 @@ use Prim.Native.Nat.{_-_}
 use mathlib.Core.Path.{sym, ap, _∙_}
 use native.Mathlib.Omega.{arith}
 use lib.ListN.{length}
-use Rattle.entries.proofs.RunLaws.{Running, running-start, running-len, running-room, ran-cut, ran-bad, ran-full, ran-fits, ran-on}
+use Rattle.entries.proofs.RunNotices.{Running, running-start, running-len, running-room, ran-cut, ran-bad, ran-full, ran-fits, ran-on}
 use Rattle.entries.proofs.run.run.Statement.{statement}
 use Rattle.entries.proofs.run.run.Tie as tie
 
@@ -23,7 +23,7 @@ is-full-requires : tie.Need-is-full-requires Inv-loop μ-loop
 is-full-requires c κs = running-len _ _ _ _ _ _ _ _ _ _ (c .loop .inv)
 
 next-requires : tie.Need-next-requires Inv-loop μ-loop
-next-requires c κs = (c .before .before .before .before .loop .inv .sure, c .before .before .before .before .loop .inv .within, running-room _ _ _ _ _ _ _ _ _ _ (c .before .before .before .before .loop .inv) (sym (c .before .before .before .is-full .ensures) ∙ not-true _ (c .before .before .if1 .taken)))
+next-requires c κs = (c .before .before .before .before .loop .inv .made .sound, c .before .before .before .before .loop .inv .made .used, running-room _ _ _ _ _ _ _ _ _ _ (c .before .before .before .before .loop .inv) (sym (c .before .before .before .is-full .ensures) ∙ not-true _ (c .before .before .if1 .taken)))
 
 enum-told : tie.Need-enum-told Inv-loop μ-loop
 enum-told c = search needs
@@ -32,7 +32,7 @@ ran-to-requires : tie.Need-ran-to-requires Inv-loop μ-loop
 ran-to-requires c κs = search needs
 
 same-length : tie.Need-same-length Inv-loop μ-loop
-same-length c = omega (arith, words-long _ (sound-holds _ (ran-cut _ _ _ _ _ _ _ _ _ _ (c .before .before .before .before .before .before .before .before .before .before .before .before .loop .inv) _ _ _ (c .before .before .before .before .before .before .before .next .ensures) (sym (c .before .before .before .before .before .before .before .before .before .before .before .is-full .ensures) ∙ not-true _ (c .before .before .before .before .before .before .before .before .before .before .if1 .taken)) (c .before .enum-told .given .1) .sound)), words-long _ (sound-holds _ (c .before .before .before .before .before .before .before .before .before .before .before .before .before .before .before .before .pre)))
+same-length c = omega (arith, words-long _ (sound-holds _ (ran-cut _ _ _ _ _ _ _ _ _ _ (c .before .before .before .before .before .before .before .before .before .before .before .before .loop .inv) _ _ _ (c .before .before .before .before .before .before .before .next .ensures) (sym (c .before .before .before .before .before .before .before .before .before .before .before .is-full .ensures) ∙ not-true _ (c .before .before .before .before .before .before .before .before .before .before .if1 .taken)) (c .before .enum-told .given .1) .made .sound)), words-long _ (sound-holds _ (c .before .before .before .before .before .before .before .before .before .before .before .before .before .before .before .before .pre)))
 
 same-length-2 : tie.Need-same-length-2 Inv-loop μ-loop
 same-length-2 c = search needs
@@ -47,7 +47,7 @@ ran-to-requires-2 : tie.Need-ran-to-requires-2 Inv-loop μ-loop
 ran-to-requires-2 c κs = search needs
 
 same-length-3 : tie.Need-same-length-3 Inv-loop μ-loop
-same-length-3 c = omega (arith, words-long _ (sound-holds _ (ran-bad _ _ _ _ _ _ _ _ _ _ (c .before .before .before .before .before .before .before .before .before .before .before .before .loop .inv) _ _ _ (c .before .before .before .before .before .before .before .next .ensures) (sym (c .before .before .before .before .before .before .before .before .before .before .before .is-full .ensures) ∙ not-true _ (c .before .before .before .before .before .before .before .before .before .before .if1 .taken)) (c .before .enum-told2 .given .1) .sound)), words-long _ (sound-holds _ (c .before .before .before .before .before .before .before .before .before .before .before .before .before .before .before .before .pre)))
+same-length-3 c = omega (arith, words-long _ (sound-holds _ (ran-bad _ _ _ _ _ _ _ _ _ _ (c .before .before .before .before .before .before .before .before .before .before .before .before .loop .inv) _ _ _ (c .before .before .before .before .before .before .before .next .ensures) (sym (c .before .before .before .before .before .before .before .before .before .before .before .is-full .ensures) ∙ not-true _ (c .before .before .before .before .before .before .before .before .before .before .if1 .taken)) (c .before .enum-told2 .given .1) .made .sound)), words-long _ (sound-holds _ (c .before .before .before .before .before .before .before .before .before .before .before .before .before .before .before .before .pre)))
 
 same-length-4 : tie.Need-same-length-4 Inv-loop μ-loop
 same-length-4 c = search needs
@@ -80,7 +80,7 @@ ran-to-requires-3 : tie.Need-ran-to-requires-3 Inv-loop μ-loop
 ran-to-requires-3 c κs = search needs
 
 same-length-5 : tie.Need-same-length-5 Inv-loop μ-loop
-same-length-5 c = omega (arith, words-long _ (sound-holds _ (c .before .before .before .loop .inv .sure)), words-long _ (sound-holds _ (c .before .before .before .before .before .before .before .pre)))
+same-length-5 c = omega (arith, words-long _ (sound-holds _ (c .before .before .before .loop .inv .made .sound)), words-long _ (sound-holds _ (c .before .before .before .before .before .before .before .pre)))
 
 same-length-6 : tie.Need-same-length-6 Inv-loop μ-loop
 same-length-6 c = search needs

@@ -1,4 +1,4 @@
--- The loop over the entries at the start of some bytes. Assumes nothing.
+-- The loop over the entries at the start of some bytes that writes their lines. Assumes nothing.
 use Prim.Native.Nat.{ℕ, suc, _+_, _-_, _≤_, _<_}
 use mathlib.Core.Path.{_≡_, refl, sym, ap, ap₂, _∙_, subst}
 use mathlib.Core.Bool.{Bool, true, false, true≢false, false≢true}
@@ -24,18 +24,14 @@ use Rattle.journal.proofs.HeadLaws.{whole-fits}
 use Rattle.journal.proofs.JournalLaws.{parse-cut, parse-bad, parse-whole}
 use Rattle.journal.proofs.BeginLaws.{whole-taken, makes-append}
 use Rattle.journal.proofs.MadeLaws.{made-book}
-use Rattle.entries.specs.Running.{behind}
+use Rattle.entries.specs.Running.{entryAt, ranTo, FirstMade}
+use Rattle.entries.proofs.FirstMadeLaws.{first-none, left-full, left-none, next-fits, first-more}
 use Rattle.trace_lines.specs.Trace.{entryLines, traceLines}
 use Rattle.tracing.specs.declared.Traced.{Traced}
 use Rattle.tracing.specs.declared.Traced.the-variants as traced
-use Rattle.tracing.specs.Tracing.{entryAt, entryRoom, EntryMade, EntryOn, EntryIn, Traces, TracesIn}
+use Rattle.tracing.specs.Tracing.{entryRoom, EntryMade, EntryOn, EntryIn, Traces, TracesIn}
 
 -- ---- entries one after another
-made-append : (l : Ledger) (es fs : List Entry) → madeAll l (es ++ fs) ≡ madeAll (madeAll l es) fs
-unfolding madeAll
-made-append l [] fs = refl
-made-append l (e ∷ es) fs = made-append (madeIn 64200 l (e .body) (e .bytes) .ledger) es fs
-
 pub lines-append : (number : ℕ) (k : Book) (es fs : List Entry)
     → traceLines number k (es ++ fs) ≡ traceLines number k es ++ traceLines (number + length es) (makes k es) fs
 unfolding traceLines makes
@@ -52,21 +48,9 @@ pub rest-is : (src : List ℕ) (at : ℕ) → take (length src - at) (drop at sr
 rest-is src at = take-all (length src - at) (drop at src) (omega (arith, length-drop at src))
 
 pub traces-start : (seen : ℕ) (src ws out : List ℕ) → soundLedger (ledgerOf ws) ≡ true → Traces seen src ws out ws out 0 seen 0
-unfolding madeAll makes traceLines
+unfolding traceLines
 traces-start seen src ws out h =
-    record {
-      sound = h;
-      used = omega arith;
-      done = [];
-      parsed = refl;
-      ledger = refl;
-      books = refl;
-      count = sym (add-zero seen);
-      kept = refl;
-      bytes = put-nil out 0;
-      written = refl;
-      within = omega arith;
-    }
+    record { done = []; made = first-none seen src ws h; kept = refl; bytes = put-nil out 0; written = refl; within = omega arith }
 
 -- ---- what stood there, by what an entry's turn answered
 module _ (k : ℕ) (s : List ℕ) (n : ℕ) (ws out ws′ out′ : List ℕ) (r : Traced) (x : EntryIn k s n ws out ws′ out′ r) where
@@ -110,36 +94,22 @@ module _ (k : ℕ) (s : List ℕ) (n : ℕ) (ws out ws′ out′ : List ℕ) (r 
 
 -- ---- one entry more
 module _ (seen : ℕ) (src ws₀ out₀ ws out : List ℕ) (at k n : ℕ) (w : Traces seen src ws₀ out₀ ws out at k n) where
-  pub traces-full : length out - n < 8652 → TracesIn seen src ws₀ out₀ ws out (record { used = at; seen = k; written = n; full = true; stopped = false })
-  traces-full f =
-      record {
-        made = w;
-        full = sym (lt-ltb (length out₀ - n) 8652 (omega (arith, w .kept)));
-        left = λ z. absurd (true≢false z);
-        goes = λ z. refl;
-      }
+  pub traces-full : length out - n < 8652 → TracesIn seen src ws₀ out₀ ws out (ranTo at k n true false)
+  traces-full f = record { traces = w; full = sym (lt-ltb (length out₀ - n) 8652 (omega (arith, w .kept))); rest = left-full src at k n }
 
   ended : (bad : Bool) → 8652 ≤ length out - n → parse k (drop at src) ≡ record { entries = []; stopped = bad; rest = drop at src }
-      → TracesIn seen src ws₀ out₀ ws out (record { used = at; seen = k; written = n; full = false; stopped = bad })
-  ended bad f e =
-      record {
-        made = w;
-        full = sym (le-ltb (length out₀ - n) 8652 (omega (arith, w .kept)));
-        left = λ z. e;
-        goes = λ z. absurd (false≢true z);
-      }
+      → TracesIn seen src ws₀ out₀ ws out (ranTo at k n false bad)
+  ended bad f e = record { traces = w; full = sym (le-ltb (length out₀ - n) 8652 (omega (arith, w .kept))); rest = left-none src at k n bad e }
 
   module _ (room : 8652 ≤ length out - n) (ws′ out′ : List ℕ) (r : Traced)
       (y : EntryIn k (take (length src - at) (drop at src)) n ws out ws′ out′ r) where
     turn : EntryIn k (drop at src) n ws out ws′ out′ r
     turn = subst (λ (s : List ℕ). EntryIn k s n ws out ws′ out′ r) (rest-is src at) y
 
-    pub traces-cut : r ≡ traced.Cut
-        → TracesIn seen src ws₀ out₀ ws′ out′ (record { used = at; seen = k; written = n; full = false; stopped = false })
+    pub traces-cut : r ≡ traced.Cut → TracesIn seen src ws₀ out₀ ws′ out′ (ranTo at k n false false)
     traces-cut q = let x = was-cut k (drop at src) n ws out ws′ out′ r turn q in rw (x .1, x .2) (ended false room (x .0))
 
-    pub traces-bad : r ≡ traced.Bad
-        → TracesIn seen src ws₀ out₀ ws′ out′ (record { used = at; seen = k; written = n; full = false; stopped = true })
+    pub traces-bad : r ≡ traced.Bad → TracesIn seen src ws₀ out₀ ws′ out′ (ranTo at k n false true)
     traces-bad q = let x = was-bad k (drop at src) n ws out ws′ out′ r turn q in rw (x .1, x .2) (ended true room (x .0))
 
     module _ (m end : ℕ) (q : r ≡ traced.Made m end) where
@@ -156,48 +126,22 @@ module _ (seen : ℕ) (src ws₀ out₀ ws out : List ℕ) (at k n : ℕ) (w : T
       lines = entryLines (book (ledgerOf ws)) (k + 1) one
 
       pub traces-fits : (3 ≤ m) × (at + m ≤ length src) × (k < 1000000000)
-      traces-fits =
-          let x = whole-fits k (drop at src) (was .0) m (was .1) in
-          (x .0, omega (arith, x .1, length-drop at src, w .used), x .2)
-
-      parsed-on : parse k (drop at src) ≡ behind (one ∷ []) (parse (k + 1) (drop (at + m) src))
-      parsed-on = parse-whole k (drop at src) (was .0) m (was .1) ∙ rw (drop-drop m at src)
-
-      book-on : book (ledgerOf ws′) ≡ made (was .0) (one .bytes) (book (ledgerOf ws))
-      book-on =
-          ap book (was .2 .ledger)
-          ∙ made-book (ledgerOf ws) (w .sound) (was .0) (one .bytes) (whole-taken k (drop at src) (was .0) m (was .1))
+      traces-fits = next-fits seen src ws₀ ws at k (w .done) (w .made) (was .0) m (was .1)
 
       all-lines : so-far ++ lines ≡ traceLines (seen + 1) (book (ledgerOf ws₀)) (w .done ++ (one ∷ []))
       unfolding traceLines
       all-lines =
-          let i : k + 1 ≡ seen + 1 + length (w .done) = omega (arith, w .count) in
+          let i : k + 1 ≡ seen + 1 + length (w .done) = omega (arith, w .made .count) in
           ap (λ (x : List ℕ). so-far ++ x) (sym (append-nil lines))
-          ∙ ap₂ (λ (j : Book) (x : ℕ). so-far ++ traceLines x j (one ∷ [])) (w .books) i
+          ∙ ap₂ (λ (j : Book) (x : ℕ). so-far ++ traceLines x j (one ∷ [])) (w .made .books) i
           ∙ sym (lines-append (seen + 1) (book (ledgerOf ws₀)) (w .done) (one ∷ []))
 
       pub traces-on : length out′ ≡ length out → Traces seen src ws₀ out₀ ws′ out′ (at + m) (k + 1) end
-      unfolding madeAll makes
       traces-on kept =
           let g = next (first out₀ 0 so-far (omega arith) (w .bytes) refl) lines (was .2 .bytes ∙ ap (λ (i : ℕ). put out i lines) (w .written ∙ sym (zero-add (length so-far)))) refl in
           record {
-            sound = was .2 .sound;
-            used = traces-fits .1;
             done = w .done ++ (one ∷ []);
-            parsed =
-                w .parsed
-                ∙ ap (behind (w .done)) parsed-on
-                ∙ ap (λ (es : List Entry). record { entries = es; stopped = parse (k + 1) (drop (at + m) src) .stopped; rest = parse (k + 1) (drop (at + m) src) .rest })
-                (sym (append-assoc (w .done) (one ∷ []) (parse (k + 1) (drop (at + m) src) .entries)));
-            ledger =
-                was .2 .ledger
-                ∙ ap (λ (j : Ledger). madeAll j (one ∷ [])) (w .ledger)
-                ∙ sym (made-append (ledgerOf ws₀) (w .done) (one ∷ []));
-            books =
-                book-on
-                ∙ ap (λ (j : Book). makes j (one ∷ [])) (w .books)
-                ∙ sym (makes-append (book (ledgerOf ws₀)) (w .done) (one ∷ []));
-            count = omega (arith, w .count, length-append (w .done) (one ∷ []));
+            made = first-more seen src ws₀ ws at k (w .done) (w .made) (was .0) m (was .1) ws′ (was .2 .sound) (was .2 .ledger);
             kept = kept ∙ w .kept;
             bytes = g .same ∙ ap (put out₀ 0) all-lines;
             written = omega (arith, was .2 .long, w .written, g .long, ap length all-lines);

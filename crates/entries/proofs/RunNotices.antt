@@ -1,4 +1,4 @@
--- The loop over the entries at the start of some bytes. Assumes nothing.
+-- The loop over the entries at the start of some bytes that writes their notices. Assumes nothing.
 use Prim.Native.Nat.{ℕ, _+_, _-_, _*_, _≤_, _<_}
 use mathlib.Core.Path.{_≡_, refl, sym, ap, ap₂, _∙_, subst}
 use mathlib.Core.Bool.{Bool, true, false, cond, _&&_, true≢false, false≢true}
@@ -35,14 +35,11 @@ use Rattle.entries.specs.declared.entry.Stepped.{Stepped}
 use Rattle.entries.specs.declared.entry.Stepped.the-variants as step
 use Rattle.entries.specs.declared.run.Ran.{Ran}
 use Rattle.entries.specs.Stepping.{StepOn, SteppedIn}
-use Rattle.entries.specs.Running.{behind, NextOn, NextIn, ranTo, RanIn}
+use Rattle.entries.specs.Running.{entryAt, ranTo, FirstMade, NoneLeft, RanIn}
+use Rattle.entries.proofs.StoodLaws.{Stood, stood-whole, stood-cut, stood-bad}
+use Rattle.entries.proofs.FirstMadeLaws.{first-none, left-full, left-none, next-fits, first-more}
 
 -- ---- entries one after another
-pub made-append : (l : Ledger) (es fs : List Entry) → madeAll l (es ++ fs) ≡ madeAll (madeAll l es) fs
-unfolding madeAll
-made-append l [] fs = refl
-made-append l (e ∷ es) fs = made-append (madeIn 64200 l (e .body) (e .bytes) .ledger) es fs
-
 pub notices-append : (k : Book) (es fs : List Entry) → noticesOf k (es ++ fs) ≡ noticesOf k es ++ noticesOf (makes k es) fs
 unfolding noticesOf makes
 notices-append k [] fs = refl
@@ -95,71 +92,31 @@ module _ (writes : Bool) (n : ℕ) (out₀ : List ℕ) (room : writes ≡ true �
       put-lent out₀ to (length out₀ - to) 0 [] now (omega arith) (omega arith) (e ∙ put-nil (part out₀ to (length out₀ - to)) 0) ∙ sym (put-nil out₀ (to + 0))
 
   -- what a step on the parts comes to
-  pub next-in : (seen : ℕ) (src s ws₀ ws now : List ℕ) (r : Stepped) → s ≡ src → SteppedIn writes seen s ws₀ lent ws now r
-      → NextIn writes n seen src ws₀ out₀ ws (putMid to (length out₀ - to) out₀ now) r
+  pub next-in : (seen : ℕ) (src s ws₀ ws now : List ℕ) (r : Stepped) → s ≡ src → SteppedIn writes 0 seen s ws₀ lent ws now r
+      → SteppedIn writes n seen src ws₀ out₀ ws (putMid to (length out₀ - to) out₀ now) r
   next-in seen src s ws₀ ws now r e x = go (headOf seen src) (rw e at x)
     where
-      go : (h : Head) → StepOn h writes src ws₀ lent ws now r → NextOn h writes n src ws₀ out₀ ws (putMid to (length out₀ - to) out₀ now) r
+      go : (h : Head) → StepOn h writes 0 src ws₀ lent ws now r → StepOn h writes n src ws₀ out₀ ws (putMid to (length out₀ - to) out₀ now) r
       go Cut w = (w .0, put-same now (w .1), w .2)
       go Bad w = (w .0, put-same now (w .1), w .2)
       go (Whole b m) w =
           let y = w .2 in
           let bytes = part src 3 (m - 3) in
-          (w .0, w .1, y .sound, y .ledger, y .answer, put-said now (writtenIn 64200 (ledgerOf ws₀) b bytes) (omega (arith, made-length 64200 (ledgerOf ws₀) b bytes, made-short (ledgerOf ws₀) b bytes)) (y .bytes))
-
--- ---- what stood there, by what a step answered
-module _ (writes : Bool) (n : ℕ) (src ws₀ out₀ ws out : List ℕ) where
-  abbrev Was : Head → ℕ → Answer → Type 0
-  Was h m a =
-      (b : Body) × (h ≡ Whole b m) × (soundLedger (ledgerOf ws) ≡ true) × (ledgerOf ws ≡ madeIn 64200 (ledgerOf ws₀) b (part src 3 (m - 3)) .ledger)
-      × (a ≡ madeIn 64200 (ledgerOf ws₀) b (part src 3 (m - 3)) .answer) × (out ≡ put out₀ n (said writes (writtenIn 64200 (ledgerOf ws₀) b (part src 3 (m - 3)))))
-
-  back-cut : (h : Head) (r : Stepped) → NextOn h writes n src ws₀ out₀ ws out r → r ≡ step.Cut → (h ≡ Cut) × (ws ≡ ws₀) × (out ≡ out₀)
-  back-cut Cut r w e = (refl, w .0, w .1)
-  back-cut Bad r w e = let q : step.Bad ≡ step.Cut = sym (w .2) ∙ e in let z : _≡_ {A = ℕ} 0 1 = cc in absurd (omega arith)
-  back-cut (Whole b m) r w e = let q : step.Made m (w .0) ≡ step.Cut = sym (w .1) ∙ e in let z : _≡_ {A = ℕ} 0 1 = cc in absurd (omega arith)
-
-  back-bad : (h : Head) (r : Stepped) → NextOn h writes n src ws₀ out₀ ws out r → r ≡ step.Bad → (h ≡ Bad) × (ws ≡ ws₀) × (out ≡ out₀)
-  back-bad Bad r w e = (refl, w .0, w .1)
-  back-bad Cut r w e = let q : step.Cut ≡ step.Bad = sym (w .2) ∙ e in let z : _≡_ {A = ℕ} 0 1 = cc in absurd (omega arith)
-  back-bad (Whole b m) r w e = let q : step.Made m (w .0) ≡ step.Bad = sym (w .1) ∙ e in let z : _≡_ {A = ℕ} 0 1 = cc in absurd (omega arith)
-
-  back-made : (h : Head) (r : Stepped) (m : ℕ) (a : Answer) → NextOn h writes n src ws₀ out₀ ws out r → r ≡ step.Made m a → Was h m a
-  back-made Cut r m a w e = let q : step.Cut ≡ step.Made m a = sym (w .2) ∙ e in let z : _≡_ {A = ℕ} 0 1 = cc in absurd (omega arith)
-  back-made Bad r m a w e = let q : step.Bad ≡ step.Made m a = sym (w .2) ∙ e in let z : _≡_ {A = ℕ} 0 1 = cc in absurd (omega arith)
-  back-made (Whole b k) r m a w e =
-      let q : step.Made k (w .0) ≡ step.Made m a = sym (w .1) ∙ e in
-      let z : k ≡ m = cc in
-      let y : w .0 ≡ a = cc in
-      subst (λ (i : ℕ). Was (Whole b k) i a) z (b, refl, w .2, w .3, sym y ∙ w .4, w .5)
+          let short : length (writtenIn 64200 (ledgerOf ws₀) b bytes) ≤ 64200 = omega (arith, made-length 64200 (ledgerOf ws₀) b bytes, made-short (ledgerOf ws₀) b bytes) in
+          (w .0, w .1, record { sound = y .sound; ledger = y .ledger; answer = y .answer; bytes = put-said now (writtenIn 64200 (ledgerOf ws₀) b bytes) short (y .bytes) })
 
 -- ---- what holds before each entry
 pub record Running (src ws₀ : List ℕ) (seen₀ : ℕ) (writes : Bool) (out₀ ws out : List ℕ) (at seen n : ℕ) : Type 0 where
-  pub within : at ≤ length src
-  pub sure : soundLedger (ledgerOf ws) ≡ true
   pub done : List Entry
-  pub parsed : parse seen₀ src ≡ behind done (parse seen (drop at src))
-  pub whole : ledgerOf ws ≡ madeAll (ledgerOf ws₀) done
-  pub books : book (ledgerOf ws) ≡ makes (book (ledgerOf ws₀)) done
-  pub count : seen ≡ seen₀ + length done
+  pub made : FirstMade seen₀ src ws₀ ws at seen done
   pub wrote : Out writes 0 out₀ out (noticesOf (book (ledgerOf ws₀)) done) n
   pub small : n ≤ length done * 64200
 
 pub running-start : (src ws : List ℕ) (seen : ℕ) (writes : Bool) (out : List ℕ) → soundLedger (ledgerOf ws) ≡ true
     → Running src ws seen writes out ws out 0 seen 0
-unfolding madeAll makes noticesOf
+unfolding noticesOf
 running-start src ws seen writes out h =
-    record {
-      within = omega arith;
-      sure = h;
-      done = [];
-      parsed = refl;
-      whole = refl;
-      books = refl;
-      count = sym (add-zero seen);
-      wrote = out-start writes 0 out (λ z. omega arith);
-      small = omega arith;
-    }
+    record { done = []; made = first-none seen src ws h; wrote = out-start writes 0 out (λ z. omega arith); small = omega arith }
 
 module _ (src ws₀ : List ℕ) (seen₀ : ℕ) (writes : Bool) (out₀ ws out : List ℕ) (at seen n : ℕ)
     (w : Running src ws₀ seen₀ writes out₀ ws out at seen n) where
@@ -174,121 +131,78 @@ module _ (src ws₀ : List ℕ) (seen₀ : ℕ) (writes : Bool) (out₀ ws out :
   pub running-room : (writes && ltb (length out - n) 64200) ≡ false → writes ≡ true → n + 64200 ≤ length out
   running-room f z = full-room writes refl f z
 
+  -- what a run leaves that ends here
+  ends : (full bad : Bool) → (writes && ltb (length out - n) 64200) ≡ full → NoneLeft src (ranTo at seen n full bad)
+      → RanIn seen₀ writes src ws₀ out₀ ws out (ranTo at seen n full bad)
+  ends full bad f e =
+      record {
+        done = w .done;
+        made = w .made;
+        kept = w .wrote .kept;
+        bytes = w .wrote .bytes;
+        written = w .wrote .size ∙ zero-add _;
+        within = w .wrote .within;
+        full = sym (ap (λ (k : ℕ). writes && ltb (k - n) 64200) (sym (w .wrote .kept)) ∙ f);
+        rest = e;
+      }
+
   -- the output has no room for another entry's notices
   pub ran-full : (writes && ltb (length out - n) 64200) ≡ true → RanIn seen₀ writes src ws₀ out₀ ws out (ranTo at seen n true false)
-  ran-full f =
-      record {
-        sound = w .sure;
-        used = w .within;
-        done = w .done;
-        parsed = w .parsed;
-        ledger = w .whole;
-        books = w .books;
-        count = w .count;
-        kept = w .wrote .kept;
-        bytes = w .wrote .bytes;
-        written = w .wrote .size ∙ zero-add _;
-        within = w .wrote .within;
-        full = sym (ap (λ (k : ℕ). writes && ltb (k - n) 64200) (sym (w .wrote .kept)) ∙ f);
-        left = λ z. absurd (true≢false z);
-        goes = λ z. refl;
-      }
+  ran-full f = ends true false f (left-full src at seen n)
 
-  ended : (b : Bool) → (writes && ltb (length out - n) 64200) ≡ false → parse seen (drop at src) ≡ record { entries = []; stopped = b; rest = drop at src }
-      → RanIn seen₀ writes src ws₀ out₀ ws out (ranTo at seen n false b)
-  ended b f e =
-      record {
-        sound = w .sure;
-        used = w .within;
-        done = w .done;
-        parsed = w .parsed;
-        ledger = w .whole;
-        books = w .books;
-        count = w .count;
-        kept = w .wrote .kept;
-        bytes = w .wrote .bytes;
-        written = w .wrote .size ∙ zero-add _;
-        within = w .wrote .within;
-        full = sym (ap (λ (k : ℕ). writes && ltb (k - n) 64200) (sym (w .wrote .kept)) ∙ f);
-        left = λ z. e;
-        goes = λ z. absurd (false≢true z);
-      }
-
-  module _ (ws′ out′ : List ℕ) (r : Stepped) (s : NextIn writes n seen (drop at src) ws out ws′ out′ r) where
+  module _ (ws′ out′ : List ℕ) (r : Stepped) (s : SteppedIn writes n seen (drop at src) ws out ws′ out′ r) where
     -- no whole entry stands there
     pub ran-cut : (writes && ltb (length out - n) 64200) ≡ false → r ≡ step.Cut → RanIn seen₀ writes src ws₀ out₀ ws′ out′ (ranTo at seen n false false)
     ran-cut f e =
-        let x = back-cut writes n (drop at src) ws out ws′ out′ (headOf seen (drop at src)) r s e in
-        rw (x .1, x .2) (ended false f (parse-cut seen (drop at src) (x .0)))
+        let x = stood-cut writes n seen (drop at src) ws out ws′ out′ r s e in
+        rw (x .1, x .2) (ends false false f (left-none src at seen n false (parse-cut seen (drop at src) (x .0))))
 
     pub ran-bad : (writes && ltb (length out - n) 64200) ≡ false → r ≡ step.Bad → RanIn seen₀ writes src ws₀ out₀ ws′ out′ (ranTo at seen n false true)
     ran-bad f e =
-        let x = back-bad writes n (drop at src) ws out ws′ out′ (headOf seen (drop at src)) r s e in
-        rw (x .1, x .2) (ended true f (parse-bad seen (drop at src) (x .0)))
+        let x = stood-bad writes n seen (drop at src) ws out ws′ out′ r s e in
+        rw (x .1, x .2) (ends false true f (left-none src at seen n true (parse-bad seen (drop at src) (x .0))))
 
     module _ (m : ℕ) (a : Answer) (e : r ≡ step.Made m a) where
-      abbrev was : Was writes n (drop at src) ws out ws′ out′ (headOf seen (drop at src)) m a
-      was = back-made writes n (drop at src) ws out ws′ out′ (headOf seen (drop at src)) r m a s e
+      abbrev was : Stood writes n seen (drop at src) ws out ws′ out′ r s m a
+      was = stood-whole writes n seen (drop at src) ws out ws′ out′ r s m a e
 
       abbrev bytes : List ℕ
       bytes = part (drop at src) 3 (m - 3)
 
       abbrev one : Entry
-      one = record { body = was .0; bytes = bytes }
+      one = entryAt (drop at src) (was .0) m
 
       wrote-long : length (writtenIn 64200 (ledgerOf ws) (was .0) bytes) ≡ lengthOf a
-      wrote-long = made-length 64200 (ledgerOf ws) (was .0) bytes ∙ ap lengthOf (sym (was .4))
+      wrote-long = made-length 64200 (ledgerOf ws) (was .0) bytes ∙ ap lengthOf (sym (was .2 .answer))
 
       short : lengthOf a ≤ 64200
-      short = omega (arith, ap lengthOf (was .4), made-short (ledgerOf ws) (was .0) bytes)
+      short = omega (arith, ap lengthOf (was .2 .answer), made-short (ledgerOf ws) (was .0) bytes)
 
       pub ran-fits : (3 ≤ m) × (at + m ≤ length src) × (seen < 1000000000) × (n + lengthOf a ≤ 1000000000 * 64200)
       ran-fits =
-          let x = whole-fits seen (drop at src) (was .0) m (was .1) in
-          (x .0, omega (arith, x .1, length-drop at src, w .within), x .2, omega (arith, x .2, w .small, w .count, short))
-
-      parsed-on : parse seen (drop at src) ≡ behind (one ∷ []) (parse (seen + 1) (drop (at + m) src))
-      parsed-on = parse-whole seen (drop at src) (was .0) m (was .1) ∙ rw (drop-drop m at src)
+          let x = next-fits seen₀ src ws₀ ws at seen (w .done) (w .made) (was .0) m (was .1) in
+          (x .0, x .1, x .2, omega (arith, x .2, w .small, w .made .count, short))
 
       abbrev k : Book
       k = book (ledgerOf ws)
 
-      book-on : book (ledgerOf ws′) ≡ made (was .0) bytes k
-      book-on = ap book (was .3) ∙ made-book (ledgerOf ws) (w .sure) (was .0) bytes (whole-taken seen (drop at src) (was .0) m (was .1))
-
       notice-on : writtenIn 64200 (ledgerOf ws) (was .0) bytes ≡ noticesOf k (one ∷ [])
       unfolding noticesOf
-      notice-on = made-written (ledgerOf ws) (w .sure) (was .0) bytes ∙ sym (append-nil _)
+      notice-on = made-written (ledgerOf ws) (w .made .sound) (was .0) bytes ∙ sym (append-nil _)
 
       all-notices : noticesOf (book (ledgerOf ws₀)) (w .done) ++ writtenIn 64200 (ledgerOf ws) (was .0) bytes ≡ noticesOf (book (ledgerOf ws₀)) (w .done ++ (one ∷ []))
       all-notices =
-          ap (λ (x : List ℕ). noticesOf (book (ledgerOf ws₀)) (w .done) ++ x) (notice-on ∙ ap (λ (x : Book). noticesOf x (one ∷ [])) (w .books))
+          ap (λ (x : List ℕ). noticesOf (book (ledgerOf ws₀)) (w .done) ++ x) (notice-on ∙ ap (λ (x : Book). noticesOf x (one ∷ [])) (w .made .books))
           ∙ sym (notices-append (book (ledgerOf ws₀)) (w .done) (one ∷ []))
 
       pub ran-on : (writes && ltb (length out - n) 64200) ≡ false → Running src ws₀ seen₀ writes out₀ ws′ out′ (at + m) (seen + 1) (n + lengthOf a)
-      unfolding madeAll makes
       ran-on f =
           record {
-            within = ran-fits .1;
-            sure = was .2;
             done = w .done ++ (one ∷ []);
-            parsed =
-                w .parsed
-                ∙ ap (behind (w .done)) parsed-on
-                ∙ ap (λ (es : List Entry). record { entries = es; stopped = parse (seen + 1) (drop (at + m) src) .stopped; rest = parse (seen + 1) (drop (at + m) src) .rest })
-                (sym (append-assoc (w .done) (one ∷ []) (parse (seen + 1) (drop (at + m) src) .entries)));
-            whole =
-                was .3
-                ∙ ap (λ (j : Ledger). madeAll j (one ∷ [])) (w .whole)
-                ∙ sym (made-append (ledgerOf ws₀) (w .done) (one ∷ []));
-            books =
-                book-on
-                ∙ ap (λ (j : Book). makes j (one ∷ [])) (w .books)
-                ∙ sym (makes-append (book (ledgerOf ws₀)) (w .done) (one ∷ []));
-            count = omega (arith, w .count, length-append (w .done) (one ∷ []));
+            made = first-more seen₀ src ws₀ ws at seen (w .done) (w .made) (was .0) m (was .1) ws′ (was .2 .sound) (was .2 .ledger);
             wrote =
                 subst (λ (ys : List ℕ). Out writes 0 out₀ out′ ys (n + lengthOf a)) all-notices
                 (out-more writes 0 out₀ out (noticesOf (book (ledgerOf ws₀)) (w .done)) n (w .wrote) (writtenIn 64200 (ledgerOf ws) (was .0) bytes) out′ (n + lengthOf a)
-                (λ z. omega (arith, running-room f z, wrote-long, short)) (was .5) (ap (λ (i : ℕ). n + i) (sym wrote-long)));
+                (λ z. omega (arith, running-room f z, wrote-long, short)) (was .2 .bytes) (ap (λ (i : ℕ). n + i) (sym wrote-long)));
             small = omega (arith, w .small, short, length-append (w .done) (one ∷ []));
           }

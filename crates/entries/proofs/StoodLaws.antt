@@ -1,0 +1,56 @@
+-- What stood at the start of some bytes, by what a step answered. Assumes nothing.
+use Prim.Native.Nat.{ℕ, _-_}
+use mathlib.Core.Path.{_≡_, refl, sym, ap, _∙_, subst}
+use mathlib.Core.Bool.{Bool}
+use mathlib.Core.List.{List}
+use native.Mathlib.Omega.{arith}
+use Rattle.fields.specs.Put.{part}
+use Rattle.calls.specs.declared.Answer.{Answer}
+use Rattle.journal.specs.declared.Body.{Body}
+use Rattle.journal.specs.declared.Head.{Head}
+use Rattle.journal.specs.declared.Head.the-variants.{Cut, Bad, Whole}
+use Rattle.journal.specs.Entries.{headOf}
+use Rattle.entries.specs.declared.entry.Stepped.{Stepped}
+use Rattle.entries.specs.declared.entry.Stepped.the-variants as step
+use Rattle.entries.specs.Stepping.{MadeIn, StepOn, SteppedIn}
+
+module _ (writes : Bool) (n seen : ℕ) (src ws₀ out₀ ws out : List ℕ) (r : Stepped) (x : SteppedIn writes n seen src ws₀ out₀ ws out r) where
+  -- a whole entry, with what its call left
+  abbrev pub Stood : ℕ → Answer → Type 0
+  Stood m a = (b : Body) × (headOf seen src ≡ Whole b m) × MadeIn writes 64200 n b (part src 3 (m - 3)) ws₀ out₀ ws out a
+
+  pub stood-whole : (m : ℕ) (a : Answer) → r ≡ step.Made m a → Stood m a
+  stood-whole m a q = go (headOf seen src) refl x
+    where
+      go : (h : Head) → headOf seen src ≡ h → StepOn h writes n src ws₀ out₀ ws out r → Stood m a
+      go Cut e w = let p : step.Cut ≡ step.Made m a = sym (w .2) ∙ q in let z : _≡_ {A = ℕ} 0 1 = cc in absurd (omega arith)
+      go Bad e w = let p : step.Bad ≡ step.Made m a = sym (w .2) ∙ q in let z : _≡_ {A = ℕ} 0 1 = cc in absurd (omega arith)
+      go (Whole b k) e w =
+          let p : step.Made k (w .0) ≡ step.Made m a = sym (w .1) ∙ q in
+          let z : k ≡ m = cc in
+          let y : w .0 ≡ a = cc in (
+            b,
+            e ∙ ap (λ (i : ℕ). Whole b i) z,
+            subst (λ (i : ℕ). MadeIn writes 64200 n b (part src 3 (i - 3)) ws₀ out₀ ws out a) z
+                (subst (λ (v : Answer). MadeIn writes 64200 n b (part src 3 (k - 3)) ws₀ out₀ ws out v) y (w .2)),
+          )
+
+  -- no whole entry: words and output are as they were
+  abbrev pub Neither : Head → Type 0
+  Neither h = (headOf seen src ≡ h) × (ws ≡ ws₀) × (out ≡ out₀)
+
+  pub stood-cut : r ≡ step.Cut → Neither Cut
+  stood-cut q = go (headOf seen src) refl x
+    where
+      go : (h : Head) → headOf seen src ≡ h → StepOn h writes n src ws₀ out₀ ws out r → Neither Cut
+      go Cut e w = (e, w .0, w .1)
+      go Bad e w = let p : step.Bad ≡ step.Cut = sym (w .2) ∙ q in let z : _≡_ {A = ℕ} 0 1 = cc in absurd (omega arith)
+      go (Whole b k) e w = let p : step.Made k (w .0) ≡ step.Cut = sym (w .1) ∙ q in let z : _≡_ {A = ℕ} 0 1 = cc in absurd (omega arith)
+
+  pub stood-bad : r ≡ step.Bad → Neither Bad
+  stood-bad q = go (headOf seen src) refl x
+    where
+      go : (h : Head) → headOf seen src ≡ h → StepOn h writes n src ws₀ out₀ ws out r → Neither Bad
+      go Cut e w = let p : step.Cut ≡ step.Bad = sym (w .2) ∙ q in let z : _≡_ {A = ℕ} 0 1 = cc in absurd (omega arith)
+      go Bad e w = (e, w .0, w .1)
+      go (Whole b k) e w = let p : step.Made k (w .0) ≡ step.Bad = sym (w .1) ∙ q in let z : _≡_ {A = ℕ} 0 1 = cc in absurd (omega arith)
