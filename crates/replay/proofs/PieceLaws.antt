@@ -10,13 +10,11 @@ use Rattle.fields.specs.Put.{part, put}
 use Rattle.fields.proofs.PutLaws.{length-part, part-put}
 use Rattle.entries.specs.declared.run.Ran.{Ran}
 use Rattle.entries.specs.Running.{ranTo, RanIn}
-use Rattle.tracing.specs.declared.Ran as traced
-use Rattle.tracing.specs.Tracing.{TracesIn}
 use Rattle.input.specs.declared.Filled as filled
 use Rattle.input.specs.declared.Filled.the-variants as filled-as
 use Rattle.input.specs.Filled.{Holds, Fills}
 use Rattle.replay.specs.declared.Tells.{Tells}
-use Rattle.replay.specs.declared.Tells.the-variants.{Nothing, Notices, Lines}
+use Rattle.replay.specs.declared.Tells.the-variants.{Nothing, Notices}
 use Rattle.replay.specs.Reading.{HoldsMore, FillsMore, Runs, Made}
 
 -- ---- a read: no fewer bytes are held
@@ -53,64 +51,24 @@ module _ (seen : ℕ) (src ws₀ out₀ ws out : List ℕ) where
       → Runs seen Nothing src ws₀ out₀ ws out (ranTo (r .used) (r .seen) 0 (r .full) (r .stopped))
   ran-nothing r x =
       record {
-        sound = x .sound;
-        used = x .used;
         done = x .done;
-        parsed = x .parsed;
-        ledger = x .ledger;
-        books = x .books;
-        count = x .count;
+        made = x .made;
         kept = x .kept;
         bytes = x .bytes;
         written = refl;
         within = omega arith;
-        left = x .left;
-        goes = x .goes;
+        rest = record { left = x .rest .left; goes = x .rest .goes };
       }
 
   pub ran-notices : (r : Ran) → RanIn seen true src ws₀ out₀ ws out r → Runs seen Notices src ws₀ out₀ ws out r
   ran-notices r x =
-      record {
-        sound = x .sound;
-        used = x .used;
-        done = x .done;
-        parsed = x .parsed;
-        ledger = x .ledger;
-        books = x .books;
-        count = x .count;
-        kept = x .kept;
-        bytes = x .bytes;
-        written = x .written;
-        within = x .within refl;
-        left = x .left;
-        goes = x .goes;
-      }
-
-  pub ran-lines : (r : traced.Ran) → TracesIn seen src ws₀ out₀ ws out r
-      → Runs seen Lines src ws₀ out₀ ws out (ranTo (r .used) (r .seen) (r .written) (r .full) (r .stopped))
-  ran-lines r x =
-      let y = x .made in
-      record {
-        sound = y .sound;
-        used = y .used;
-        done = y .done;
-        parsed = y .parsed;
-        ledger = y .ledger;
-        books = y .books;
-        count = y .count;
-        kept = y .kept;
-        bytes = y .bytes;
-        written = y .written;
-        within = y .within;
-        left = x .left;
-        goes = x .goes;
-      }
+      record { done = x .done; made = x .made; kept = x .kept; bytes = x .bytes; written = x .written; within = x .within refl; rest = x .rest }
 
 -- ---- the piece
 module _ (seen : ℕ) (t : Tells) (n : ℕ) (ws₀ buf₀ out₀ ws out : List ℕ) (r : Ran) (fits : n ≤ length buf₀)
     (x : Runs seen t (take n buf₀) ws₀ out₀ ws out r) where
   pub used-within : r .used ≤ n
-  used-within = omega (arith, x .used, length-take-le n buf₀ fits)
+  used-within = omega (arith, x .made .used, length-take-le n buf₀ fits)
 
   pub made : (buf : List ℕ) (left : ℕ) → left ≡ n - r .used → buf ≡ put buf₀ 0 (part buf₀ (r .used) (n - r .used)) → length buf ≡ length buf₀
       → Made seen t n ws₀ buf₀ out₀ ws buf out (record { seen = r .seen; left = left; written = r .written; full = r .full; stopped = r .stopped })
@@ -118,15 +76,15 @@ module _ (seen : ℕ) (t : Tells) (n : ℕ) (ws₀ buf₀ out₀ ws out : List �
       let rest = kept-front buf₀ (r .used) n used-within fits buf left e q in
       record {
         done = x .done;
-        parsed = rw rest (x .parsed);
-        sound = x .sound;
-        ledger = x .ledger;
-        books = x .books;
-        count = x .count;
+        parsed = rw rest (x .made .parsed);
+        sound = x .made .sound;
+        ledger = x .made .ledger;
+        books = x .made .books;
+        count = x .made .count;
         within = omega arith;
         bytes = x .bytes;
         written = x .written;
         room = omega (arith, x .within, x .kept);
-        waits = λ z. rw rest (x .left z);
-        goes = x .goes;
+        waits = λ z. rw rest (x .rest .left z);
+        goes = x .rest .goes;
       }

@@ -19,9 +19,10 @@ use Rattle.journal.specs.Made.{madeAll, noticesOf}
 use Rattle.journal.proofs.JournalLaws.{fed, parse-fed}
 use Rattle.journal.proofs.BeginLaws.{makes-append}
 use Rattle.entries.specs.Running.{behind, firstLedger}
-use Rattle.entries.proofs.RunLaws.{notices-append, made-append}
+use Rattle.entries.proofs.FirstMadeLaws.{made-append}
+use Rattle.entries.proofs.RunNotices.{notices-append}
 use Rattle.trace_lines.specs.Trace.{traceLines}
-use Rattle.tracing.proofs.RunLaws.{lines-append}
+use Rattle.tracing.proofs.RunLines.{lines-append}
 use Rattle.input.specs.declared.Filled as filled
 use Rattle.input.specs.declared.Filled.the-variants.{Ended}
 use Rattle.input.specs.Filled.{notEnded}

@@ -3,7 +3,7 @@ use Prim.Native.Nat.{ℕ, _+_, _-_, _≤_}
 use mathlib.Core.Path.{_≡_}
 use mathlib.Core.Bool.{Bool, true, false}
 use mathlib.Core.List.{List, []}
-use lib.ListN.{length, take, drop}
+use lib.ListN.{length, take}
 use Rattle.fields.specs.Put.{put}
 use Rattle.ledger.specs.Books.{Book, book}
 use Rattle.ledger.specs.Sound.{soundLedger}
@@ -11,7 +11,7 @@ use Rattle.words.specs.Layout as layout
 use Rattle.journal.specs.Journal.{Entry, Parsed, parse, makes, noBook, endsBad, ledgerOf, isBad}
 use Rattle.journal.specs.Made.{madeAll, noticesOf}
 use Rattle.entries.specs.declared.run.Ran.{Ran}
-use Rattle.entries.specs.Running.{behind, firstLedger}
+use Rattle.entries.specs.Running.{behind, FirstMade, NoneLeft, firstLedger}
 use Rattle.trace_lines.specs.Trace.{traceLines}
 use Rattle.input.specs.declared.Filled as filled
 use Rattle.input.specs.declared.Filled.the-variants as filled-as
@@ -43,21 +43,13 @@ toldOf Lines seen k es = traceLines (seen + 1) k es
 -- the first entries of src were made, after so many entries, and what is asked for of them stands at the start of the output; none is left unless the output
 -- is full
 pub record Runs (seen : ℕ) (t : Tells) (src ws₀ out₀ ws out : List ℕ) (r : Ran) : Type 0 where
-  pub sound : soundLedger (layout.ledgerOf ws) ≡ true
-  pub used : r .used ≤ length src
-  -- the entries that were made
   pub done : List Entry
-  pub parsed : parse seen src ≡ behind done (parse (r .seen) (drop (r .used) src))
-  pub ledger : layout.ledgerOf ws ≡ madeAll (layout.ledgerOf ws₀) done
-  pub books : book (layout.ledgerOf ws) ≡ makes (book (layout.ledgerOf ws₀)) done
-  pub count : r .seen ≡ seen + length done
+  pub made : FirstMade seen src ws₀ ws (r .used) (r .seen) done
   pub kept : length out ≡ length out₀
   pub bytes : out ≡ put out₀ 0 (toldOf t seen (book (layout.ledgerOf ws₀)) done)
   pub written : r .written ≡ length (toldOf t seen (book (layout.ledgerOf ws₀)) done)
   pub within : r .written ≤ length out₀
-  pub left :
-      r .full ≡ false → parse (r .seen) (drop (r .used) src) ≡ record { entries = []; stopped = r .stopped; rest = drop (r .used) src }
-  pub goes : r .full ≡ true → r .stopped ≡ false
+  pub rest : NoneLeft src r
 
 -- ---- a piece
 -- no entry stands whole at the start of some bytes

@@ -3,9 +3,13 @@ ghost use mathlib.Core.Path.{_≡_};
 ghost use Prim.Native.Nat.{_≤_};
 ghost use lib.ListN.{length};
 ghost use Rattle.words.specs.Layout.{ledgerSize};
-ghost use Rattle.replay.specs.Ending.{StopLine, Told};
+ghost use Rattle.replay.specs.Ending.{StopLine, lastTo, Told};
 use crate::Tells;
 use entries::run;
+use libc::STDERR_FILENO;
+use libc::STDOUT_FILENO;
+use streams::output;
+use streams::output::Output;
 use streams::pieces::End;
 
 // Puts the line that says that a bad entry stopped the reading, if one did and nothing failed; answers its length.
@@ -18,11 +22,46 @@ fn stop_line(out: &mut [u8], e: End) -> usize
 }
 
 // Reads standard input and writes what is asked for of its entries; what is left to write is the line in `out`, of so many bytes.
-pub fn tell_input(ws: &mut [u64], buf: &mut [u8], out: &mut [u8], tells: Tells) -> usize
+fn tell_input(ws: &mut [u64], buf: &mut [u8], out: &mut [u8], tells: Tells) -> usize
     requires { ⌜ (length (now ws) ≡ ledgerSize) × (length (now buf) ≡ 262144) × (length (now out) ≡ 262144) ⌝ }
     ensures { λ n. ⌜ Told (now (out .exit)) n ⌝ }
 {
     run::start(ws);
     let e = crate::read_all(ws, buf, out, tells);
     stop_line(out, e)
+}
+
+// Where that line goes.
+fn last_to(tells: Tells) -> i32
+    ensures { λ d. ⌜ d ≡ lastTo tells ⌝ }
+{
+    match tells {
+        Tells::Nothing => STDOUT_FILENO,
+        Tells::Notices => STDERR_FILENO,
+        Tells::Lines => STDOUT_FILENO,
+    }
+}
+
+// What is left to write once standard input is read, and where it goes.
+fn last_of_input(ws: &mut [u64], buf: &mut [u8], out: &mut [u8], tells: Tells) -> Output
+    requires { ⌜ (length (now ws) ≡ ledgerSize) × (length (now buf) ≡ 262144) × (length (now out) ≡ 262144) ⌝ }
+    ensures { λ o. ⌜ (o .descriptor ≡ lastTo tells) × Told (now (out .exit)) (o .length) ⌝ }
+{
+    let length = tell_input(ws, buf, out, tells);
+    Output {
+        descriptor: last_to(tells),
+        length,
+    }
+}
+
+// Reads standard input and writes what is asked for of its entries, and the line behind; answers what was last to write.
+pub fn tell(tells: Tells) -> Output
+    ensures { λ o. ⌜ o .descriptor ≡ lastTo tells ⌝ }
+{
+    let mut ws = [0u64; 2436];
+    let mut buf = [0u8; 262144];
+    let mut out = [0u8; 262144];
+    let o = last_of_input(&mut ws, &mut buf, &mut out, tells);
+    output::send(o, &out);
+    o
 }

@@ -43,14 +43,7 @@ fn run_lines(ws: &mut [u64], out: &mut [u8], src: &[u8], seen: u64) -> Ran
     ensures { λ r. ⌜ Runs seen Lines (now (src .entry)) (now (ws .entry)) (now (out .entry)) (now (ws .exit)) (now (out .exit)) r ⌝ }
 {
     let mut sent = [0u8; 64200];
-    let r = tracing::run(ws, &mut sent, out, src, seen);
-    Ran {
-        used: r.used,
-        seen: r.seen,
-        written: r.written,
-        full: r.full,
-        stopped: r.stopped,
-    }
+    tracing::run(ws, &mut sent, out, src, seen)
 }
 
 // Makes the entries at the start of src and writes what is asked for of them.
@@ -61,13 +54,7 @@ fn run_telling(ws: &mut [u64], out: &mut [u8], tells: Tells, src: &[u8], seen: u
     match tells {
         Tells::Nothing => {
             let r = run::run(ws, out, false, src, seen);
-            Ran {
-                used: r.used,
-                seen: r.seen,
-                written: 0,
-                full: r.full,
-                stopped: r.stopped,
-            }
+            run::ran_to(r.used, r.seen, 0, r.full, r.stopped)
         }
         Tells::Notices => run::run(ws, out, true, src, seen),
         Tells::Lines => run_lines(ws, out, src, seen),

@@ -139,7 +139,7 @@ module _ (s ws₀ out₀ ws out : List ℕ) (r : Ran) (w : RanIn 0 true s ws₀ 
       room = omega (arith, ap length last-is, size-is, sum-within, w .kept)
 
       pub used-within : q .used ≤ length s - r .used
-      used-within = omega (arith, x .used, length-drop (r .used) s)
+      used-within = omega (arith, x .made .used, length-drop (r .used) s)
 
       all-put : put out (r .written) (take (q .written) last) ≡ put out₀ 0 (brnOf s)
       all-put =
@@ -154,7 +154,7 @@ module _ (s ws₀ out₀ ws out : List ℕ) (r : Ran) (w : RanIn 0 true s ws₀ 
       ends =
           let p = parse (r .seen) tail in
           let a : q .stopped ≡ parse 0 s .stopped =
-          all-stopped (r .seen) true tail ws last₀ vs last q x not-full ∙ sym (ap (λ (y : Parsed). y .stopped) (w .parsed))
+          all-stopped (r .seen) true tail ws last₀ vs last q x not-full ∙ sym (ap (λ (y : Parsed). y .stopped) (w .made .parsed))
           in
           let b : length s - r .used - q .used ≡ length (parse 0 s .rest) =
           omega (
@@ -162,15 +162,15 @@ module _ (s ws₀ out₀ ws out : List ℕ) (r : Ran) (w : RanIn 0 true s ws₀ 
             length-drop (r .used) s,
             length-drop (q .used) tail,
             ap length (all-rest (r .seen) true tail ws last₀ vs last q x not-full),
-            ap (λ (y : Parsed). length (y .rest)) (w .parsed),
+            ap (λ (y : Parsed). length (y .rest)) (w .made .parsed),
           )
           in
           let c : q .seen ≡ length (parse 0 s .entries) =
           omega (
             arith,
             all-count (r .seen) true tail ws last₀ vs last q x not-full,
-            w .count,
-            ap (λ (y : Parsed). length (y .entries)) (w .parsed),
+            w .made .count,
+            ap (λ (y : Parsed). length (y .entries)) (w .made .parsed),
             length-append (w .done) (p .entries),
           )
           in

@@ -10,6 +10,9 @@ enum-told c = search needs
 run-requires : tie.Need-run-requires
 run-requires c κs = search needs
 
+ran-to-requires : tie.Need-ran-to-requires
+ran-to-requires c κs = search needs
+
 enum-told-2 : tie.Need-enum-told-2
 enum-told-2 c = search needs
 
@@ -29,7 +32,7 @@ same-length-2 : tie.Need-same-length-2
 same-length-2 c = search needs
 
 returns : tie.Need-returns
-returns c = rw (c .before .before .before .before .before .before .before .enum-told .given .1) (ran-nothing _ _ _ _ _ _ _ (c .before .before .before .before .run .ensures))
+returns c = let x = c .before .before .before .before .before in rw (x .before .before .before .enum-told .given .1, c .ran-to .ensures) (ran-nothing _ _ _ _ _ _ _ (x .run .ensures))
 
 same-length-3 : tie.Need-same-length-3
 same-length-3 c = search needs
@@ -55,6 +58,7 @@ run-telling-spec =
     (tie.spec
     enum-told
     run-requires
+    ran-to-requires
     enum-told-2
     run-requires-2
     enum-told-3
