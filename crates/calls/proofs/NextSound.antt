@@ -19,7 +19,7 @@ use Rattle.ledger.specs.Bills.{isOf, isRateCode, codeBytes, renewed, cancelledB
 use Rattle.ledger.specs.Books.{Book, view, termsIn, ofId}
 use Rattle.ledger.specs.Sound.{soundTerms, soundAmounts, soundBill, holdsId, distinct, sound}
 use Rattle.ledger.proofs.ListLaws.{all-on, every-append}
-use Rattle.ledger.proofs.SoundLaws.{BookFacts, book-facts, facts-sound, terms-facts, facts-terms, bill-terms}
+use Rattle.ledger.proofs.SoundLaws.{moved-facts, BookFacts, book-facts, facts-sound, terms-facts, facts-terms, bill-terms}
 use Rattle.file.specs.File.{fileGroups}
 use Rattle.file.proofs.WalkLaws.{has-append}
 use Rattle.verdict.specs.declared.Sought.the-variants.{Bill, Nothing}
@@ -74,21 +74,9 @@ module _ (l : Book) (r : Request) (f : BookFacts l) (g : all (requestTests r) �
   unfolding soundBill
   renewed-sound b n h =
       let t = terms-facts (b .terms) (bill-terms b h) in
-      let u = terms-facts _ new-terms in
-      let s = facts-terms (renewed (latestOf r (l .tracking)) b .terms) (record {
-        account = t .account;
-        key = t .key;
-        code = t .code;
-        asked = omega arith;
-        requests = omega (arith, t .requests);
-        sequence = omega (arith, t .sequence, n);
-        from-one = u .from-one;
-        tracking = u .tracking;
-        consumption = u .consumption;
-        billing = u .billing;
-        from = u .from;
-        scheduled = u .scheduled;
-      }) in
+      let s = facts-terms (renewed (latestOf r (l .tracking)) b .terms)
+      (moved-facts (b .terms) (newBill r (l .tracking) .terms) _ _ _ t (terms-facts _ new-terms)
+      (omega arith) (omega (arith, t .requests)) (omega (arith, t .sequence, n))) in
       rw s (amounts-same (renewed (latestOf r (l .tracking)) b .terms) (b .terms) (b .posted) refl refl ∙ and-right (soundTerms (b .terms)) (soundAmounts (b .terms) (b .posted)) h)
 
   new-sound : soundBill (newBill r (l .tracking)) ≡ true
@@ -99,20 +87,7 @@ cancelled-sound : (b : bill.Bill) → soundBill b ≡ true → soundBill (cancel
 unfolding soundBill soundAmounts
 cancelled-sound b h =
     let t = terms-facts (b .terms) (bill-terms b h) in
-    let s = facts-terms (cancelledBill b .terms) (record {
-      account = t .account;
-      key = t .key;
-      code = t .code;
-      asked = t .asked;
-      requests = t .requests;
-      sequence = t .sequence;
-      from-one = t .from-one;
-      tracking = t .tracking;
-      consumption = t .consumption;
-      billing = t .billing;
-      from = t .from;
-      scheduled = t .scheduled;
-    }) in
+    let s = facts-terms (cancelledBill b .terms) (moved-facts (b .terms) (b .terms) _ _ _ t t (t .asked) (t .requests) (t .sequence)) in
     rw s
 
 -- ---- a bill more

@@ -175,13 +175,7 @@ module _ (l : Book) (ps : List Posting) (f : Follows l (hist l ps)) where
         → Follows after (record { now = onward (view l) 1 1 (update (isOf id) g′ (map termsIn (l .bills))); postings = ps })
     change-follows s =
         record {
-          now =
-              λ i. record {
-                today = l .today;
-                tracking = l .tracking + 1;
-                confirmation = l .confirmation + 1;
-                bills = sym (map-update id g g′ same (l .bills)) i;
-              };
+          now = ap (onward (view l) 1 1) (sym (map-update id g g′ same (l .bills)));
           sums = all-update id (Agrees ps) (Agrees ps) g (l .bills) (f .sound .once) (λ b e y q. agrees b q) (λ b e q. q) (f .sums);
           unposted = λ u o. f .unposted u (sym (holds-kept id g keeps (u .identity) (l .bills)) ∙ o);
           sound = s;
@@ -194,13 +188,7 @@ module _ (l : Book) (ps : List Posting) (f : Follows l (hist l ps)) where
       (record { now = onward (view l) 1 1 (map termsIn (l .bills) ++ (b .terms ∷ [])); postings = ps })
   add-follows b z o s =
       record {
-        now =
-            λ i. record {
-              today = l .today;
-              tracking = l .tracking + 1;
-              confirmation = l .confirmation + 1;
-              bills = sym (map-append (l .bills) b) i;
-            };
+        now = ap (onward (view l) 1 1) (sym (map-append (l .bills) b));
         sums = all-append (Agrees ps) (l .bills) b (f .sums) (z ∙ sym (no-charge (b .terms .cancelled) (f .unposted (b .terms) o)));
         unposted =
             λ u m.

@@ -171,6 +171,14 @@ pub record Row : Type 0 where
   pub given : Case
   pub result : Result
 
+-- the row of these calls on a ledger: their results, verdicts and changes, the Tracking IDs assigned, the bills' sequences at the end
+abbrev row : Book → List Call → List Check → List (List Verdict) → List ℤ → List ℕ → List ℕ → Row
+row l cs results verdicts changes assigned sequences =
+    record {
+      given = calls l cs;
+      result = came (record { results = results; verdicts = verdicts; changes = changes; assigned = assigned; sequences = sequences });
+    }
+
 abbrev ready : ℕ → Verdict
 ready charge = Accepted (posted.BillReady (cents charge))
 
@@ -180,122 +188,32 @@ table =
     record { given = date 20000229; result = isOne true }
     ∷ record { given = date 19000229; result = isOne false }
     -- (b) RSP on its Scheduled Date is accepted; (d) 85 = 60 + 25 passes
-    ∷ record {
-      given = calls start (ask product.BillReady ∷ close (day 20171116) ∷ send (rsp 4250 ∷ []) ∷ []);
-      result =
-          came
-          (record {
-            results = Clear ∷ Clear ∷ Clear ∷ [];
-            verdicts = [] ∷ [] ∷ (ready 4250 ∷ []) ∷ [];
-            changes = pos 0 ∷ pos 0 ∷ pos 4250 ∷ [];
-            assigned = 1 ∷ [];
-            sequences = 1 ∷ [];
-          });
-    }
+    ∷ row start (ask product.BillReady ∷ close (day 20171116) ∷ send (rsp 4250 ∷ []) ∷ [])
+    (Clear ∷ Clear ∷ Clear ∷ []) ([] ∷ [] ∷ (ready 4250 ∷ []) ∷ []) (pos 0 ∷ pos 0 ∷ pos 4250 ∷ []) (1 ∷ []) (1 ∷ [])
     -- (c) a day later BR09
-    ∷ record {
-      given = calls start (ask product.BillReady ∷ close (day 20171117) ∷ send (rsp 4250 ∷ []) ∷ []);
-      result =
-          came
-          (record {
-            results = Clear ∷ Clear ∷ Clear ∷ [];
-            verdicts = [] ∷ [] ∷ (Rejected 9 ∷ []) ∷ [];
-            changes = pos 0 ∷ pos 0 ∷ pos 0 ∷ [];
-            assigned = 1 ∷ [];
-            sequences = 1 ∷ [];
-          });
-    }
+    ∷ row start (ask product.BillReady ∷ close (day 20171117) ∷ send (rsp 4250 ∷ []) ∷ [])
+    (Clear ∷ Clear ∷ Clear ∷ []) ([] ∷ [] ∷ (Rejected 9 ∷ []) ∷ []) (pos 0 ∷ pos 0 ∷ pos 0 ∷ []) (1 ∷ []) (1 ∷ [])
     -- (e) 60 + 24 is BR25
-    ∷ record {
-      given = calls start (ask product.BillReady ∷ send (short ∷ []) ∷ []);
-      result =
-          came
-          (record {
-            results = Clear ∷ Clear ∷ [];
-            verdicts = [] ∷ (Rejected 25 ∷ []) ∷ [];
-            changes = pos 0 ∷ pos 0 ∷ [];
-            assigned = 1 ∷ [];
-            sequences = 1 ∷ [];
-          });
-    }
+    ∷ row start (ask product.BillReady ∷ send (short ∷ []) ∷ [])
+    (Clear ∷ Clear ∷ []) ([] ∷ (Rejected 25 ∷ []) ∷ []) (pos 0 ∷ pos 0 ∷ []) (1 ∷ []) (1 ∷ [])
     -- (f) Prepay 4250 with 4000 and 250 passes
-    ∷ record {
-      given = calls start (ask product.Prepay ∷ send (prepaid 250 ∷ []) ∷ []);
-      result =
-          came
-          (record {
-            results = Clear ∷ Clear ∷ [];
-            verdicts = [] ∷ (Accepted (posted.Prepay (cents 4250) (cents 4000) (cents 250)) ∷ []) ∷ [];
-            changes = pos 0 ∷ pos 4250 ∷ [];
-            assigned = 1 ∷ [];
-            sequences = 1 ∷ [];
-          });
-    }
+    ∷ row start (ask product.Prepay ∷ send (prepaid 250 ∷ []) ∷ [])
+    (Clear ∷ Clear ∷ []) ([] ∷ (Accepted (posted.Prepay (cents 4250) (cents 4000) (cents 250)) ∷ []) ∷ []) (pos 0 ∷ pos 4250 ∷ []) (1 ∷ []) (1 ∷ [])
     -- (g) with 251 BR20
-    ∷ record {
-      given = calls start (ask product.Prepay ∷ send (prepaid 251 ∷ []) ∷ []);
-      result =
-          came
-          (record {
-            results = Clear ∷ Clear ∷ [];
-            verdicts = [] ∷ (Rejected 20 ∷ []) ∷ [];
-            changes = pos 0 ∷ pos 0 ∷ [];
-            assigned = 1 ∷ [];
-            sequences = 1 ∷ [];
-          });
-    }
+    ∷ row start (ask product.Prepay ∷ send (prepaid 251 ∷ []) ∷ [])
+    (Clear ∷ Clear ∷ []) ([] ∷ (Rejected 20 ∷ []) ∷ []) (pos 0 ∷ pos 0 ∷ []) (1 ∷ []) (1 ∷ [])
     -- (h) 4250 replaced by 4000 returns -250, (i) a cancel then -4000
-    ∷ record {
-      given = calls start (ask product.BillReady ∷ send (rsp 4250 ∷ []) ∷ send (rsp 4000 ∷ []) ∷ cancel bill 642 ∷ []);
-      result =
-          came
-          (record {
-            results = Clear ∷ Clear ∷ Clear ∷ Clear ∷ [];
-            verdicts = [] ∷ (ready 4250 ∷ []) ∷ (ready 4000 ∷ []) ∷ [] ∷ [];
-            changes = pos 0 ∷ pos 4250 ∷ negsuc 249 ∷ negsuc 3999 ∷ [];
-            assigned = 1 ∷ 2 ∷ [];
-            sequences = 1 ∷ [];
-          });
-    }
+    ∷ row start (ask product.BillReady ∷ send (rsp 4250 ∷ []) ∷ send (rsp 4000 ∷ []) ∷ cancel bill 642 ∷ [])
+    (Clear ∷ Clear ∷ Clear ∷ Clear ∷ []) ([] ∷ (ready 4250 ∷ []) ∷ (ready 4000 ∷ []) ∷ [] ∷ []) (pos 0 ∷ pos 4250 ∷ negsuc 249 ∷ negsuc 3999 ∷ []) (1 ∷ 2 ∷ []) (1 ∷ [])
     -- (j) two RSPs of one bill in a file: both BR14, change 0
-    ∷ record {
-      given = calls start (ask product.BillReady ∷ send (rsp 4250 ∷ rsp 4000 ∷ []) ∷ []);
-      result =
-          came
-          (record {
-            results = Clear ∷ Clear ∷ [];
-            verdicts = [] ∷ (Rejected 14 ∷ Rejected 14 ∷ []) ∷ [];
-            changes = pos 0 ∷ pos 0 ∷ [];
-            assigned = 1 ∷ [];
-            sequences = 1 ∷ [];
-          });
-    }
+    ∷ row start (ask product.BillReady ∷ send (rsp 4250 ∷ rsp 4000 ∷ []) ∷ [])
+    (Clear ∷ Clear ∷ []) ([] ∷ (Rejected 14 ∷ Rejected 14 ∷ []) ∷ []) (pos 0 ∷ pos 0 ∷ []) (1 ∷ []) (1 ∷ [])
     -- (k) an accepted SUP: 001 becomes 002
-    ∷ record {
-      given = calls start (ask product.BillReady ∷ close (day 20171117) ∷ send (sup ∷ []) ∷ []);
-      result =
-          came
-          (record {
-            results = Clear ∷ Clear ∷ Clear ∷ [];
-            verdicts = [] ∷ [] ∷ (ready 4250 ∷ []) ∷ [];
-            changes = pos 0 ∷ pos 0 ∷ pos 4250 ∷ [];
-            assigned = 1 ∷ 2 ∷ [];
-            sequences = 2 ∷ [];
-          });
-    }
+    ∷ row start (ask product.BillReady ∷ close (day 20171117) ∷ send (sup ∷ []) ∷ [])
+    (Clear ∷ Clear ∷ Clear ∷ []) ([] ∷ [] ∷ (ready 4250 ∷ []) ∷ []) (pos 0 ∷ pos 0 ∷ pos 4250 ∷ []) (1 ∷ 2 ∷ []) (2 ∷ [])
     -- (l) the 128th bill is taken, the 129th is 3
-    ∷ record {
-      given = calls (holding 127) (request (other 5000) 642 ∷ request (other 5001) 642 ∷ []);
-      result =
-          came
-          (record {
-            results = Clear ∷ Stop 3 ∷ [];
-            verdicts = [] ∷ [] ∷ [];
-            changes = pos 0 ∷ pos 0 ∷ [];
-            assigned = 500 ∷ [];
-            sequences = replicate 128 1;
-          });
-    }
+    ∷ row (holding 127) (request (other 5000) 642 ∷ request (other 5001) 642 ∷ [])
+    (Clear ∷ Stop 3 ∷ []) ([] ∷ [] ∷ []) (pos 0 ∷ pos 0 ∷ []) (500 ∷ []) (replicate 128 1)
     ∷ []
 
 -- a row of the table holds

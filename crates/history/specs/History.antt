@@ -8,7 +8,7 @@ use Rattle.ledger.specs.declared.Identity.{Identity}
 use Rattle.ledger.specs.declared.Latest.{Latest}
 use Rattle.ledger.specs.declared.Terms.{Terms}
 use Rattle.ledger.specs.Lists.{has, sum, update}
-use Rattle.ledger.specs.Bills.{isOf}
+use Rattle.ledger.specs.Bills.{isOf, moved}
 use Rattle.ledger.specs.Books.{View}
 use Rattle.file.specs.File.{Group, fileGroups, detailOf, asksId}
 use Rattle.verdict.specs.declared.Check.{Check}
@@ -50,19 +50,6 @@ unfoldable pub historySum : History → ℕ
 historySum h = sum (chargeIn (h .postings)) (h .now .bills)
 
 -- ---- "a request adds or renews its bill, a cancel marks it, a close sets today, .. numbers and sequences move as above"
--- a bill with this sequence, count of requests, mark and latest request
-abbrev moved : ℕ → ℕ → Bool → Latest → Terms → Terms
-moved sequence requests cancelled latest t =
-    record {
-      identity = t .identity;
-      code = t .code;
-      product = t .product;
-      sequence = sequence;
-      requests = requests;
-      cancelled = cancelled;
-      latest = latest;
-    }
-
 -- what a request asks, under its Tracking ID: said here again, so that the machine's way of renewing a bill is held to it
 abbrev pub asks : Request → ℕ → Latest
 asks r tracking =

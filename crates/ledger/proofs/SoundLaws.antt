@@ -19,7 +19,7 @@ use Rattle.ledger.specs.declared.Terms.{Terms}
 use Rattle.ledger.specs.declared.Bill.{Bill}
 use Rattle.ledger.specs.declared.Ledger.{Ledger}
 use Rattle.ledger.specs.Lists.{every}
-use Rattle.ledger.specs.Bills.{isRateCode, codeBytes, chargeOf, isPrepay}
+use Rattle.ledger.specs.Bills.{isRateCode, codeBytes, chargeOf, isPrepay, moved}
 use Rattle.ledger.specs.Books.{Book, book, live, smallCharge}
 use Rattle.ledger.specs.Sound.{isNext, termsTests, soundTerms, balanced, soundAmounts, soundBill, holdsId, distinct, bookTests, sound, soundLedger}
 use Rattle.ledger.proofs.BookLaws.{length-live}
@@ -81,6 +81,25 @@ facts-terms t f =
         ),
       ),
     )
+
+-- terms that move, with the latest request of sound ones
+pub moved-facts : (t u : Terms) (sequence requests : ℕ) (cancelled : Bool) → TermsFacts t → TermsFacts u → 1 ≤ requests → requests ≤ sequence → sequence ≤ 999
+    → TermsFacts (moved sequence requests cancelled (u .latest) t)
+moved-facts t u sequence requests cancelled f g a b c =
+    record {
+      account = f .account;
+      key = f .key;
+      code = f .code;
+      asked = a;
+      requests = b;
+      sequence = c;
+      from-one = g .from-one;
+      tracking = g .tracking;
+      consumption = g .consumption;
+      billing = g .billing;
+      from = g .from;
+      scheduled = g .scheduled;
+    }
 
 -- applied plus owed is the charge, which is in its width
 pub balanced-charge : (charge applied owed : Cents) → balanced charge applied owed ≡ true → fitsCents charge ≡ true

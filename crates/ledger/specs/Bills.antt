@@ -80,6 +80,19 @@ owedOf (posted.BillReady charge) = charge
 owedOf (posted.Prepay charge applied owed) = owed
 
 -- ---- how it changes
+-- terms with this sequence, count of requests, mark and latest request
+abbrev pub moved : ℕ → ℕ → Bool → Latest → Terms → Terms
+moved sequence requests cancelled latest t =
+    record {
+      identity = t .identity;
+      code = t .code;
+      product = t .product;
+      sequence = sequence;
+      requests = requests;
+      cancelled = cancelled;
+      latest = latest;
+    }
+
 -- "A new identity is added with sequence and count 1."
 abbrev pub firstBill : Identity → RateCode → Product → Latest → Bill
 firstBill id code p latest =
@@ -91,53 +104,19 @@ firstBill id code p latest =
 -- "A known one takes the new values, sequence and count each rising by 1; posted amounts stay."
 abbrev pub renewed : Latest → Bill → Bill
 renewed latest b =
-    record {
-      terms =
-          record {
-            identity = b .terms .identity;
-            code = b .terms .code;
-            product = b .terms .product;
-            sequence = b .terms .sequence + 1;
-            requests = b .terms .requests + 1;
-            cancelled = b .terms .cancelled;
-            latest = latest;
-          };
-      posted = b .posted;
-    }
+    record { terms = moved (b .terms .sequence + 1) (b .terms .requests + 1) (b .terms .cancelled) latest (b .terms); posted = b .posted }
 
 -- "The group's amounts replace the posted ones; a SUP also raises the sequence by 1"
 abbrev pub posting : Posted → Bool → Bill → Bill
 posting amounts sup b =
     record {
-      terms =
-          record {
-            identity = b .terms .identity;
-            code = b .terms .code;
-            product = b .terms .product;
-            sequence = cond sup (b .terms .sequence + 1) (b .terms .sequence);
-            requests = b .terms .requests;
-            cancelled = b .terms .cancelled;
-            latest = b .terms .latest;
-          };
+      terms = moved (cond sup (b .terms .sequence + 1) (b .terms .sequence)) (b .terms .requests) (b .terms .cancelled) (b .terms .latest) (b .terms);
       posted = amounts;
     }
 
 -- Cancel: "marks the bill, its posted amounts become none"
 abbrev pub cancelledBill : Bill → Bill
-cancelledBill b =
-    record {
-      terms =
-          record {
-            identity = b .terms .identity;
-            code = b .terms .code;
-            product = b .terms .product;
-            sequence = b .terms .sequence;
-            requests = b .terms .requests;
-            cancelled = true;
-            latest = b .terms .latest;
-          };
-      posted = posted.None;
-    }
+cancelledBill b = record { terms = moved (b .terms .sequence) (b .terms .requests) true (b .terms .latest) (b .terms); posted = posted.None }
 
 -- what stands in a place that no bill was put in yet
 abbrev pub blankBill : Bill

@@ -41,6 +41,17 @@ billAt l p = getD (l .bills) p blankBill
 abbrev pub headerOf : Ledger → LedgerHeader
 headerOf l = record { today = l .today; tracking = l .«next_tracking»; confirmation = l .«next_confirmation»; count = l .count }
 
+-- the struct with this header and these bills
+abbrev pub withBills : LedgerHeader → List Bill → Ledger
+withBills h bs =
+    record {
+      today = h .today;
+      «next_tracking» = h .tracking;
+      «next_confirmation» = h .confirmation;
+      count = h .count;
+      bills = bs;
+    }
+
 -- a ledger without the posted amounts: what the rules read
 pub record View : Type 0 where
   pub today : Date
@@ -57,13 +68,8 @@ view l = record { today = l .today; tracking = l .tracking; confirmation = l .co
 -- the struct that holds the book k and, past its bills, what l held
 abbrev pub stored : Ledger → Book → Ledger
 stored l k =
-    record {
-      today = k .today;
-      «next_tracking» = k .tracking;
-      «next_confirmation» = k .confirmation;
-      count = length (k .bills);
-      bills = k .bills ++ drop (length (k .bills)) (l .bills);
-    }
+    withBills (record { today = k .today; tracking = k .tracking; confirmation = k .confirmation; count = length (k .bills) })
+    (k .bills ++ drop (length (k .bills)) (l .bills))
 
 -- a bill has this identity
 abbrev pub ofId : Identity → Bill → Bool
@@ -88,46 +94,21 @@ totalOf bs = sum billCharge bs
 -- with no bills
 abbrev pub emptyLedger : Date → ℕ → ℕ → Ledger
 emptyLedger today tracking confirmation =
-    record {
-      today = today;
-      «next_tracking» = tracking;
-      «next_confirmation» = confirmation;
-      count = 0;
-      bills = replicate 128 blankBill;
-    }
+    withBills (record { today = today; tracking = tracking; confirmation = confirmation; count = 0 }) (replicate 128 blankBill)
 
 -- with this header, and its bills as they were
 abbrev pub withHeader : Ledger → LedgerHeader → Ledger
-withHeader l h =
-    record {
-      today = h .today;
-      «next_tracking» = h .tracking;
-      «next_confirmation» = h .confirmation;
-      count = h .count;
-      bills = l .bills;
-    }
+withHeader l h = withBills h (l .bills)
 
 -- with the bill at place i replaced
 abbrev pub replaced : Ledger → ℕ → Bill → Ledger
-replaced l i b =
-    record {
-      today = l .today;
-      «next_tracking» = l .«next_tracking»;
-      «next_confirmation» = l .«next_confirmation»;
-      count = l .count;
-      bills = set (l .bills) i b;
-    }
+replaced l i b = withBills (headerOf l) (set (l .bills) i b)
 
 -- with one bill more
 abbrev pub appended : Ledger → Bill → Ledger
 appended l b =
-    record {
-      today = l .today;
-      «next_tracking» = l .«next_tracking»;
-      «next_confirmation» = l .«next_confirmation»;
-      count = l .count + 1;
-      bills = set (l .bills) (l .count) b;
-    }
+    withBills (record { today = l .today; tracking = l .«next_tracking»; confirmation = l .«next_confirmation»; count = l .count + 1 })
+    (set (l .bills) (l .count) b)
 
 -- with this header, and this bill at place p
 abbrev pub updated : Ledger → ℕ → Update → Ledger

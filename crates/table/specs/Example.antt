@@ -8,7 +8,7 @@ use Rattle.units.specs.declared.Date.{Date}
 use Rattle.ledger.specs.declared.Product.the-variants as product
 use Rattle.ledger.specs.declared.Posted.the-variants as posted
 use Rattle.ledger.specs.declared.Bill.{Bill}
-use Rattle.ledger.specs.Bills.{cents}
+use Rattle.ledger.specs.Bills.{cents, firstBill, posting}
 use Rattle.ledger.specs.Books.{Book}
 use Rattle.table.specs.Table.{ended, tableOf}
 
@@ -16,26 +16,9 @@ use Rattle.table.specs.Table.{ended, tableOf}
 -- Tracking ID, Billing Date and From Date
 abbrev pub exampleBill : ℕ → Date → Date → Bill
 exampleBill tracking billing from =
-    record {
-      terms =
-          record {
-            identity = record { account = 123456780019; key = 7 };
-            code = record { first = 90; second = 90; tens = 52; ones = 48 };
-            product = product.BillReady;
-            sequence = 1;
-            requests = 1;
-            cancelled = false;
-            latest =
-                record {
-                  tracking = tracking;
-                  consumption = record { 0 = 85 };
-                  billing = billing;
-                  from = from;
-                  scheduled = record { 0 = 20171116 };
-                };
-          };
-      posted = posted.BillReady (cents 4250);
-    }
+    posting (posted.BillReady (cents 4250)) false
+    (firstBill (record { account = 123456780019; key = 7 }) (record { first = 90; second = 90; tens = 52; ones = 48 }) product.BillReady
+    (record { tracking = tracking; consumption = record { 0 = 85 }; billing = billing; from = from; scheduled = record { 0 = 20171116 } }))
 
 -- a ledger with these bills on 20171113, whatever its next numbers
 abbrev pub onTheDay : ℕ → ℕ → List Bill → Book

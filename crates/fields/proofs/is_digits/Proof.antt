@@ -2,6 +2,7 @@
 use Prim.Native.Nat.{ℕ, _+_, _-_, _/_, _%_, _^_, _≤_, _<_, suc}
 use mathlib.Core.Path.{_≡_, sym, ap, _∙_}
 use native.Mathlib.Omega.{arith}
+use borrow.Author.Needs.{needs}
 use native.Mathlib.Nat.{div-one, zero-add}
 use native.Mathlib.Decide.{decLe}
 use lib.ListN.{length, getD}
@@ -36,19 +37,19 @@ loop-holds c =
     (omega arith, λ k h l. absurd (omega arith), sym (ap (λ (k : ℕ). a .n / 10 ^ k) e ∙ div-one (a .n)))
 
 sub-i : tie.Need-sub-i Inv-loop μ-loop
-sub-i c = omega arith
+sub-i c = search needs
 
 add-if1 : tie.Need-add-if1 Inv-loop μ-loop
-add-if1 c = omega arith
+add-if1 c = search needs
 
 shared-slice-read-if1 : tie.Need-shared-slice-read-if1 Inv-loop μ-loop
-shared-slice-read-if1 c = omega arith
+shared-slice-read-if1 c = search needs
 
 add-if1-2 : tie.Need-add-if1-2 Inv-loop μ-loop
-add-if1-2 c = omega arith
+add-if1-2 c = search needs
 
 cast-if1 : tie.Need-cast-if1 Inv-loop μ-loop
-cast-if1 c = omega arith
+cast-if1 c = search needs
 
 returns : tie.Need-returns Inv-loop μ-loop
 returns c =
@@ -59,7 +60,7 @@ returns c =
     sym (holds-differ (a .s .now) (digits (a .width) (a .n)) (a .at) (l .i - 1) g (λ e. c .if1 .taken (e ∙ t)))
 
 loop-less : tie.Need-loop-less Inv-loop μ-loop
-loop-less c = omega arith
+loop-less c = search needs
 
 loop-again : tie.Need-loop-again Inv-loop μ-loop
 loop-again c =
