@@ -169,10 +169,10 @@ module _ (seen : ℕ) (src ws₀ o₀ ws o : List ℕ) (r : Stepped) (x : Steppe
       (f .0, f .1, omega (arith, f .0, whole-small seen src (w .0) m (w .1)), f .2)
 
   module _ (at : ℕ) (out₀ : List ℕ) where
-    pub entry-cut : r ≡ step.Cut → EntryIn seen src at ws₀ out₀ ws out₀ traced.Cut
+    pub entry-cut : r ≡ step.Cut → EntryIn seen src at ws₀ out₀ ws out₀ (traced.Left false)
     entry-cut q = let w = stood-cut true 0 seen src ws₀ o₀ ws o r x q in rw (w .0) (w .1, refl, refl)
 
-    pub entry-bad : r ≡ step.Bad → EntryIn seen src at ws₀ out₀ ws out₀ traced.Bad
+    pub entry-bad : r ≡ step.Bad → EntryIn seen src at ws₀ out₀ ws out₀ (traced.Left true)
     entry-bad q = let w = stood-bad true 0 seen src ws₀ o₀ ws o r x q in rw (w .0) (w .1, refl, refl)
 
     pub entry-made : soundLedger (ledgerOf ws₀) ≡ true → (m : ℕ) (a : Answer) → r ≡ step.Made m a → (out : List ℕ) (end : ℕ)

@@ -61,8 +61,8 @@ module _ (k : ℕ) (s : List ℕ) (n : ℕ) (ws out ws′ out′ : List ℕ) (r 
   was-made m end q = go (headOf k s) refl x
     where
       go : (h : Head) → headOf k s ≡ h → EntryOn h k s n ws out ws′ out′ r → Was m end
-      go Cut e w = let p : traced.Cut ≡ traced.Made m end = sym (w .2) ∙ q in let z : _≡_ {A = ℕ} 0 1 = cc in absurd (omega arith)
-      go Bad e w = let p : traced.Bad ≡ traced.Made m end = sym (w .2) ∙ q in let z : _≡_ {A = ℕ} 0 1 = cc in absurd (omega arith)
+      go Cut e w = let p : traced.Left false ≡ traced.Made m end = sym (w .2) ∙ q in let z : _≡_ {A = ℕ} 0 1 = cc in absurd (omega arith)
+      go Bad e w = let p : traced.Left true ≡ traced.Made m end = sym (w .2) ∙ q in let z : _≡_ {A = ℕ} 0 1 = cc in absurd (omega arith)
       go (Whole b i) e w =
           let p : traced.Made i (w .0) ≡ traced.Made m end = sym (w .1) ∙ q in
           let z : i ≡ m = cc in
@@ -76,21 +76,13 @@ module _ (k : ℕ) (s : List ℕ) (n : ℕ) (ws out ws′ out′ : List ℕ) (r 
   abbrev None : Bool → Type 0
   None bad = (parse k s ≡ record { entries = []; stopped = bad; rest = s }) × (ws′ ≡ ws) × (out′ ≡ out)
 
-  was-cut : r ≡ traced.Cut → None false
-  was-cut q = go (headOf k s) refl x
+  was-left : (bad : Bool) → r ≡ traced.Left bad → None bad
+  was-left bad q = go (headOf k s) refl x
     where
-      go : (h : Head) → headOf k s ≡ h → EntryOn h k s n ws out ws′ out′ r → None false
-      go Cut e w = (parse-cut k s e, w .0, w .1)
-      go Bad e w = let p : traced.Bad ≡ traced.Cut = sym (w .2) ∙ q in let z : _≡_ {A = ℕ} 0 1 = cc in absurd (omega arith)
-      go (Whole b i) e w = let p : traced.Made i (w .0) ≡ traced.Cut = sym (w .1) ∙ q in let z : _≡_ {A = ℕ} 0 1 = cc in absurd (omega arith)
-
-  was-bad : r ≡ traced.Bad → None true
-  was-bad q = go (headOf k s) refl x
-    where
-      go : (h : Head) → headOf k s ≡ h → EntryOn h k s n ws out ws′ out′ r → None true
-      go Cut e w = let p : traced.Cut ≡ traced.Bad = sym (w .2) ∙ q in let z : _≡_ {A = ℕ} 0 1 = cc in absurd (omega arith)
-      go Bad e w = (parse-bad k s e, w .0, w .1)
-      go (Whole b i) e w = let p : traced.Made i (w .0) ≡ traced.Bad = sym (w .1) ∙ q in let z : _≡_ {A = ℕ} 0 1 = cc in absurd (omega arith)
+      go : (h : Head) → headOf k s ≡ h → EntryOn h k s n ws out ws′ out′ r → None bad
+      go Cut e w = let p : traced.Left false ≡ traced.Left bad = sym (w .2) ∙ q in let z : false ≡ bad = cc in subst None z (parse-cut k s e, w .0, w .1)
+      go Bad e w = let p : traced.Left true ≡ traced.Left bad = sym (w .2) ∙ q in let z : true ≡ bad = cc in subst None z (parse-bad k s e, w .0, w .1)
+      go (Whole b i) e w = let p : traced.Made i (w .0) ≡ traced.Left bad = sym (w .1) ∙ q in let z : _≡_ {A = ℕ} 0 1 = cc in absurd (omega arith)
 
 -- ---- one entry more
 module _ (seen : ℕ) (src ws₀ out₀ ws out : List ℕ) (at k n : ℕ) (w : Traces seen src ws₀ out₀ ws out at k n) where
@@ -106,11 +98,8 @@ module _ (seen : ℕ) (src ws₀ out₀ ws out : List ℕ) (at k n : ℕ) (w : T
     turn : EntryIn k (drop at src) n ws out ws′ out′ r
     turn = subst (λ (s : List ℕ). EntryIn k s n ws out ws′ out′ r) (rest-is src at) y
 
-    pub traces-cut : r ≡ traced.Cut → TracesIn seen src ws₀ out₀ ws′ out′ (ranTo at k n false false)
-    traces-cut q = let x = was-cut k (drop at src) n ws out ws′ out′ r turn q in rw (x .1, x .2) (ended false room (x .0))
-
-    pub traces-bad : r ≡ traced.Bad → TracesIn seen src ws₀ out₀ ws′ out′ (ranTo at k n false true)
-    traces-bad q = let x = was-bad k (drop at src) n ws out ws′ out′ r turn q in rw (x .1, x .2) (ended true room (x .0))
+    pub traces-left : (bad : Bool) → r ≡ traced.Left bad → TracesIn seen src ws₀ out₀ ws′ out′ (ranTo at k n false bad)
+    traces-left bad q = let x = was-left k (drop at src) n ws out ws′ out′ r turn bad q in rw (x .1, x .2) (ended bad room (x .0))
 
     module _ (m end : ℕ) (q : r ≡ traced.Made m end) where
       abbrev was : Was k (drop at src) n ws out ws′ out′ r turn m end

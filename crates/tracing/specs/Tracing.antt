@@ -52,8 +52,8 @@ pub record EntryMade (b : Body) (n seen : ℕ) (src : List ℕ) (at : ℕ) (ws�
 
 -- what stands at the start of src, made: where no whole entry does, words and output are as they were
 abbrev pub EntryOn : Head → ℕ → List ℕ → ℕ → List ℕ → List ℕ → List ℕ → List ℕ → Traced → Type 0
-EntryOn Cut seen src at ws₀ out₀ ws out r = (ws ≡ ws₀) × (out ≡ out₀) × (r ≡ traced.Cut)
-EntryOn Bad seen src at ws₀ out₀ ws out r = (ws ≡ ws₀) × (out ≡ out₀) × (r ≡ traced.Bad)
+EntryOn Cut seen src at ws₀ out₀ ws out r = (ws ≡ ws₀) × (out ≡ out₀) × (r ≡ traced.Left false)
+EntryOn Bad seen src at ws₀ out₀ ws out r = (ws ≡ ws₀) × (out ≡ out₀) × (r ≡ traced.Left true)
 EntryOn (Whole b n) seen src at ws₀ out₀ ws out r = (end : ℕ) × (r ≡ traced.Made n end) × EntryMade b n seen src at ws₀ out₀ ws out end
 
 abbrev pub EntryIn : ℕ → List ℕ → ℕ → List ℕ → List ℕ → List ℕ → List ℕ → Traced → Type 0

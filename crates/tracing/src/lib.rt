@@ -44,10 +44,9 @@ fn put_lines(
     end
 }
 
-// What stands before a reader: an entry cut short, a bad one, or one that was made, with how many bytes it has and where its lines end.
+// What stands before a reader: no whole good entry, and whether a bad one; or one that was made, with how many bytes it has and where its lines end.
 enum Traced {
-    Cut,
-    Bad,
+    Left(bool),
     Made(usize, usize),
 }
 
@@ -65,8 +64,8 @@ fn entry(
 {
     let r = entries::entry::step(ws, sent, src, seen, true);
     match r {
-        Stepped::Cut => Traced::Cut,
-        Stepped::Bad => Traced::Bad,
+        Stepped::Cut => Traced::Left(false),
+        Stepped::Bad => Traced::Left(true),
         Stepped::Made(n, a) => {
             let number = seen + 1;
             Traced::Made(n, put_lines(out, at, src, n, number, a, sent))
@@ -85,11 +84,8 @@ pub fn run(ws: &mut [u64], sent: &mut [u8], out: &mut [u8], src: &[u8], seen: u6
     while 8652 <= out.len() - n {
         let r = entry(ws, sent, out, n, &src[used..], k);
         match r {
-            Traced::Cut => {
-                return entries::run::ran_to(used, k, n, false, false);
-            }
-            Traced::Bad => {
-                return entries::run::ran_to(used, k, n, false, true);
+            Traced::Left(bad) => {
+                return entries::run::ran_to(used, k, n, false, bad);
             }
             Traced::Made(m, end) => {
                 used += m;

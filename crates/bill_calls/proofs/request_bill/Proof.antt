@@ -9,10 +9,14 @@ use Rattle.bill_calls.proofs.request_bill.Tie as tie
 sound-requires : tie.Need-sound-requires
 sound-requires c κs = search needs
 
+refused-requires : tie.Need-refused-requires
+refused-requires c κs = search needs
+
 returns : tie.Need-returns
 returns c =
-    let a = c .before .before .before .args in
-    stopped-called (stopped (a .l) _ 2 (cause-unsound (a .l) _ (sym (c .before .sound .ensures) ∙ not-true _ (c .if1 .taken)))) _
+    let l = c .before .before .before .before .args .l in
+    let unsound = sym (c .before .before .sound .ensures) ∙ not-true _ (c .before .if1 .taken) in
+    rw (c .refused .ensures) (stopped-called (stopped l _ 2 (cause-unsound l _ unsound)) _)
 
 request-on-sound-requires : tie.Need-request-on-sound-requires
 request-on-sound-requires c κs = sym (c .before .before .sound .ensures) ∙ not-false _ (c .before .if1 .left)
@@ -21,7 +25,7 @@ same-length : tie.Need-same-length
 same-length c = search needs
 
 returns-2 : tie.Need-returns-2
-returns-2 c = c .before .before .request-on-sound .ensures
+returns-2 c = search needs
 
 pub request-bill-spec : {M : Type 1} → statement M
-request-bill-spec = tie.close (tie.spec sound-requires returns request-on-sound-requires same-length returns-2)
+request-bill-spec = tie.close (tie.spec sound-requires refused-requires returns request-on-sound-requires same-length returns-2)

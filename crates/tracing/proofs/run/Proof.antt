@@ -6,7 +6,7 @@ use mathlib.Core.Path.{_≡_, refl, _∙_}
 use mathlib.Core.List.{List}
 use lib.ListN.{length}
 use Rattle.tracing.specs.Tracing.{Traces}
-use Rattle.tracing.proofs.RunLines.{traces-start, traces-cut, traces-bad, traces-full, traces-fits, traces-on}
+use Rattle.tracing.proofs.RunLines.{traces-start, traces-left, traces-full, traces-fits, traces-on}
 use Rattle.tracing.proofs.run.Statement.{statement}
 use Rattle.tracing.proofs.run.Tie as tie
 
@@ -40,77 +40,56 @@ part-entry-end c = omega (arith, c .before .before .before .before .loop .inv .t
 entry-requires : tie.Need-entry-requires Inv-loop μ-loop
 entry-requires c κs = (c .before .before .before .before .before .loop .inv .traces .made .sound, c .before .before .before .before .before .loop .inv .lent, omega (arith, c .before .before .before .before .loop-test .taken, c .before .before .before .before .before .loop .inv .traces .within, c .before .before .before .before .before .loop .inv .traces .kept))
 
-enum-told : tie.Need-enum-told Inv-loop μ-loop
-enum-told c = search needs
+enum-known-r : tie.Need-enum-known-r Inv-loop μ-loop
+enum-known-r c = search needs
 
 ran-to-requires : tie.Need-ran-to-requires Inv-loop μ-loop
 ran-to-requires c κs = search needs
 
 same-length : tie.Need-same-length Inv-loop μ-loop
-same-length c = c .before .before .before .before .before .before .before .before .before .entry .kept .0 ∙ c .before .before .before .before .before .before .before .before .before .before .before .before .before .before .before .loop .inv .words
+same-length c = c .before .before .before .before .before .before .before .before .before .before .entry .kept .0 ∙ c .before .before .before .before .before .before .before .before .before .before .before .before .before .before .before .before .loop .inv .words
 
 same-length-2 : tie.Need-same-length-2 Inv-loop μ-loop
-same-length-2 c = c .before .before .before .before .before .before .before .before .before .entry .kept .1 .0 ∙ c .before .before .before .before .before .before .before .before .before .before .before .before .before .before .before .loop .inv .room
+same-length-2 c = c .before .before .before .before .before .before .before .before .before .before .entry .kept .1 .0 ∙ c .before .before .before .before .before .before .before .before .before .before .before .before .before .before .before .before .loop .inv .room
 
 same-length-3 : tie.Need-same-length-3 Inv-loop μ-loop
-same-length-3 c = c .before .before .before .before .before .before .before .before .before .entry .kept .1 .1 .0 ∙ c .before .before .before .before .before .before .before .before .before .before .before .before .before .before .before .loop .inv .traces .kept
+same-length-3 c = c .before .before .before .before .before .before .before .before .before .before .entry .kept .1 .1 .0 ∙ c .before .before .before .before .before .before .before .before .before .before .before .before .before .before .before .before .loop .inv .traces .kept
 
 returns : tie.Need-returns Inv-loop μ-loop
 returns c =
-    let l = c .before .before .before .before .before .before .before .before .before .before .before .before .before .before .before .loop .inv .traces in
-    let t = c .before .before .before .before .before .before .before .before .before .before .before .before .before .before .loop-test .taken in
-    rw (c .ran-to .ensures) (traces-cut _ _ _ _ _ _ _ _ _ l (omega (arith, t)) _ _ _ (c .before .before .before .before .before .before .before .before .before .entry .ensures) (c .before .enum-told .given .1))
+    let l = c .before .before .before .before .before .before .before .before .before .before .before .before .before .before .before .before .loop .inv .traces in
+    let t = c .before .before .before .before .before .before .before .before .before .before .before .before .before .before .before .loop-test .taken in
+    rw (c .ran-to .ensures) (traces-left _ _ _ _ _ _ _ _ _ l (omega (arith, t)) _ _ _ (c .before .before .before .before .before .before .before .before .before .before .entry .ensures) _ (c .before .before .r .given .1))
 
-enum-told-2 : tie.Need-enum-told-2 Inv-loop μ-loop
-enum-told-2 c = search needs
+enum-known-r-2 : tie.Need-enum-known-r-2 Inv-loop μ-loop
+enum-known-r-2 c = search needs
+
+add-used : tie.Need-add-used Inv-loop μ-loop
+add-used c = let x = traces-fits _ _ _ _ _ _ _ _ _ (c .before .before .before .before .before .before .before .before .before .before .before .before .before .before .before .loop .inv .traces) (omega (arith, c .before .before .before .before .before .before .before .before .before .before .before .before .before .before .loop-test .taken)) _ _ _ (c .before .before .before .before .before .before .before .before .before .entry .ensures) _ _ (c .before .r2 .given .1) in omega (arith, x .0, x .1, x .2)
+
+add-k : tie.Need-add-k Inv-loop μ-loop
+add-k c = let x = traces-fits _ _ _ _ _ _ _ _ _ (c .before .before .before .before .before .before .before .before .before .before .before .before .before .before .before .loop .inv .traces) (omega (arith, c .before .before .before .before .before .before .before .before .before .before .before .before .before .before .loop-test .taken)) _ _ _ (c .before .before .before .before .before .before .before .before .before .entry .ensures) _ _ (c .before .r2 .given .1) in omega (arith, x .0, x .1, x .2)
+
+loop-less : tie.Need-loop-less Inv-loop μ-loop
+loop-less c = let x = traces-fits _ _ _ _ _ _ _ _ _ (c .before .before .before .before .before .before .before .before .before .before .before .before .before .before .before .loop .inv .traces) (omega (arith, c .before .before .before .before .before .before .before .before .before .before .before .before .before .before .loop-test .taken)) _ _ _ (c .before .before .before .before .before .before .before .before .before .entry .ensures) _ _ (c .before .r2 .given .1) in omega (arith, x .0, x .1, x .2)
+
+loop-again : tie.Need-loop-again Inv-loop μ-loop
+loop-again c = record { traces = traces-on _ _ _ _ _ _ _ _ _ (c .before .before .before .before .before .before .before .before .before .before .before .before .before .before .before .loop .inv .traces) (omega (arith, c .before .before .before .before .before .before .before .before .before .before .before .before .before .before .loop-test .taken)) _ _ _ (c .before .before .before .before .before .before .before .before .before .entry .ensures) _ _ (c .before .r2 .given .1) (c .before .before .before .before .before .before .before .before .before .entry .kept .1 .1 .0); words = c .before .before .before .before .before .before .before .before .before .entry .kept .0 ∙ c .before .before .before .before .before .before .before .before .before .before .before .before .before .before .before .loop .inv .words; room = c .before .before .before .before .before .before .before .before .before .entry .kept .1 .0 ∙ c .before .before .before .before .before .before .before .before .before .before .before .before .before .before .before .loop .inv .room; lent = omega (arith, c .before .before .before .before .before .before .before .before .before .entry .kept .1 .0, c .before .before .before .before .before .before .before .before .before .before .before .before .before .before .before .loop .inv .lent) }
 
 ran-to-requires-2 : tie.Need-ran-to-requires-2 Inv-loop μ-loop
 ran-to-requires-2 c κs = search needs
 
 same-length-4 : tie.Need-same-length-4 Inv-loop μ-loop
-same-length-4 c = c .before .before .before .before .before .before .before .before .before .entry .kept .0 ∙ c .before .before .before .before .before .before .before .before .before .before .before .before .before .before .before .loop .inv .words
+same-length-4 c = c .before .before .loop .inv .words
 
 same-length-5 : tie.Need-same-length-5 Inv-loop μ-loop
-same-length-5 c = c .before .before .before .before .before .before .before .before .before .entry .kept .1 .0 ∙ c .before .before .before .before .before .before .before .before .before .before .before .before .before .before .before .loop .inv .room
+same-length-5 c = c .before .before .loop .inv .room
 
 same-length-6 : tie.Need-same-length-6 Inv-loop μ-loop
-same-length-6 c = c .before .before .before .before .before .before .before .before .before .entry .kept .1 .1 .0 ∙ c .before .before .before .before .before .before .before .before .before .before .before .before .before .before .before .loop .inv .traces .kept
+same-length-6 c = c .before .before .loop .inv .traces .kept
 
 returns-2 : tie.Need-returns-2 Inv-loop μ-loop
-returns-2 c =
-    let l = c .before .before .before .before .before .before .before .before .before .before .before .before .before .before .before .loop .inv .traces in
-    let t = c .before .before .before .before .before .before .before .before .before .before .before .before .before .before .loop-test .taken in
-    rw (c .ran-to2 .ensures) (traces-bad _ _ _ _ _ _ _ _ _ l (omega (arith, t)) _ _ _ (c .before .before .before .before .before .before .before .before .before .entry .ensures) (c .before .enum-told2 .given .1))
-
-enum-known-r : tie.Need-enum-known-r Inv-loop μ-loop
-enum-known-r c = search needs
-
-add-used : tie.Need-add-used Inv-loop μ-loop
-add-used c = let x = traces-fits _ _ _ _ _ _ _ _ _ (c .before .before .before .before .before .before .before .before .before .before .before .before .before .before .before .loop .inv .traces) (omega (arith, c .before .before .before .before .before .before .before .before .before .before .before .before .before .before .loop-test .taken)) _ _ _ (c .before .before .before .before .before .before .before .before .before .entry .ensures) _ _ (c .before .r .given .1) in omega (arith, x .0, x .1, x .2)
-
-add-k : tie.Need-add-k Inv-loop μ-loop
-add-k c = let x = traces-fits _ _ _ _ _ _ _ _ _ (c .before .before .before .before .before .before .before .before .before .before .before .before .before .before .before .loop .inv .traces) (omega (arith, c .before .before .before .before .before .before .before .before .before .before .before .before .before .before .loop-test .taken)) _ _ _ (c .before .before .before .before .before .before .before .before .before .entry .ensures) _ _ (c .before .r .given .1) in omega (arith, x .0, x .1, x .2)
-
-loop-less : tie.Need-loop-less Inv-loop μ-loop
-loop-less c = let x = traces-fits _ _ _ _ _ _ _ _ _ (c .before .before .before .before .before .before .before .before .before .before .before .before .before .before .before .loop .inv .traces) (omega (arith, c .before .before .before .before .before .before .before .before .before .before .before .before .before .before .loop-test .taken)) _ _ _ (c .before .before .before .before .before .before .before .before .before .entry .ensures) _ _ (c .before .r .given .1) in omega (arith, x .0, x .1, x .2)
-
-loop-again : tie.Need-loop-again Inv-loop μ-loop
-loop-again c = record { traces = traces-on _ _ _ _ _ _ _ _ _ (c .before .before .before .before .before .before .before .before .before .before .before .before .before .before .before .loop .inv .traces) (omega (arith, c .before .before .before .before .before .before .before .before .before .before .before .before .before .before .loop-test .taken)) _ _ _ (c .before .before .before .before .before .before .before .before .before .entry .ensures) _ _ (c .before .r .given .1) (c .before .before .before .before .before .before .before .before .before .entry .kept .1 .1 .0); words = c .before .before .before .before .before .before .before .before .before .entry .kept .0 ∙ c .before .before .before .before .before .before .before .before .before .before .before .before .before .before .before .loop .inv .words; room = c .before .before .before .before .before .before .before .before .before .entry .kept .1 .0 ∙ c .before .before .before .before .before .before .before .before .before .before .before .before .before .before .before .loop .inv .room; lent = omega (arith, c .before .before .before .before .before .before .before .before .before .entry .kept .1 .0, c .before .before .before .before .before .before .before .before .before .before .before .before .before .before .before .loop .inv .lent) }
-
-ran-to-requires-3 : tie.Need-ran-to-requires-3 Inv-loop μ-loop
-ran-to-requires-3 c κs = search needs
-
-same-length-7 : tie.Need-same-length-7 Inv-loop μ-loop
-same-length-7 c = c .before .before .loop .inv .words
-
-same-length-8 : tie.Need-same-length-8 Inv-loop μ-loop
-same-length-8 c = c .before .before .loop .inv .room
-
-same-length-9 : tie.Need-same-length-9 Inv-loop μ-loop
-same-length-9 c = c .before .before .loop .inv .traces .kept
-
-returns-3 : tie.Need-returns-3 Inv-loop μ-loop
-returns-3 c = rw (c .ran-to3 .ensures) (traces-full _ _ _ _ _ _ _ _ _ (c .before .before .loop .inv .traces) (omega (arith, c .before .loop-test .left)))
+returns-2 c = rw (c .ran-to2 .ensures) (traces-full _ _ _ _ _ _ _ _ _ (c .before .before .loop .inv .traces) (omega (arith, c .before .loop-test .left)))
 
 pub run-spec : {M : Type 1} → statement M
 run-spec =
@@ -124,25 +103,19 @@ run-spec =
     part-entry-start
     part-entry-end
     entry-requires
-    enum-told
+    enum-known-r
     ran-to-requires
     same-length
     same-length-2
     same-length-3
     returns
-    enum-told-2
-    ran-to-requires-2
-    same-length-4
-    same-length-5
-    same-length-6
-    returns-2
-    enum-known-r
+    enum-known-r-2
     add-used
     add-k
     loop-less
     loop-again
-    ran-to-requires-3
-    same-length-7
-    same-length-8
-    same-length-9
-    returns-3)
+    ran-to-requires-2
+    same-length-4
+    same-length-5
+    same-length-6
+    returns-2)
