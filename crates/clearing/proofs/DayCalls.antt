@@ -39,6 +39,7 @@ use denote.Triple.Walked.{Stays, stay-ref, stay-none, walkOf, goes-none, goes-re
 use denote.Exit.{yes}
 use Rattle.clearing.proofs.Argument.{Arg}
 use Rattle.clearing.proofs.Lent.{Lent, Outcome, Row, Held, tyOf, vals}
+use Rattle.clearing.proofs.CoreCalls.{core-ends, core-says, Core, to-core, goes-core, said}
 use Rattle.clearing.proofs.LentSteps.{opens-lent, closes-lent, gives}
 
 abbrev pub fn-day : (E : Lent) → Outcome E → Ty → Name → Fn
@@ -58,12 +59,6 @@ fn-day E Y τ core = record {
       (seq (assign (place 0 []) (rvOpd (copy (place 3 (field 1 ∷ []))))) return)));
 }
 
-abbrev core-ends : (E : Lent) → Outcome E → RattleType → Ended
-core-ends E Y P = record {
-  signature = record { lifetimes = 0; outlives = []; params = plain (λ _. Row E) ∷ plain (λ _. P) ∷ []; result = plain (λ _. Y .S) };
-  kept = (yes, (yes, tt));
-}
-
 abbrev pub lent-ends : (E : Lent) → Outcome E → RattleType → Ended
 lent-ends E Y P = record {
   signature = record {
@@ -76,8 +71,9 @@ lent-ends E Y P = record {
 }
 
 module _ (E : Lent) (Y : Outcome E) (P : RattleType) (X : Arg P) (f : Held E → P .Denot → Y .S .Denot) {M : Type 1} (𝓤 : URA M) where
-  abbrev core-says : Clauses 𝓤 (core-ends E Y P)
-  core-says κs a = record { ghost = Unit {0}; requires = λ _. emp 𝓤; ensures = λ _ r e. fact 𝓤 (r ≡ f (a .0) (a .1 .0)) }
+  -- what the core's contract says
+  abbrev Says : Held E → P .Denot → Y .S .Denot → Type 0
+  Says l a r = r ≡ f l a
 
   -- a contract of the lent call follows from the core's: it holds of the ledger and the answer in whatever the core returns
   abbrev pub Follows : Clauses 𝓤 (lent-ends E Y P) → Type 1
@@ -87,7 +83,7 @@ module _ (E : Lent) (Y : Outcome E) (P : RattleType) (X : Arg P) (f : Held E →
 
   module _ (H : Heap 𝓤) (A : Atoms 𝓤) where
     abbrev pub Core-day : Contract 𝓤
-    Core-day = tripleOf 𝓤 H A (core-ends E Y P .signature) (closing 𝓤 H A (core-ends E Y P) core-says)
+    Core-day = Core E P (Y .S) Says 𝓤 H A
 
     abbrev stayed : Stays (lent-ends E Y P .signature .params) (lent-ends E Y P .kept)
     stayed = (stay-ref (0 ∷ []) tt (plain (λ _. Row E)), (stay-none (λ _. P) yes, tt))
@@ -103,18 +99,8 @@ module _ (E : Lent) (Y : Outcome E) (P : RattleType) (X : Arg P) (f : Held E →
         abbrev Post : c (κ, tt) x .ghost → Val → SProp 𝓤
         Post g = walkOf 𝓤 H A (lent-ends E Y P) stayed c .post (((κ, tt), (q, tt), tt, x, at), g)
 
-        -- what the core's triple binds outside
-        abbrev to-core : Core-day .Ghost
-        to-core = ((tt, tt, tt, (h, (n, tt)), (vals E h, (X .val n ∷ [], tt))), tt)
-
-        goes-core : Is (Row E) h (vals E h) → ent 𝓤 (emp 𝓤) (Core-day .pre to-core)
-        goes-core is =
-            qed W [] ∵ nothing ! $ owned ! P (Is P) (X .makes 𝓤 H A W) n _ isn $ fjoin ! $
-            owned ! (Row E) (Is (Row E)) (LL.makes (E .type) (E .plains) 𝓤 H A) h _ is $ fjoin ! $ nothing ! $ join ! $ frame ! $ done !
-
-        -- of the core's `ensured`, the clause alone
-        said : (r : Y .S .Denot) → ent 𝓤 (ensured 𝓤 H A (core-ends E Y P) core-says tt (h, (n, tt)) tt r) (fact 𝓤 (r ≡ f h n))
-        said r = exE 𝓤 _ (λ ws. snd∗ 𝓤 (sem 𝓤 H A (lasts (core-ends E Y P) tt (h, (n, tt)) ws)) (fact 𝓤 (r ≡ f h n)))
+        abbrev passed : Core-day .Ghost
+        passed = to-core E P (Y .S) Says 𝓤 H A X h n
 
         exits : (g : c (κ, tt) x .ghost) (r : Y .S .Denot) (u : Val) → r ≡ f h n → Is (Y .R) (Y .answer r) (u ∷ [])
             → ent 𝓤 (⋆ 𝓤 H A (‵ (fobs γ (Row E .coded .code (Y .ledger r))) ∷ ‵ (fbor κ (Body (mem (Row E)) b o γ)) ∷ ‵ (flft κ q) ∷ [])) (Post g u)
@@ -142,12 +128,12 @@ module _ (E : Lent) (Y : Outcome E) (P : RattleType) (X : Arg P) (f : Held E →
               -- [the ledger's cell; the open borrow; obs; auth; _4; …; _3; …; _2; …; _1; …; room for _0; …]
               assigns ! (of-opd ! (load ! (from ! (hop ! (look ! 10 refl) (stop !))) (look-raw ! 0 refl))) (from ! (stop !))
               (init ! 4 refl (LL.lawful (E .type) (E .laws) 𝓤 H A W .typed h _ was .0)) $
-              use0 W (raw (Core-day .pre to-core)) (goes-core was) $
-              calls-at ! fm Core-day known to-core (and-then ! (load ! (from ! (stop !)) (look ! 5 refl))
+              use0 W (raw (Core-day .pre passed)) (goes-core E P (Y .S) Says 𝓤 H A X h n W isn was) $
+              calls-at ! fm Core-day known passed (and-then ! (load ! (from ! (stop !)) (look ! 5 refl))
               (and-then ! (load ! (from ! (stop !)) (look ! 9 refl)) (no-more !))) (λ v.
               use1 W (later (some (λ (r : Y .S .Denot). (‵ ftrue ⊛ ‵ (Y .S .own r (v ∷ []))) ⊛ raw
-              (ensured 𝓤 H A (core-ends E Y P) core-says tt (h, (n, tt)) tt r)))) (id⊢ 𝓤 _) $ await ! tt $ pick ! (λ r.
-              split ! $ move ! (1 ∷ []) $ use1 W (raw (fact 𝓤 (r ≡ f h n))) (said r) $ heard ! (r ≡ f h n) (λ e. split ! $ drop ! $
+              (ensured 𝓤 H A (core-ends E P (Y .S)) (core-says E P (Y .S) Says 𝓤) tt (h, (n, tt)) tt r)))) (id⊢ 𝓤 _) $ await ! tt $ pick ! (λ r.
+              split ! $ move ! (1 ∷ []) $ use1 W (raw (fact 𝓤 (r ≡ f h n))) (said E P (Y .S) Says 𝓤 H A X h n r) $ heard ! (r ≡ f h n) (λ e. split ! $ drop ! $
               peeks ! (Y .S) (Is (Y .S)) (shows 𝓤 H A (Y .S)) r (v ∷ []) (λ is. drop ! $
               land ! (from ! (stop !)) (init ! 6 refl (Y .typed 𝓤 H A W r v is)) $
               rewrite ! 6 (λ (u : Val). ‵ (fat fullShare (tyStruct (Y .name) (tcons (tyOf E) (tcons (Y .reply .ty) tnil))) l₃ 0 u)) (Y .tells r v is) refl $

@@ -72,7 +72,7 @@ module _ (E : Lent) (Y : Outcome E) {M : Type 1} (𝓤 : URA M) (H : Heap 𝓤) 
       ) $ keep ! (0 ∷ 4 ∷ 1 ∷ 2 ∷ []) $ done !)))))
 
 module _ (E : Lent) (Y : Outcome E) (P : RattleType) (X : Arg P) (f : Held E → P .Denot → List ℕ → Y .S .Denot) (g : Held E → P .Denot → List ℕ → List ℕ) where
-  abbrev bill-says : {M : Type 1} (𝓤 : URA M) → Clauses 𝓤 (bill-ends E Y P)
+  abbrev pub bill-says : {M : Type 1} (𝓤 : URA M) → Clauses 𝓤 (bill-ends E Y P)
   bill-says 𝓤 κs a = record {
     ghost = Unit {0};
     requires = λ _. emp 𝓤;

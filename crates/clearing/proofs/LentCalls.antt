@@ -61,7 +61,7 @@ module _ (E : Lent) (b : ℕ) {M : Type 1} (𝓤 : URA M) (H : Heap 𝓤) (A : A
         (L .back ν γ) $ await t tt $ learn t (λ il. k v e il)))))
 
 module _ (E : Lent) (Y : Outcome E) (P : RattleType) (X : Arg P) (f : Held E → P .Denot → Y .S .Denot) where
-  abbrev day-says : {M : Type 1} (𝓤 : URA M) → Clauses 𝓤 (day-ends E Y P)
+  abbrev pub day-says : {M : Type 1} (𝓤 : URA M) → Clauses 𝓤 (day-ends E Y P)
   day-says 𝓤 κs a = record {
     ghost = Unit {0};
     requires = λ _. emp 𝓤;

@@ -35,7 +35,7 @@ use Rattle.clearing.proofs.LentCalls.{Goes, Ends, calls-lent}
 use Rattle.clearing.proofs.LentBillCalls.{Told, ends-out}
 
 module _ (E : Lent) (Y : Outcome E) (f : Held E → List ℕ → List ℕ → Y .S .Denot) (g : Held E → List ℕ → List ℕ → List ℕ) where
-  abbrev file-says : {M : Type 1} (𝓤 : URA M) → Clauses 𝓤 (file-ends E Y)
+  abbrev pub file-says : {M : Type 1} (𝓤 : URA M) → Clauses 𝓤 (file-ends E Y)
   file-says 𝓤 κs a = record {
     ghost = Unit {0};
     requires = λ _. emp 𝓤;

@@ -31,7 +31,7 @@ use Rattle.clearing.proofs.LentLocal.{val, ref-at, Loan, lent-shared}
 use Rattle.clearing.proofs.LentCalls.{Goes, Ends, calls-lent}
 
 module _ (E : Lent) (P : RattleType) (X : Arg P) (R : RattleType) (Says : Held E → P .Denot → R .Denot → Type 0) where
-  abbrev look-says : {M : Type 1} (𝓤 : URA M) → Clauses 𝓤 (look-ends E P R)
+  abbrev pub look-says : {M : Type 1} (𝓤 : URA M) → Clauses 𝓤 (look-ends E P R)
   look-says 𝓤 κs a = record { ghost = Unit {0}; requires = λ _. emp 𝓤; ensures = λ _ r e. fact 𝓤 (Says (now (a .0)) (a .1 .0) r) }
 
   abbrev pub Lent-look : {M : Type 1} (𝓤 : URA M) (H : Heap 𝓤) (A : Atoms 𝓤) → Contract 𝓤

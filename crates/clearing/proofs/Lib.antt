@@ -3,6 +3,7 @@ pub mod Argument
 pub mod Lent
 pub mod LentLedger
 pub mod LentSteps
+pub mod CoreCalls
 pub mod DayCalls
 pub mod BillCalls
 pub mod FileCalls
@@ -12,3 +13,5 @@ pub mod LentCalls
 pub mod LentBillCalls
 pub mod LentFileCalls
 pub mod LentLookups
+pub mod LentArguments
+pub mod ByValue

@@ -37,6 +37,7 @@ use denote.Triple.Walked.{Stays, stay-none-ref, stay-none, walkOf, goes-none, go
 use denote.Exit.{yes}
 use Rattle.clearing.proofs.Argument.{Arg, typed-at}
 use Rattle.clearing.proofs.Lent.{Lent, Row, Held, tyOf, vals}
+use Rattle.clearing.proofs.CoreCalls.{core-ends, core-says, Core, to-core, goes-core, said}
 use Rattle.clearing.proofs.LentSteps.{gives}
 
 abbrev pub fn-look : Lent → Ty → Ty → Name → Fn
@@ -53,12 +54,6 @@ fn-look E τ ρ core = record {
       (seq (call core (copy (place 3 []) ∷ copy (place 2 []) ∷ []) (place 0 [])) return);
 }
 
-abbrev core-ends : Lent → RattleType → RattleType → Ended
-core-ends E P R = record {
-  signature = record { lifetimes = 0; outlives = []; params = plain (λ _. Row E) ∷ plain (λ _. P) ∷ []; result = plain (λ _. R) };
-  kept = (yes, (yes, tt));
-}
-
 abbrev pub lent-ends : Lent → RattleType → RattleType → Ended
 lent-ends E P R = record {
   signature = record {
@@ -71,9 +66,6 @@ lent-ends E P R = record {
 }
 
 module _ (E : Lent) (P : RattleType) (X : Arg P) (R : RattleType) (Y : Arg R) (Says : Held E → P .Denot → R .Denot → Type 0) {M : Type 1} (𝓤 : URA M) where
-  abbrev core-says : Clauses 𝓤 (core-ends E P R)
-  core-says κs a = record { ghost = Unit {0}; requires = λ _. emp 𝓤; ensures = λ _ r e. fact 𝓤 (Says (a .0) (a .1 .0) r) }
-
   -- a contract of the lookup follows from the core's: it holds of whatever the core answers
   abbrev pub Follows : Clauses 𝓤 (lent-ends E P R) → Type 1
   Follows c =
@@ -82,7 +74,7 @@ module _ (E : Lent) (P : RattleType) (X : Arg P) (R : RattleType) (Y : Arg R) (S
 
   module _ (H : Heap 𝓤) (A : Atoms 𝓤) where
     abbrev pub Core-look : Contract 𝓤
-    Core-look = tripleOf 𝓤 H A (core-ends E P R .signature) (closing 𝓤 H A (core-ends E P R) core-says)
+    Core-look = Core E P R Says 𝓤 H A
 
     abbrev stayed : Stays (lent-ends E P R .signature .params) (lent-ends E P R .kept)
     stayed = (stay-none-ref (0 ∷ []) tt (plain (λ _. Row E)) yes, (stay-none (λ _. P) yes, tt))
@@ -98,18 +90,8 @@ module _ (E : Lent) (P : RattleType) (X : Arg P) (R : RattleType) (Y : Arg R) (S
         abbrev Post : c (κ, tt) x .ghost → Val → SProp 𝓤
         Post g = walkOf 𝓤 H A (lent-ends E P R) stayed c .post (((κ, tt), (q, tt), tt, x, at), g)
 
-        -- what the core's triple binds outside
-        abbrev to-core : Core-look .Ghost
-        to-core = ((tt, tt, tt, (h, (n, tt)), (vals E h, (X .val n ∷ [], tt))), tt)
-
-        goes-core : Is (Row E) h (vals E h) → ent 𝓤 (emp 𝓤) (Core-look .pre to-core)
-        goes-core is =
-            qed W [] ∵ nothing ! $ owned ! P (Is P) (X .makes 𝓤 H A W) n _ isn $ fjoin ! $
-            owned ! (Row E) (Is (Row E)) (LL.makes (E .type) (E .plains) 𝓤 H A) h _ is $ fjoin ! $ nothing ! $ join ! $ frame ! $ done !
-
-        -- of the core's `ensured`, the clause alone
-        said : (r : R .Denot) → ent 𝓤 (ensured 𝓤 H A (core-ends E P R) core-says tt (h, (n, tt)) tt r) (fact 𝓤 (Says h n r))
-        said r = exE 𝓤 _ (λ ws. snd∗ 𝓤 (sem 𝓤 H A (lasts (core-ends E P R) tt (h, (n, tt)) ws)) (fact 𝓤 (Says h n r)))
+        abbrev passed : Core-look .Ghost
+        passed = to-core E P R Says 𝓤 H A X h n
 
         exits : (g : c (κ, tt) x .ghost) (r : R .Denot) (u : Val) → Says h n r → Is R r (u ∷ [])
             → ent 𝓤 (⋆ 𝓤 H A (‵ (flft κ q) ∷ ‵ (fres γ (Row E .coded .code h)) ∷ ‵ (fshr-bor κ (λ s. partAt (Row E) s h b o)) ∷ [])) (Post g u)
@@ -137,12 +119,12 @@ module _ (E : Lent) (P : RattleType) (X : Arg P) (R : RattleType) (Y : Arg R) (S
               -- [a share of the ledger's cell; what it owns; the open borrow; the fractured borrow; true; res; …; room for _3; …; _2; …; _1; …; room for _0; …]
               assigns ! (of-opd ! (load ! (from ! (hop ! (look ! 11 refl) (stop !))) (look-raw ! 0 refl))) (from ! (stop !))
               (init ! 7 refl (LL.lawful (E .type) (E .laws) 𝓤 H A W .typed h _ was .0)) $
-              shuts ! tt (Row E) q′ h (vals E h) b o $ use0 W (raw (Core-look .pre to-core)) (goes-core was) $
-              calls-at ! fm Core-look known to-core (and-then ! (load ! (from ! (stop !)) (look ! 6 refl))
+              shuts ! tt (Row E) q′ h (vals E h) b o $ use0 W (raw (Core-look .pre passed)) (goes-core E P R Says 𝓤 H A X h n W isn was) $
+              calls-at ! fm Core-look known passed (and-then ! (load ! (from ! (stop !)) (look ! 6 refl))
               (and-then ! (load ! (from ! (stop !)) (look ! 8 refl)) (no-more !))) (λ v.
               use1 W (later (some (λ (r : R .Denot). (‵ ftrue ⊛ ‵ (R .own r (v ∷ []))) ⊛ raw
-              (ensured 𝓤 H A (core-ends E P R) core-says tt (h, (n, tt)) tt r)))) (id⊢ 𝓤 _) $ await ! tt $ pick ! (λ r.
-              split ! $ move ! (1 ∷ []) $ use1 W (raw (fact 𝓤 (Says h n r))) (said r) $ heard ! (Says h n r) (λ e. split ! $ drop ! $
+              (ensured 𝓤 H A (core-ends E P R) (core-says E P R Says 𝓤) tt (h, (n, tt)) tt r)))) (id⊢ 𝓤 _) $ await ! tt $ pick ! (λ r.
+              split ! $ move ! (1 ∷ []) $ use1 W (raw (fact 𝓤 (Says h n r))) (said E P R Says 𝓤 H A X h n r) $ heard ! (Says h n r) (λ e. split ! $ drop ! $
               peeks ! R (Is R) (shows 𝓤 H A R) r (v ∷ []) (λ is. drop ! $
               -- [the token; the fractured borrow; true; res; …; _3; …; _2; …; _1; …; room for _0; …]
               land ! (from ! (stop !)) (init ! 11 refl (typed-at Y 𝓤 H A W r v is)) $

@@ -1,10 +1,10 @@
 // The calls on a ledger that is lent: each makes the call by value and stores the ledger that it left.
 ghost use mathlib.Core.Path.{_≡_};
 ghost use lib.ListN.{length};
-ghost use Rattle.fields.specs.Put.{put};
 ghost use Rattle.causes.specs.Causes.{request, file, cancel, close};
-ghost use Rattle.calls.specs.Machine.{stepIn, called};
+ghost use Rattle.calls.specs.Machine.{called};
 ghost use Rattle.calls.specs.Days.{freshCalled};
+ghost use Rattle.clearing.specs.LentLeaves.{LentLeaves};
 ghost use Rattle.lookups.specs.Lookups.{OpenBill, amountsIn};
 use calls::Answer;
 use causes::Request;
@@ -35,9 +35,7 @@ pub fn close_day(ledger: &mut Ledger, d: Date) -> Answer
 
 // The call request: its BIL goes to out.
 pub fn request_bill(ledger: &mut Ledger, r: Request, out: &mut [u8]) -> Answer
-    ensures { λ a. ⌜ (now (ledger .exit) ≡ called (now (ledger .entry)) (request r (length (now (out .entry)))) .ledger)
-        × ((a ≡ called (now (ledger .entry)) (request r (length (now (out .entry)))) .answer)
-        × (now (out .exit) ≡ put (now (out .entry)) 0 (stepIn (now (ledger .entry)) (request r (length (now (out .entry)))) .written))) ⌝ }
+    ensures { λ a. ⌜ LentLeaves (now (ledger .entry)) (request r (length (now (out .entry)))) (now (out .entry)) (now (ledger .exit)) (now (out .exit)) a ⌝ }
 {
     let c = bill_calls::request_bill(*ledger, out, r);
     *ledger = c.ledger;
@@ -46,9 +44,7 @@ pub fn request_bill(ledger: &mut Ledger, r: Request, out: &mut [u8]) -> Answer
 
 // The call cancel: its CXL goes to out.
 pub fn cancel_bill(ledger: &mut Ledger, id: Identity, out: &mut [u8]) -> Answer
-    ensures { λ a. ⌜ (now (ledger .exit) ≡ called (now (ledger .entry)) (cancel id (length (now (out .entry)))) .ledger)
-        × ((a ≡ called (now (ledger .entry)) (cancel id (length (now (out .entry)))) .answer)
-        × (now (out .exit) ≡ put (now (out .entry)) 0 (stepIn (now (ledger .entry)) (cancel id (length (now (out .entry)))) .written))) ⌝ }
+    ensures { λ a. ⌜ LentLeaves (now (ledger .entry)) (cancel id (length (now (out .entry)))) (now (out .entry)) (now (ledger .exit)) (now (out .exit)) a ⌝ }
 {
     let c = bill_calls::cancel_bill(*ledger, out, id);
     *ledger = c.ledger;
@@ -57,9 +53,7 @@ pub fn cancel_bill(ledger: &mut Ledger, id: Identity, out: &mut [u8]) -> Answer
 
 // Takes a supplier file: its answers go to out.
 pub fn take_file(ledger: &mut Ledger, s: &[u8], out: &mut [u8]) -> Answer
-    ensures { λ a. ⌜ (now (ledger .exit) ≡ called (now (ledger .entry)) (file (now (s .entry)) (length (now (out .entry)))) .ledger)
-        × ((a ≡ called (now (ledger .entry)) (file (now (s .entry)) (length (now (out .entry)))) .answer)
-        × (now (out .exit) ≡ put (now (out .entry)) 0 (stepIn (now (ledger .entry)) (file (now (s .entry)) (length (now (out .entry)))) .written))) ⌝ }
+    ensures { λ a. ⌜ LentLeaves (now (ledger .entry)) (file (now (s .entry)) (length (now (out .entry)))) (now (out .entry)) (now (ledger .exit)) (now (out .exit)) a ⌝ }
 {
     let c = calls::files::take_file(*ledger, out, s);
     *ledger = c.ledger;

@@ -1,48 +1,18 @@
--- `clearing::request_bill` meets its contract: `BillCalls.antt`'s walk, at `calls::bills::request_bill`. Assumes nothing.
-use mathlib.Core.Path.{ap}
-use Prim.Native.Nat.{ℕ}
-use mathlib.Core.List.{List}
-use lib.ListN.{length}
-use base.Logic.{emp}
-use contract.Monad.{factI}
-use contract.Running.{givenOf, tables, tablesOf}
-use denote.Triple.Spec.{tripleOf}
-use denote.Triple.Table.{entered, cited}
-use Rattle.fields.specs.Put.{put}
-use Rattle.causes.specs.declared.Request.{Request}
-use Rattle.causes.proofs.Request as P
-use Rattle.causes.proofs.Request.Laws as P′
-use Rattle.ledger.specs.declared.Ledger.{Ledger}
-use Rattle.calls.specs.declared.Called.{Called}
-use Rattle.causes.specs.Causes.{request}
-use Rattle.calls.specs.Machine.{stepIn, called}
+-- `clearing::request_bill` meets its contract: `BillCalls.antt`'s walk, at `bill_calls::request_bill`. Assumes nothing.
 use Rattle.bill_calls.proofs.request_bill.Symbol as core-def
 use Rattle.bill_calls.proofs.request_bill.Symbol.{name as #core}
 use Rattle.bill_calls.proofs.request_bill.Met as core-thm
-use Rattle.clearing.proofs.Argument.{Arg, declared}
+use Rattle.causes.proofs.Request as Q
+use Rattle.causes.specs.Causes.{request}
 use Rattle.clearing.proofs.LentLedger.{lent, outcome}
-use Rattle.clearing.proofs.BillCalls.{Core-bill, meets-bill}
-use Rattle.clearing.proofs.request_bill.Key.{name as #request}
-use Rattle.clearing.proofs.request_bill as request-bill
+use Rattle.clearing.proofs.LentArguments.{asked, returned, written}
+use Rattle.clearing.proofs.ByValue.{bill-call}
+use Rattle.clearing.proofs.request_bill.Key.{name as #own}
 use Rattle.clearing.proofs.request_bill.Statement as stated
 use Rattle.clearing.proofs.request_bill.Code as code
 
-abbrev argument : Arg P.the-row
-argument = declared P.the-type P′.the-laws P′.the-plain P′.the-copy
-
-abbrev returned : Ledger → Request → List ℕ → Called
-returned l r out = called l (request r (length out))
-
-abbrev written : Ledger → Request → List ℕ → List ℕ
-written l r out = put out 0 (stepIn l (request r (length out)) .written)
-
 pub request-bill-spec : {M : Type 1} → stated.statement M
-unfolding code.routine tablesOf
+unfolding code.routine
 request-bill-spec 𝓤 H 𝓜 𝓖 𝓡 =
-    entered 𝓤 H (tripleOf 𝓤 H (𝓖 .A) request-bill.signature (request-bill.spec 𝓤 H (𝓖 .A) (𝓜 .mem) (𝓡 .run)))
-    (tables 𝓤 H 𝓜 𝓡 code.env .C) (tables 𝓤 H 𝓜 𝓡 code.env .Λ) #request code.function (code.unfolded 𝓤 H 𝓜 𝓡)
-    (meets-bill lent outcome P.the-row argument returned written 𝓤 H (𝓖 .A) (givenOf 𝓤 H 𝓜 𝓖) (request-bill.clauses 𝓤 H (𝓖 .A) (𝓜 .mem) (𝓡 .run))
-    (λ κs a g r zs e w. factI 𝓤 _ (emp 𝓤) (ap (λ (z : Called). z .ledger) e, (ap (λ (z : Called). z .answer) e, w)))
-    #core (tablesOf 𝓤 H 𝓜 (tables 𝓤 H 𝓜 𝓡 code.env))
-    (cited 𝓤 H (Core-bill lent outcome P.the-row argument returned written 𝓤 H (𝓖 .A))
-    𝓜 𝓡 code.env #core core-def.routine code.calls-bill-calls·request-bill (core-thm.met 𝓤 H 𝓜 𝓖 𝓡)))
+    bill-call 𝓤 H 𝓜 𝓖 𝓡 code.env #own #core core-def.routine code.calls-bill-calls·request-bill
+    lent outcome Q.the-row asked (returned request) (written request) (code.unfolded 𝓤 H 𝓜 𝓡) (core-thm.met 𝓤 H 𝓜 𝓖 𝓡)

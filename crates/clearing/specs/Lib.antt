@@ -1,0 +1,2 @@
+-- What the contracts of the lent calls cite.
+pub mod LentLeaves
