@@ -17,6 +17,9 @@ use Rattle.words.specs.Layout.{holdsLedger, ledgerWords, ledgerOf}
 use Rattle.words.proofs.WordLaws.{words-ledger, sound-holds}
 use Rattle.verdict.specs.declared.Check.{Check}
 use Rattle.verdict.specs.declared.Check.the-variants.{Clear, Stop}
+use Rattle.units.specs.declared.Date.{Date}
+use Rattle.ledger.specs.declared.Identity.{Identity}
+use Rattle.causes.specs.declared.Request.{Request}
 use Rattle.causes.specs.declared.Start.{Start}
 use Rattle.causes.specs.Causes.{Call, request, file, cancel, close}
 use Rattle.calls.specs.declared.Called.{Called}
@@ -59,13 +62,19 @@ no-fresh (body.Cancel id) h = tt
 no-fresh (body.Close d) h = tt
 no-fresh body.Unread h = tt
 
+-- what holds of every other body
+module _ (Q : Body → Type 0) (asks : (r : Request) → Q (body.Request r)) (files : Q body.File) (cancels : (id : Identity) → Q (body.Cancel id))
+    (closes : (d : Date) → Q (body.Close d)) (unread : Q body.Unread) where
+  each : (b : Body) → NoFresh b → Q b
+  each (body.Fresh s) h = absurd h
+  each (body.Request r) h = asks r
+  each body.File h = files
+  each (body.Cancel id) h = cancels id
+  each (body.Close d) h = closes d
+  each body.Unread h = unread
+
 pub no-fresh-taken : (b : Body) → NoFresh b → Taken b
-no-fresh-taken (body.Fresh s) h = absurd h
-no-fresh-taken (body.Request r) h = tt
-no-fresh-taken body.File h = tt
-no-fresh-taken (body.Cancel id) h = tt
-no-fresh-taken (body.Close d) h = tt
-no-fresh-taken body.Unread h = tt
+no-fresh-taken = each Taken (λ r. tt) tt (λ id. tt) (λ d. tt) tt
 
 -- ---- "Returned is the number alone; ledger and output stay as they were."
 pub refused-leaves : (ws out : List ℕ) (n : ℕ) → Leaves (record { ledger = ledgerOf ws; answer = Refused n }) [] ws out ws out (Refused n)
@@ -109,14 +118,12 @@ module _ (room : ℕ) (ws out s : List ℕ) where
   -- words that hold no sound ledger
   pub unsound-leaves : (b : Body) → NoFresh b → soundLedger (ledgerOf ws) ≡ false
       → Leaves (entryIn room ws b s) (writtenIn room (ledgerOf ws) b s) ws out ws out (Refused 2)
-  unsound-leaves (body.Fresh x) n h = absurd n
-  unsound-leaves (body.Request r) n h = stopped-leaves (request r room) h
-  unsound-leaves body.File n h = stopped-leaves (file s room) h
-  unsound-leaves (body.Cancel id) n h = stopped-leaves (cancel id room) h
-  unsound-leaves (body.Close d) n h =
-      close-written (close d) _ ws out (Refused 2) (stopped (ledgerOf ws) (close d) 2 (cause-unsound (ledgerOf ws) (close d) h) .bytes)
-      (stopped-leaves (close d) h)
-  unsound-leaves body.Unread n h = refused-leaves ws out 2
+  unsound-leaves b n h =
+      each (λ (x : Body). Leaves (entryIn room ws x s) (writtenIn room (ledgerOf ws) x s) ws out ws out (Refused 2))
+      (λ r. stopped-leaves (request r room) h) (stopped-leaves (file s room) h) (λ id. stopped-leaves (cancel id room) h)
+      (λ d. close-written (close d) _ ws out (Refused 2) (stopped (ledgerOf ws) (close d) 2 (cause-unsound (ledgerOf ws) (close d) h) .bytes)
+      (stopped-leaves (close d) h))
+      (refused-leaves ws out 2) b n
 
   -- a call that is refused leaves the ledger
   call-kept : (c : Call) (n : ℕ) → called (ledgerOf ws) c .answer ≡ Refused n → called (ledgerOf ws) c .ledger ≡ ledgerOf ws
@@ -128,20 +135,12 @@ module _ (room : ℕ) (ws out s : List ℕ) where
       go (Stop m) f = refl
 
   kept : (b : Body) → NoFresh b → (n : ℕ) → madeIn room (ledgerOf ws) b s .answer ≡ Refused n → madeIn room (ledgerOf ws) b s .ledger ≡ ledgerOf ws
-  kept (body.Fresh x) h n e = absurd h
-  kept (body.Request r) h n e = call-kept (request r room) n e
-  kept body.File h n e = call-kept (file s room) n e
-  kept (body.Cancel id) h n e = call-kept (cancel id room) n e
-  kept (body.Close d) h n e = call-kept (close d) n e
-  kept body.Unread h n e = refl
+  kept =
+      each (λ (b : Body). (n : ℕ) → madeIn room (ledgerOf ws) b s .answer ≡ Refused n → madeIn room (ledgerOf ws) b s .ledger ≡ ledgerOf ws)
+      (λ r. call-kept (request r room)) (call-kept (file s room)) (λ id. call-kept (cancel id room)) (λ d. call-kept (close d)) (λ n e. refl)
 
   entry-made : (b : Body) → NoFresh b → madeIn room (ledgerOf ws) b s ≡ entryIn room ws b s
-  entry-made (body.Fresh x) h = absurd h
-  entry-made (body.Request r) h = refl
-  entry-made body.File h = refl
-  entry-made (body.Cancel id) h = refl
-  entry-made (body.Close d) h = refl
-  entry-made body.Unread h = refl
+  entry-made = each (λ (b : Body). madeIn room (ledgerOf ws) b s ≡ entryIn room ws b s) (λ r. refl) refl (λ id. refl) (λ d. refl) refl
 
   -- the words of the ledger that it leaves, or those that were lent
   words-left : (ws₁ : List ℕ) (k : Called) → holdsLedger ws ≡ true → holdsLedger ws₁ ≡ true → ledgerOf ws₁ ≡ k .ledger

@@ -17,7 +17,6 @@ use Rattle.journal.specs.declared.Head.the-variants.{Cut, Bad, Whole}
 use Rattle.journal.specs.Entries.{headOf}
 use Rattle.journal.specs.Made.{madeIn, writtenIn}
 use Rattle.journal.proofs.MadeLaws.{Taken, made-sound}
-use Rattle.entries.specs.declared.entry.Stepped.{Stepped}
 use Rattle.entries.specs.declared.entry.Stepped.the-variants as step
 use Rattle.entries.specs.Stepping.{MadeIn, SteppedIn}
 use Rattle.engine.proofs.WordCalls.{said-none}

@@ -1,18 +1,16 @@
 -- The loop over the entries at the start of some bytes that writes their notices. Assumes nothing.
 use Prim.Native.Nat.{ℕ, _+_, _-_, _*_, _≤_, _<_}
-use mathlib.Core.Path.{_≡_, refl, sym, ap, ap₂, _∙_, subst}
-use mathlib.Core.Bool.{Bool, true, false, cond, _&&_, true≢false, false≢true}
+use mathlib.Core.Path.{_≡_, refl, sym, ap, _∙_, subst}
+use mathlib.Core.Bool.{Bool, true, false, cond, _&&_, true≢false}
 use mathlib.Core.List.{List, [], _∷_, _++_, append-assoc, append-nil}
 use native.Mathlib.Omega.{arith}
 use native.Mathlib.Nat.{add-zero, zero-add}
 use lib.Dec.{ltb}
-use lib.ListN.{length, take, drop, length-drop, length-append}
-use lib.Seq.{drop-drop, take-all}
+use lib.ListN.{length, take, drop, length-append}
 use borrow.Rule.Slice.PartMut.{putMid}
 use borrow.Author.Tests.{ltb-false}
 use Rattle.fields.specs.Put.{put, part}
 use Rattle.fields.proofs.PutLaws.{put-lent, put-nil, length-part}
-use Rattle.ledger.specs.declared.Ledger.{Ledger}
 use Rattle.ledger.specs.Books.{Book, book}
 use Rattle.ledger.specs.Sound.{soundLedger}
 use Rattle.words.specs.Layout.{ledgerOf}
@@ -20,20 +18,16 @@ use Rattle.group.specs.Turns.{said}
 use Rattle.group.proofs.OutputLaws.{Out, out-start, out-more}
 use Rattle.calls.specs.declared.Answer.{Answer}
 use Rattle.calls.specs.Machine.{outcomes}
-use Rattle.journal.specs.declared.Body.{Body}
 use Rattle.journal.specs.declared.Head.{Head}
 use Rattle.journal.specs.declared.Head.the-variants.{Cut, Bad, Whole}
 use Rattle.journal.specs.Entries.{headOf}
-use Rattle.journal.specs.Journal.{Entry, Parsed, parse, made, makes, callOf}
-use Rattle.journal.specs.Made.{madeIn, writtenIn, madeAll, noticesOf, writtenBy, lengthOf}
-use Rattle.journal.proofs.HeadLaws.{whole-fits}
-use Rattle.journal.proofs.JournalLaws.{parse-cut, parse-bad, parse-whole}
-use Rattle.journal.proofs.BeginLaws.{whole-taken, makes-append}
-use Rattle.journal.proofs.MadeLaws.{made-book, made-written}
+use Rattle.journal.specs.Journal.{Entry, made, makes, callOf}
+use Rattle.journal.specs.Made.{writtenIn, noticesOf, writtenBy, lengthOf}
+use Rattle.journal.proofs.JournalLaws.{parse-cut, parse-bad}
+use Rattle.journal.proofs.MadeLaws.{made-written}
 use Rattle.journal.proofs.ShortLaws.{made-short, made-length}
 use Rattle.entries.specs.declared.entry.Stepped.{Stepped}
 use Rattle.entries.specs.declared.entry.Stepped.the-variants as step
-use Rattle.entries.specs.declared.run.Ran.{Ran}
 use Rattle.entries.specs.Stepping.{StepOn, SteppedIn}
 use Rattle.entries.specs.Running.{entryAt, ranTo, FirstMade, NoneLeft, RanIn}
 use Rattle.entries.proofs.StoodLaws.{Stood, stood-whole, stood-cut, stood-bad}

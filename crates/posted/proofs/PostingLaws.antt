@@ -1,12 +1,12 @@
 -- The table at the end of the reading is that of the bytes that came. Assumes nothing.
-use Prim.Native.Nat.{ℕ, _≤_}
+use Prim.Native.Nat.{ℕ}
 use mathlib.Core.Path.{_≡_, refl, sym, ap, ap₂, _∙_}
 use mathlib.Core.Bool.{Bool, true, false, cond}
 use mathlib.Core.List.{List, []}
 use native.Mathlib.Omega.{arith}
-use lib.ListN.{length, take, length-append}
-use Rattle.fields.specs.Put.{put, part}
-use Rattle.fields.proofs.PutLaws.{part-put, put-nil}
+use lib.ListN.{length, take}
+use Rattle.fields.specs.Put.{put}
+use Rattle.fields.proofs.PutLaws.{put-nil, front-put, put-longer}
 use Rattle.ledger.specs.Books.{book}
 use Rattle.words.specs.Layout.{ledgerOf}
 use Rattle.table.specs.Table.{tableOf}
@@ -19,14 +19,6 @@ use Rattle.replay.specs.declared.Tells.the-variants.{Nothing}
 use Rattle.replay.specs.Reading.{Reads}
 use Rattle.posted.specs.Posting.{toPrint, tableBy, Tables, Posts}
 
-size-put : (xs ys : List ℕ) → length ys ≤ length (put xs 0 ys)
-unfolding put
-size-put xs ys = simp length-append (omega arith)
-
-front : (xs ys : List ℕ) (k : ℕ) → k ≡ length ys → take k (put xs 0 ys) ≡ ys
-unfolding part
-front xs ys k e = part-put xs 0 ys k (omega arith) (sym e)
-
 -- ---- what is written
 module _ (e : End) (ws before : List ℕ) where
   by-table : (t after : List ℕ) (n : ℕ) (o : Output) → t ≡ tableBy e ws → n ≡ length t → after ≡ put before 0 t → o ≡ toPrint n
@@ -36,7 +28,7 @@ module _ (e : End) (ws before : List ℕ) where
         descriptor = ap (λ (k : Output). k .descriptor) w;
         bytes = q ∙ ap (put before 0) p;
         size = ap (λ (k : Output). k .length) w ∙ s ∙ ap length p;
-        within = omega (arith, ap (λ (k : Output). k .length) w, s, ap length q, size-put before t);
+        within = omega (arith, ap (λ (k : Output). k .length) w, s, ap length q, put-longer before t);
       }
 
   pub tables-none : (o : Output) → e .failed ≡ true → o ≡ toPrint 0 → Tables e ws before before o
@@ -63,7 +55,7 @@ module _ (ws buf out₀ out : List ℕ) (e : End) (o : Output) (x : e .failed �
         failed = f;
         bytes = s;
         descriptor = w .descriptor;
-        told = ap (take (o .length)) (w .bytes) ∙ front out₀ (tableBy e ws) (o .length) (w .size) ∙ t;
+        told = ap (take (o .length)) (w .bytes) ∙ front-put out₀ (tableBy e ws) (o .length) (w .size) ∙ t;
         size = w .size ∙ ap length t;
         within = w .within;
         claimed = claimed s;

@@ -7,7 +7,6 @@ ghost use Rattle.words.specs.Layout.{ledgerSize, ledgerOf};
 ghost use Rattle.table.specs.Table.{tableRoom};
 ghost use Rattle.posted.specs.Posting.{toPrint, Tables, Posts};
 use entries::run;
-use libc::STDERR_FILENO;
 use libc::STDOUT_FILENO;
 use replay::Tells;
 use streams::output;
@@ -47,22 +46,13 @@ fn post_input(ws: &mut [u64], buf: &mut [u8], out: &mut [u8]) -> Output
     table_of(ws, out, e)
 }
 
-// Says on standard error what the program does: it was given an argument, and takes none.
-fn explain() {
-    output::write_all(STDERR_FILENO, b"usage: posted < JOURNAL > TABLE\n");
-    output::write_all(
-        STDERR_FILENO,
-        b"Reads a journal on standard input and writes its posted table: a line a bill, and the total.\n",
-    );
-    output::write_all(
-        STDERR_FILENO,
-        b"A bad entry stops it: the last line is then stopped,13. A failed read or write is told here; the exit status is 0.\n",
-    );
-}
-
 fn main() {
     if 1 < os::arg_count() {
-        explain();
+        output::explain(
+            b"usage: posted < JOURNAL > TABLE\n",
+            b"Reads a journal on standard input and writes its posted table: a line a bill, and the total.\n",
+            b"A bad entry stops it: the last line is then stopped,13. A failed read or write is told here; the exit status is 0.\n",
+        );
         return;
     }
     let mut ws = [0u64; 2436];

@@ -1,26 +1,18 @@
 -- What is written at the end is the line of the bytes that came. Assumes nothing.
-use Prim.Native.Nat.{ℕ, _+_, _≤_}
-use mathlib.Core.Path.{_≡_, refl, sym, ap, _∙_}
+use Prim.Native.Nat.{ℕ, _+_}
+use mathlib.Core.Path.{_≡_, refl, ap, _∙_}
 use mathlib.Core.Bool.{Bool, true, false, not, _&&_}
 use mathlib.Core.List.{List, []}
 use native.Mathlib.Omega.{arith}
-use lib.ListN.{length, take, length-append}
-use Rattle.fields.specs.Put.{put, part}
-use Rattle.fields.proofs.PutLaws.{part-put}
+use lib.ListN.{length, take}
+use Rattle.fields.specs.Put.{put}
+use Rattle.fields.proofs.PutLaws.{front-put, put-longer}
 use Rattle.table.specs.Table.{stopLine}
 use Rattle.journal.specs.Journal.{endsBad}
 use Rattle.replay.specs.declared.Tells.{Tells}
 use Rattle.streams.specs.declared.pieces.End.{End}
 use Rattle.replay.specs.Reading.{Reads}
 use Rattle.replay.specs.Ending.{stopBy, StopLine, Told}
-
-size-put : (xs ys : List ℕ) → length ys ≤ length (put xs 0 ys)
-unfolding put
-size-put xs ys = simp length-append (omega arith)
-
-front : (xs ys : List ℕ) (k : ℕ) → k ≡ length ys → take k (put xs 0 ys) ≡ ys
-unfolding part
-front xs ys k e = part-put xs 0 ys k (omega arith) (sym e)
 
 pub stop-line : (e : End) (bad : Bool) (n : ℕ) (before after : List ℕ) → bad ≡ endsBad (e .stopped) (e .left) (e .seen)
     → n ≡ 0 + length (stopLine (not (e .failed) && bad)) → after ≡ put before 0 (stopLine (not (e .failed) && bad))
@@ -32,12 +24,12 @@ stop-line e bad n before after b s q =
     record {
       bytes = bytes;
       size = size;
-      within = omega (arith, size, ap length bytes, size-put before (stopBy e));
+      within = omega (arith, size, ap length bytes, put-longer before (stopBy e));
     }
 
 module _ (t : Tells) (ws buf out₀ out : List ℕ) (e : End) (n : ℕ) (x : e .failed ≡ false → Reads t ws buf e) (w : StopLine e out₀ out n) where
   told : take n out ≡ stopBy e
-  told = ap (take n) (w .bytes) ∙ front out₀ (stopBy e) n (w .size)
+  told = ap (take n) (w .bytes) ∙ front-put out₀ (stopBy e) n (w .size)
 
   by-failed : (f : Bool) → e .failed ≡ f → take n out ≡ stopLine (not f && endsBad (e .stopped) (e .left) (e .seen))
   by-failed f q = told ∙ ap (λ (b : Bool). stopLine (not b && endsBad (e .stopped) (e .left) (e .seen))) q

@@ -7,7 +7,7 @@ use native.Mathlib.Omega.{arith}
 use lib.ListN.{length, take, drop}
 use lib.Seq.{length-take-le, take-add, drop-at}
 use Rattle.fields.specs.Put.{part, put}
-use Rattle.fields.proofs.PutLaws.{length-part, part-put}
+use Rattle.fields.proofs.PutLaws.{length-part, front-put}
 use Rattle.entries.specs.declared.run.Ran.{Ran}
 use Rattle.entries.specs.Running.{ranTo, RanIn}
 use Rattle.input.specs.declared.Filled as filled
@@ -37,13 +37,9 @@ module _ (xs : List ℕ) (m n : ℕ) (h : m ≤ n) (fits : n ≤ length xs) wher
       ∙ ap (drop m) (take-add m (n - m) xs)
       ∙ drop-at (take m xs) (take (n - m) (drop m xs)) m (length-take-le m xs (omega arith))
 
-  front : (ys : List ℕ) (k : ℕ) → length ys ≡ k → take k (put xs 0 ys) ≡ ys
-  unfolding part
-  front ys k e = part-put xs 0 ys k (omega arith) e
-
   kept-front : (buf : List ℕ) (k : ℕ) → k ≡ n - m → buf ≡ put xs 0 (part xs m (n - m)) → take k buf ≡ drop m (take n xs)
   kept-front buf k e q =
-      ap₂ (λ (i : ℕ) (l : List ℕ). take i l) e q ∙ front (part xs m (n - m)) (n - m) (length-part xs m (n - m) (omega arith)) ∙ sym drop-take
+      ap₂ (λ (i : ℕ) (l : List ℕ). take i l) e q ∙ front-put xs (part xs m (n - m)) (n - m) (sym (length-part xs m (n - m) (omega arith))) ∙ sym drop-take
 
 -- ---- what is asked for
 module _ (seen : ℕ) (src ws₀ out₀ ws out : List ℕ) where

@@ -8,7 +8,7 @@ use Rattle.fields.specs.Put.{put}
 use Rattle.ledger.specs.Books.{Book, book}
 use Rattle.ledger.specs.Sound.{soundLedger}
 use Rattle.words.specs.Layout as layout
-use Rattle.journal.specs.Journal.{Entry, Parsed, parse, makes, noBook, endsBad, ledgerOf, isBad}
+use Rattle.journal.specs.Journal.{Entry, parse, makes, noBook, endsBad, ledgerOf, isBad}
 use Rattle.journal.specs.Made.{madeAll, noticesOf}
 use Rattle.entries.specs.declared.run.Ran.{Ran}
 use Rattle.entries.specs.Running.{behind, FirstMade, NoneLeft, firstLedger}

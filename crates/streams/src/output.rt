@@ -1,6 +1,7 @@
 // What a program writes, and to which descriptor.
 ghost use Prim.Native.Nat.{_≤_};
 ghost use lib.ListN.{length};
+use libc::STDERR_FILENO;
 
 // The first bytes of some output, so many, go to a descriptor; where there are none nothing is written.
 pub struct Output {
@@ -34,6 +35,13 @@ pub fn write_all(descriptor: i32, bytes: &[u8]) -> bool {
         done += took;
     }
     true
+}
+
+// Says on standard error how a program is used, what it does and how it ends: it was given an argument, and takes none.
+pub fn explain(usage: &[u8], does: &[u8], ends: &[u8]) {
+    write_all(STDERR_FILENO, usage);
+    write_all(STDERR_FILENO, does);
+    write_all(STDERR_FILENO, ends);
 }
 
 // Writes what is to be written of the bytes; a write that failed is told on standard error.

@@ -24,7 +24,6 @@ use Rattle.calls.specs.Machine.{Outcome}
 use Rattle.calls.proofs.RunLaws.{step-in}
 use Rattle.journal.specs.declared.Body.{Body}
 use Rattle.journal.specs.declared.Body.the-variants as body
-use Rattle.journal.specs.declared.Head.{Head}
 use Rattle.journal.specs.declared.Head.the-variants.{Cut, Bad, Whole}
 use Rattle.journal.specs.Entries.{bodyOf, headOf}
 use Rattle.journal.specs.Made.{madeIn, writtenIn}
@@ -40,7 +39,7 @@ use Rattle.trace_lines.specs.Read.{Lined}
 use Rattle.trace_lines.specs.Trace.{answerTo, entryAnswer, linesUnder, entryLines}
 use Rattle.trace_lines.proofs.TraceLaws.{answer-in, Carried, file-done, file-refused, tag-is, put-begins}
 use Rattle.tracing.specs.declared.Traced.the-variants as traced
-use Rattle.tracing.specs.Tracing.{isDone, LinesOf, EntryMade, EntryOn, EntryIn}
+use Rattle.tracing.specs.Tracing.{isDone, LinesOf, EntryIn}
 
 -- ---- the lines under an entry's line
 module _ (k : Book) (bytes : List ℕ) where

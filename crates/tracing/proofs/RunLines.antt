@@ -1,16 +1,15 @@
 -- The loop over the entries at the start of some bytes that writes their lines. Assumes nothing.
 use Prim.Native.Nat.{ℕ, suc, _+_, _-_, _≤_, _<_}
 use mathlib.Core.Path.{_≡_, refl, sym, ap, ap₂, _∙_, subst}
-use mathlib.Core.Bool.{Bool, true, false, true≢false, false≢true}
+use mathlib.Core.Bool.{Bool, true, false}
 use mathlib.Core.List.{List, [], _∷_, _++_, append-assoc, append-nil}
 use native.Mathlib.Omega.{arith}
 use native.Mathlib.Nat.{add-zero, zero-add}
-use lib.ListN.{length, take, drop, length-drop, length-append}
-use lib.Seq.{drop-drop, take-all}
+use lib.ListN.{length, take, drop, length-drop}
+use lib.Seq.{take-all}
 use borrow.Author.Tests.{lt-ltb, le-ltb}
-use Rattle.fields.specs.Put.{put, part}
+use Rattle.fields.specs.Put.{put}
 use Rattle.fields.proofs.PutLaws.{first, next, put-nil}
-use Rattle.ledger.specs.declared.Ledger.{Ledger}
 use Rattle.ledger.specs.Books.{Book, book}
 use Rattle.ledger.specs.Sound.{soundLedger}
 use Rattle.words.specs.Layout.{ledgerOf}
@@ -19,17 +18,13 @@ use Rattle.journal.specs.declared.Head.{Head}
 use Rattle.journal.specs.declared.Head.the-variants.{Cut, Bad, Whole}
 use Rattle.journal.specs.Entries.{headOf}
 use Rattle.journal.specs.Journal.{Entry, parse, made, makes}
-use Rattle.journal.specs.Made.{madeIn, madeAll}
-use Rattle.journal.proofs.HeadLaws.{whole-fits}
-use Rattle.journal.proofs.JournalLaws.{parse-cut, parse-bad, parse-whole}
-use Rattle.journal.proofs.BeginLaws.{whole-taken, makes-append}
-use Rattle.journal.proofs.MadeLaws.{made-book}
-use Rattle.entries.specs.Running.{entryAt, ranTo, FirstMade}
+use Rattle.journal.proofs.JournalLaws.{parse-cut, parse-bad}
+use Rattle.entries.specs.Running.{entryAt, ranTo}
 use Rattle.entries.proofs.FirstMadeLaws.{first-none, left-full, left-none, next-fits, first-more}
 use Rattle.trace_lines.specs.Trace.{entryLines, traceLines}
 use Rattle.tracing.specs.declared.Traced.{Traced}
 use Rattle.tracing.specs.declared.Traced.the-variants as traced
-use Rattle.tracing.specs.Tracing.{entryRoom, EntryMade, EntryOn, EntryIn, Traces, TracesIn}
+use Rattle.tracing.specs.Tracing.{EntryMade, EntryOn, EntryIn, Traces, TracesIn}
 
 -- ---- entries one after another
 pub lines-append : (number : ℕ) (k : Book) (es fs : List Entry)

@@ -1,27 +1,15 @@
 -- `lent_day::answer_day` meets its contract: `AnswerWalk.antt`'s walk, at `clearing::take_file` and `clearing::amounts_of`. All that it knows of them is that each meets
 -- its contract. Assumes nothing.
-use mathlib.Core.Path.{_≡_, refl}
-use Prim.Native.Nat.{ℕ}
-use mathlib.Core.List.{List}
-use lib.ListN.{length}
+use mathlib.Core.Path.{refl}
 use base.Logic.{emp}
 use contract.Monad.{factI}
 use contract.Running.{givenOf, tables, tablesOf}
 use denote.Triple.Spec.{tripleOf}
 use denote.Triple.Table.{entered, cited}
-use Rattle.fields.specs.Put.{put}
-use Rattle.ledger.specs.declared.Identity.{Identity}
-use Rattle.ledger.specs.declared.Ledger.{Ledger}
 use Rattle.ledger.proofs.Identity as P
-use Rattle.ledger.proofs.Identity.Laws as P′
-use Rattle.calls.specs.declared.Called.{Called}
-use Rattle.lookups.specs.declared.Amounts.{Amounts}
 use Rattle.causes.specs.Causes.{file}
-use Rattle.calls.specs.Machine.{stepIn, called}
-use Rattle.lookups.specs.Lookups.{amountsIn}
 use Rattle.lookups.proofs.Amounts as R
-use Rattle.lookups.proofs.Amounts.Laws as R′
-use Rattle.clearing.proofs.Argument.{Arg, declared, enumerated}
+use Rattle.clearing.proofs.LentArguments.{identity, amounts, returned, written, Found}
 use Rattle.clearing.proofs.LentLedger.{lent, outcome}
 use Rattle.clearing.proofs.take_file.Symbol as file-def
 use Rattle.clearing.proofs.take_file.Symbol.{name as #file}
@@ -37,30 +25,15 @@ use Rattle.lent_day.proofs.answer_day as answer-day
 use Rattle.lent_day.proofs.answer_day.Statement as stated
 use Rattle.lent_day.proofs.answer_day.Code as code
 
-abbrev identity : Arg P.the-row
-identity = declared P.the-type P′.the-laws P′.the-plain P′.the-copy
-
-abbrev amounts : Arg R.the-row
-amounts = enumerated R.the-type R′.the-laws tt R′.the-plain R′.the-copy
-
-abbrev returned : Ledger → List ℕ → List ℕ → Called
-returned l s out = called l (file s (length out))
-
-abbrev written : Ledger → List ℕ → List ℕ → List ℕ
-written l s out = put out 0 (stepIn l (file s (length out)) .written)
-
-abbrev Found : Ledger → Identity → Amounts → Type 0
-Found l id r = r ≡ amountsIn l id
-
 pub answer-day-spec : {M : Type 1} → stated.statement M
 unfolding code.routine tablesOf
 answer-day-spec 𝓤 H 𝓜 𝓖 𝓡 =
     entered 𝓤 H (tripleOf 𝓤 H (𝓖 .A) answer-day.signature (answer-day.spec 𝓤 H (𝓖 .A) (𝓜 .mem) (𝓡 .run)))
     (tables 𝓤 H 𝓜 𝓡 code.env .C) (tables 𝓤 H 𝓜 𝓡 code.env .Λ) #answer code.function (code.unfolded 𝓤 H 𝓜 𝓡)
-    (meets-answer lent outcome P.the-row identity R.the-row amounts returned written Found 𝓤 H (𝓖 .A) (givenOf 𝓤 H 𝓜 𝓖)
+    (meets-answer lent outcome P.the-row identity R.the-row amounts (returned file) (written file) Found 𝓤 H (𝓖 .A) (givenOf 𝓤 H 𝓜 𝓖)
     (answer-day.clauses 𝓤 H (𝓖 .A) (𝓜 .mem) (𝓡 .run)) (λ κs a g r e. factI 𝓤 _ (emp 𝓤) (e, refl))
     #file #amounts (tablesOf 𝓤 H 𝓜 (tables 𝓤 H 𝓜 𝓡 code.env))
-    (cited 𝓤 H (Lent-file lent outcome returned written 𝓤 H (𝓖 .A))
+    (cited 𝓤 H (Lent-file lent outcome (returned file) (written file) 𝓤 H (𝓖 .A))
     𝓜 𝓡 code.env #file file-def.routine code.calls-clearing·take-file (file-thm.met 𝓤 H 𝓜 𝓖 𝓡))
     (cited 𝓤 H (Lent-look lent P.the-row identity R.the-row Found 𝓤 H (𝓖 .A))
     𝓜 𝓡 code.env #amounts amounts-def.routine code.calls-clearing·amounts-of (amounts-thm.met 𝓤 H 𝓜 𝓖 𝓡)))

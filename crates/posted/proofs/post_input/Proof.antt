@@ -12,7 +12,10 @@ read-all-requires : tie.Need-read-all-requires
 read-all-requires c κs = search needs
 
 table-of-requires : tie.Need-table-of-requires
-table-of-requires c κs = (λ z. c .before .before .before .before .before .before .before .before .read-all .ensures z .sound, c .before .before .before .before .before .before .before .before .read-all .kept .1 .1 .0 ∙ c .before .before .before .before .before .before .before .before .before .before .before .before .before .before .before .before .before .before .before .pre .2)
+table-of-requires c κs =
+    let start = c .before .before .before .before .before .before .before .before .before .before .before .before .before .before .before .before .before .before .before in
+    let read = c .before .before .before .before .before .before .before .before in
+    (λ z. read .read-all .ensures z .sound, read .read-all .kept .1 .1 .0 ∙ start .pre .2)
 
 same-length : tie.Need-same-length
 same-length c = search needs
@@ -24,7 +27,9 @@ same-length-3 : tie.Need-same-length-3
 same-length-3 c = search needs
 
 returns : tie.Need-returns
-returns c = posts _ _ _ _ _ _ (c .before .before .before .before .before .before .before .before .before .before .before .read-all .ensures) (c .before .before .table-of .ensures)
+returns c =
+    let read = c .before .before .before .before .before .before .before .before .before .before .before in
+    posts _ _ _ _ _ _ (read .read-all .ensures) (c .before .before .table-of .ensures)
 
 pub post-input-spec : {M : Type 1} → statement M
 post-input-spec =

@@ -16,7 +16,9 @@ run-telling-requires : tie.Need-run-telling-requires
 run-telling-requires c κs = search needs
 
 keep-requires : tie.Need-keep-requires
-keep-requires c κs = (used-within _ _ _ _ _ _ _ _ _ (c .before .before .before .before .before .before .before .before .before .before .before .before .pre .1) (c .before .before .before .before .before .run-telling .ensures), c .before .before .before .before .before .before .before .before .before .before .before .before .pre .1)
+keep-requires c κs =
+    let start = c .before .before .before .before .before .before .before .before .before .before .before .before in
+    (used-within _ _ _ _ _ _ _ _ _ (start .pre .1) (c .before .before .before .before .before .run-telling .ensures), start .pre .1)
 
 same-length : tie.Need-same-length
 same-length c = search needs
@@ -28,7 +30,10 @@ same-length-3 : tie.Need-same-length-3
 same-length-3 c = search needs
 
 returns : tie.Need-returns
-returns c = made _ _ _ _ _ _ _ _ _ (c .before .before .before .before .before .before .before .before .before .before .before .before .before .before .before .pre .1) (c .before .before .before .before .before .before .before .before .run-telling .ensures) _ _ (c .before .before .keep .ensures .0) (c .before .before .keep .ensures .1) (c .before .before .keep .kept .0)
+returns c =
+    let start = c .before .before .before .before .before .before .before .before .before .before .before .before .before .before .before in
+    let ran = c .before .before .before .before .before .before .before .before in
+    made _ _ _ _ _ _ _ _ _ (start .pre .1) (ran .run-telling .ensures) _ _ (c .before .before .keep .ensures .0) (c .before .before .keep .ensures .1) (c .before .before .keep .kept .0)
 
 pub make-spec : {M : Type 1} → statement M
 make-spec =

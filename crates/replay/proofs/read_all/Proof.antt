@@ -76,7 +76,9 @@ same-length : tie.Need-same-length Inv-loop μ-loop
 same-length c = c .before .before .before .before .before .before .before .loop .inv .same-words
 
 same-length-2 : tie.Need-same-length-2 Inv-loop μ-loop
-same-length-2 c = c .before .before .before .before .more .kept .0 ∙ c .before .before .before .before .before .before .before .loop .inv .room ∙ sym (c .before .before .before .before .before .before .before .before .before .before .before .pre .1)
+same-length-2 c =
+    let start = c .before .before .before .before .before .before .before .before .before .before .before in
+    c .before .before .before .before .more .kept .0 ∙ c .before .before .before .before .before .before .before .loop .inv .room ∙ sym (start .pre .1)
 
 same-length-3 : tie.Need-same-length-3 Inv-loop μ-loop
 same-length-3 c = c .before .before .before .before .before .before .before .loop .inv .same-out
@@ -87,28 +89,41 @@ returns c =
     (λ z. let e : c .before .before .before .before .before .before .before .loop .full ≡ false = rw z at (c .before .before .before .before .more .ensures .holds) in rw (c .before .before .before .before .more .ensures .stay) (c .before .before .before .before .before .before .before .loop .inv .waits e))
 
 make-requires : tie.Need-make-requires Inv-loop μ-loop
-make-requires c κs = (c .before .before .before .before .before .before .before .before .before .before .before .loop .inv .reads .sound, fits (c .before .before .before .before) .1)
+make-requires c κs =
+    let top = c .before .before .before .before .before .before .before .before .before .before .before in
+    (top .loop .inv .reads .sound, fits (c .before .before .before .before) .1)
 
 add-total : tie.Need-add-total Inv-loop μ-loop
-add-total c = omega (arith, c .before .before .before .before .before .before .before .before .before .before .before .before .before .before .before .before .before .before .before .loop .inv .small, room-out (c .before .before .before .before .before .before .before), c .before .before .before .before .before .before .before .before .before .before .before .before .before .before .before .before .before .before .loop-test .taken)
+add-total c =
+    let top = c .before .before .before .before .before .before .before .before .before .before .before .before .before .before .before .before .before .before .before in
+    let tested = c .before .before .before .before .before .before .before .before .before .before .before .before .before .before .before .before .before .before in
+    omega (arith, top .loop .inv .small, room-out (c .before .before .before .before .before .before .before), tested .loop-test .taken)
 
 output-of-requires : tie.Need-output-of-requires Inv-loop μ-loop
 output-of-requires c κs = search needs
 
 send-requires : tie.Need-send-requires Inv-loop μ-loop
-send-requires c κs = omega (arith, ap (λ (o : Output). o .length) (c .before .output-of .ensures), c .before .before .before .before .before .before .before .before .before .make .ensures .room)
+send-requires c κs =
+    let made = c .before .before .before .before .before .before .before .before .before in
+    omega (arith, ap (λ (o : Output). o .length) (c .before .output-of .ensures), made .make .ensures .room)
 
 end-of-piece-requires : tie.Need-end-of-piece-requires Inv-loop μ-loop
 end-of-piece-requires c κs = search needs
 
 same-length-4 : tie.Need-same-length-4 Inv-loop μ-loop
-same-length-4 c = c .before .before .before .before .before .before .before .before .before .before .before .before .before .make .kept .0 ∙ c .before .before .before .before .before .before .before .before .before .before .before .before .before .before .before .before .before .before .before .before .before .before .before .before .before .loop .inv .same-words
+same-length-4 c =
+    let top = c .before .before .before .before .before .before .before .before .before .before .before .before .before .before .before .before .before .before .before .before .before .before .before .before .before in
+    let made = c .before .before .before .before .before .before .before .before .before .before .before .before .before in
+    made .make .kept .0 ∙ top .loop .inv .same-words
 
 same-length-5 : tie.Need-same-length-5 Inv-loop μ-loop
 same-length-5 c = room-kept (c .before .before .before .before .before .before .before .before .before .before .before .before .before) ∙ sym (c .before .before .before .before .before .before .before .before .before .before .before .before .before .before .before .before .before .before .before .before .before .before .before .before .before .before .before .before .before .pre .1)
 
 same-length-6 : tie.Need-same-length-6 Inv-loop μ-loop
-same-length-6 c = c .before .before .before .before .before .before .before .before .before .before .before .before .before .make .kept .1 .1 .0 ∙ c .before .before .before .before .before .before .before .before .before .before .before .before .before .before .before .before .before .before .before .before .before .before .before .before .before .loop .inv .same-out
+same-length-6 c =
+    let top = c .before .before .before .before .before .before .before .before .before .before .before .before .before .before .before .before .before .before .before .before .before .before .before .before .before in
+    let made = c .before .before .before .before .before .before .before .before .before .before .before .before .before in
+    made .make .kept .1 .1 .0 ∙ top .loop .inv .same-out
 
 returns-2 : tie.Need-returns-2 Inv-loop μ-loop
 returns-2 c = piece-ended _ _ _ _ (c .before .before .before .before .before .before .before .before .before .before .before .before .before .make .result) (c .before .before .before .send .result) _ (c .end-of-piece .ensures) (came (c .before .before .before .before .before .before .before .before .before .before .before .before .before)) (c .before .before .before .before .before .before .before .before .before .before .before .before .before .make .ensures .waits) (c .before .before .before .before .before .before .before .before .before .before .before .before .before .make .ensures .goes) (c .before .if1 .taken)

@@ -41,7 +41,9 @@ same-length-2 : tie.Need-same-length-2
 same-length-2 c = search needs
 
 returns-2 : tie.Need-returns-2
-returns-2 c = lines-only (c .before .before .before .before .before .before .before .before .before .before .args .number) (c .before .before .before .before .before .before .before .before .before .before .args .src .now) (c .before .before .before .before .before .before .before .before .before .before .args .n) (c .before .before .before .before .before .before .before .before .before .before .args .a) (c .before .before .before .before .before .before .before .before .before .before .args .sent .now) (c .before .before .before .before .before .before .before .before .before .before .args .out .now) (c .before .before .before .before .before .before .before .before .before .before .args .at) (omega (arith, c .before .before .before .before .before .before .before .before .before .before .pre .1)) _ _ _ (c .before .is-done .ensures) (c .if1 .left) (c .before .before .before .before .put-entry-line .ensures .0) (c .before .before .before .before .put-entry-line .ensures .1) (c .before .before .before .before .put-entry-line .ensures .2)
+returns-2 c =
+    let start = c .before .before .before .before .before .before .before .before .before .before in
+    lines-only (start .args .number) (start .args .src .now) (start .args .n) (start .args .a) (start .args .sent .now) (start .args .out .now) (start .args .at) (omega (arith, start .pre .1)) _ _ _ (c .before .is-done .ensures) (c .if1 .left) (c .before .before .before .before .put-entry-line .ensures .0) (c .before .before .before .before .put-entry-line .ensures .1) (c .before .before .before .before .put-entry-line .ensures .2)
 
 pub put-lines-spec : {M : Type 1} → statement M
 put-lines-spec =

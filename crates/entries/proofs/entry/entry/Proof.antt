@@ -57,7 +57,9 @@ same-length-4 : tie.Need-same-length-4
 same-length-4 c = search needs
 
 returns-2 : tie.Need-returns-2
-returns-2 c = rw (c .before .before .before .before .before .before .before .enum-told .given .1) (made-by (c .before .before .before .before .before .before .before .before .before .before .before .before .args .writes) (c .before .before .before .before .before .before .before .before .before .before .before .before .args .room) (c .before .before .before .before .before .before .before .before .before .before .before .before .args .ws .now) (c .before .before .before .before .before .before .before .before .before .before .before .before .args .out .now) (c .before .before .before .before .before .before .before .before .before .before .before .before .pre .0 .0) (c .before .before .before .before .before .before .before .before .before .before .before .before .args .s .now) _ tt _ _ _ (c .before .before .before .before .file-in .ensures .ledger) (c .before .before .before .before .file-in .ensures .answer) (c .before .before .before .before .file-in .ensures .bytes))
+returns-2 c =
+    let start = c .before .before .before .before .before .before .before .before .before .before .before .before in
+    rw (c .before .before .before .before .before .before .before .enum-told .given .1) (made-by (start .args .writes) (start .args .room) (start .args .ws .now) (start .args .out .now) (start .pre .0 .0) (start .args .s .now) _ tt _ _ _ (c .before .before .before .before .file-in .ensures .ledger) (c .before .before .before .before .file-in .ensures .answer) (c .before .before .before .before .file-in .ensures .bytes))
 
 same-length-5 : tie.Need-same-length-5
 same-length-5 c = search needs
@@ -72,13 +74,17 @@ same-length-7 : tie.Need-same-length-7
 same-length-7 c = search needs
 
 returns-4 : tie.Need-returns-4
-returns-4 c = rw (c .before .before .before .before .before .body3 .given .1) (made-by (c .before .before .before .before .before .before .before .before .before .before .args .writes) (c .before .before .before .before .before .before .before .before .before .before .args .room) (c .before .before .before .before .before .before .before .before .before .before .args .ws .now) (c .before .before .before .before .before .before .before .before .before .before .args .out .now) (c .before .before .before .before .before .before .before .before .before .before .pre .0 .0) (c .before .before .before .before .before .before .before .before .before .before .args .s .now) _ tt _ _ _ (c .before .before .close-in .ensures .1) (c .before .before .close-in .ensures .2) (said-none (c .before .before .before .before .before .before .before .before .before .before .args .writes) _))
+returns-4 c =
+    let start = c .before .before .before .before .before .before .before .before .before .before in
+    rw (c .before .before .before .before .before .body3 .given .1) (made-by (start .args .writes) (start .args .room) (start .args .ws .now) (start .args .out .now) (start .pre .0 .0) (start .args .s .now) _ tt _ _ _ (c .before .before .close-in .ensures .1) (c .before .before .close-in .ensures .2) (said-none (start .args .writes) _))
 
 same-length-8 : tie.Need-same-length-8
 same-length-8 c = search needs
 
 returns-5 : tie.Need-returns-5
-returns-5 c = rw (c .before .before .before .before .before .body4 .given .1) (made-by (c .before .before .before .before .before .before .before .before .before .before .args .writes) (c .before .before .before .before .before .before .before .before .before .before .args .room) (c .before .before .before .before .before .before .before .before .before .before .args .ws .now) (c .before .before .before .before .before .before .before .before .before .before .args .out .now) (c .before .before .before .before .before .before .before .before .before .before .pre .0 .0) (c .before .before .before .before .before .before .before .before .before .before .args .s .now) _ (subst Taken (c .before .before .before .before .before .body4 .given .1) (c .before .before .before .before .before .before .before .before .before .before .pre .0 .1)) _ _ _ (c .before .before .fresh-in .ensures .0) (c .before .before .fresh-in .ensures .1) (said-none (c .before .before .before .before .before .before .before .before .before .before .args .writes) _))
+returns-5 c =
+    let start = c .before .before .before .before .before .before .before .before .before .before in
+    rw (c .before .before .before .before .before .body4 .given .1) (made-by (start .args .writes) (start .args .room) (start .args .ws .now) (start .args .out .now) (start .pre .0 .0) (start .args .s .now) _ (subst Taken (c .before .before .before .before .before .body4 .given .1) (start .pre .0 .1)) _ _ _ (c .before .before .fresh-in .ensures .0) (c .before .before .fresh-in .ensures .1) (said-none (start .args .writes) _))
 
 returns-6 : tie.Need-returns-6
 returns-6 c = rw (c .enum-told2 .given .1) (made-unread (c .before .before .before .before .before .args .writes) (c .before .before .before .before .before .args .room) (c .before .before .before .before .before .args .ws .now) (c .before .before .before .before .before .args .out .now) (c .before .before .before .before .before .pre .0 .0) (c .before .before .before .before .before .args .s .now))

@@ -30,7 +30,9 @@ part-entry-end : tie.Need-part-entry-end
 part-entry-end c = omega (arith, whole-fits _ _ _ _ (sym (c .before .before .before .before .before .head-at .ensures) ∙ c .before .before .before .h .given .1))
 
 entry-requires : tie.Need-entry-requires
-entry-requires c κs = ((c .before .before .before .before .before .before .before .before .before .before .pre .0, whole-taken _ _ _ _ (sym (c .before .before .before .before .before .before .head-at .ensures) ∙ c .before .before .before .before .h .given .1)), c .before .before .before .before .before .before .before .before .before .before .pre .1)
+entry-requires c κs =
+    let start = c .before .before .before .before .before .before .before .before .before .before in
+    ((start .pre .0, whole-taken _ _ _ _ (sym (c .before .before .before .before .before .before .head-at .ensures) ∙ c .before .before .before .before .h .given .1)), start .pre .1)
 
 returns : tie.Need-returns
 returns c = step-cut (c .before .before .before .before .before .before .args .writes) (c .before .before .before .before .before .before .args .seen) (c .before .before .before .before .before .before .args .src .now) _ _ (sym (c .before .before .head-at .ensures) ∙ c .enum-told .given .1)

@@ -1,7 +1,6 @@
 -- `entries::run::next` meets its contract.
 use native.Mathlib.Omega.{arith}
 use Prim.Native.Nat.{_-_}
-use mathlib.Core.Path.{ap}
 use lib.ListN.{length, drop, length-drop}
 use lib.Seq.{take-all}
 use Rattle.entries.proofs.RunNotices.{to-within, lent-room, next-in}
@@ -40,7 +39,10 @@ same-length-2 : tie.Need-same-length-2
 same-length-2 c = search needs
 
 returns : tie.Need-returns
-returns c = next-in (c .before .before .before .before .before .before .before .before .before .before .before .before .args .writes) (c .before .before .before .before .before .before .before .before .before .before .before .before .args .n) (c .before .before .before .before .before .before .before .before .before .before .before .before .args .out .now) (c .before .before .before .before .before .before .before .before .before .before .before .before .pre .2) _ (c .before .before .before .before .before .before .before .before .place-for .ensures) (c .before .before .before .before .before .before .before .before .before .before .before .before .args .seen) (drop (c .before .before .before .before .before .before .before .before .before .before .before .before .args .at) (c .before .before .before .before .before .before .before .before .before .before .before .before .args .src .now)) _ _ _ _ _ (take-all (length (c .before .before .before .before .before .before .before .before .before .before .before .before .args .src .now) - c .before .before .before .before .before .before .before .before .before .before .before .before .args .at) (drop (c .before .before .before .before .before .before .before .before .before .before .before .before .args .at) (c .before .before .before .before .before .before .before .before .before .before .before .before .args .src .now)) (omega (arith, length-drop (c .before .before .before .before .before .before .before .before .before .before .before .before .args .at) (c .before .before .before .before .before .before .before .before .before .before .before .before .args .src .now)))) (c .before .before .before .before .step .ensures)
+returns c =
+    let start = c .before .before .before .before .before .before .before .before .before .before .before .before in
+    let placed = c .before .before .before .before .before .before .before .before in
+    next-in (start .args .writes) (start .args .n) (start .args .out .now) (start .pre .2) _ (placed .place-for .ensures) (start .args .seen) (drop (start .args .at) (start .args .src .now)) _ _ _ _ _ (take-all (length (start .args .src .now) - start .args .at) (drop (start .args .at) (start .args .src .now)) (omega (arith, length-drop (start .args .at) (start .args .src .now)))) (c .before .before .before .before .step .ensures)
 
 pub next-spec : {M : Type 1} → statement M
 next-spec =

@@ -3,7 +3,7 @@ use Rattle.words.proofs.WordLaws.{words-long, sound-holds}
 use borrow.Author.Needs.{needs}
 use borrow.Author.Tests.{not-true, not-false}
 use Prim.Native.Nat.{_-_}
-use mathlib.Core.Path.{sym, ap, _∙_}
+use mathlib.Core.Path.{sym, _∙_}
 use native.Mathlib.Omega.{arith}
 use lib.ListN.{length}
 use Rattle.entries.proofs.RunNotices.{Running, running-start, running-len, running-room, ran-cut, ran-bad, ran-full, ran-fits, ran-on}
@@ -32,13 +32,22 @@ ran-to-requires : tie.Need-ran-to-requires Inv-loop μ-loop
 ran-to-requires c κs = search needs
 
 same-length : tie.Need-same-length Inv-loop μ-loop
-same-length c = omega (arith, words-long _ (sound-holds _ (ran-cut _ _ _ _ _ _ _ _ _ _ (c .before .before .before .before .before .before .before .before .before .before .before .before .loop .inv) _ _ _ (c .before .before .before .before .before .before .before .next .ensures) (sym (c .before .before .before .before .before .before .before .before .before .before .before .is-full .ensures) ∙ not-true _ (c .before .before .before .before .before .before .before .before .before .before .if1 .taken)) (c .before .enum-told .given .1) .made .sound)), words-long _ (sound-holds _ (c .before .before .before .before .before .before .before .before .before .before .before .before .before .before .before .before .pre)))
+same-length c =
+    let start = c .before .before .before .before .before .before .before .before .before .before .before .before .before .before .before .before in
+    let top = c .before .before .before .before .before .before .before .before .before .before .before .before in
+    let tested = c .before .before .before .before .before .before .before .before .before .before .before in
+    let chosen = c .before .before .before .before .before .before .before .before .before .before in
+    omega (arith, words-long _ (sound-holds _ (ran-cut _ _ _ _ _ _ _ _ _ _ (top .loop .inv) _ _ _ (c .before .before .before .before .before .before .before .next .ensures) (sym (tested .is-full .ensures) ∙ not-true _ (chosen .if1 .taken)) (c .before .enum-told .given .1) .made .sound)), words-long _ (sound-holds _ (start .pre)))
 
 same-length-2 : tie.Need-same-length-2 Inv-loop μ-loop
 same-length-2 c = search needs
 
 returns : tie.Need-returns Inv-loop μ-loop
-returns c = rw (c .ran-to .ensures) (ran-cut _ _ _ _ _ _ _ _ _ _ (c .before .before .before .before .before .before .before .before .before .before .before .before .loop .inv) _ _ _ (c .before .before .before .before .before .before .before .next .ensures) (sym (c .before .before .before .before .before .before .before .before .before .before .before .is-full .ensures) ∙ not-true _ (c .before .before .before .before .before .before .before .before .before .before .if1 .taken)) (c .before .enum-told .given .1))
+returns c =
+    let top = c .before .before .before .before .before .before .before .before .before .before .before .before in
+    let tested = c .before .before .before .before .before .before .before .before .before .before .before in
+    let chosen = c .before .before .before .before .before .before .before .before .before .before in
+    rw (c .ran-to .ensures) (ran-cut _ _ _ _ _ _ _ _ _ _ (top .loop .inv) _ _ _ (c .before .before .before .before .before .before .before .next .ensures) (sym (tested .is-full .ensures) ∙ not-true _ (chosen .if1 .taken)) (c .before .enum-told .given .1))
 
 enum-told-2 : tie.Need-enum-told-2 Inv-loop μ-loop
 enum-told-2 c = search needs
@@ -47,34 +56,58 @@ ran-to-requires-2 : tie.Need-ran-to-requires-2 Inv-loop μ-loop
 ran-to-requires-2 c κs = search needs
 
 same-length-3 : tie.Need-same-length-3 Inv-loop μ-loop
-same-length-3 c = omega (arith, words-long _ (sound-holds _ (ran-bad _ _ _ _ _ _ _ _ _ _ (c .before .before .before .before .before .before .before .before .before .before .before .before .loop .inv) _ _ _ (c .before .before .before .before .before .before .before .next .ensures) (sym (c .before .before .before .before .before .before .before .before .before .before .before .is-full .ensures) ∙ not-true _ (c .before .before .before .before .before .before .before .before .before .before .if1 .taken)) (c .before .enum-told2 .given .1) .made .sound)), words-long _ (sound-holds _ (c .before .before .before .before .before .before .before .before .before .before .before .before .before .before .before .before .pre)))
+same-length-3 c =
+    let start = c .before .before .before .before .before .before .before .before .before .before .before .before .before .before .before .before in
+    let top = c .before .before .before .before .before .before .before .before .before .before .before .before in
+    let tested = c .before .before .before .before .before .before .before .before .before .before .before in
+    let chosen = c .before .before .before .before .before .before .before .before .before .before in
+    omega (arith, words-long _ (sound-holds _ (ran-bad _ _ _ _ _ _ _ _ _ _ (top .loop .inv) _ _ _ (c .before .before .before .before .before .before .before .next .ensures) (sym (tested .is-full .ensures) ∙ not-true _ (chosen .if1 .taken)) (c .before .enum-told2 .given .1) .made .sound)), words-long _ (sound-holds _ (start .pre)))
 
 same-length-4 : tie.Need-same-length-4 Inv-loop μ-loop
 same-length-4 c = search needs
 
 returns-2 : tie.Need-returns-2 Inv-loop μ-loop
-returns-2 c = rw (c .ran-to2 .ensures) (ran-bad _ _ _ _ _ _ _ _ _ _ (c .before .before .before .before .before .before .before .before .before .before .before .before .loop .inv) _ _ _ (c .before .before .before .before .before .before .before .next .ensures) (sym (c .before .before .before .before .before .before .before .before .before .before .before .is-full .ensures) ∙ not-true _ (c .before .before .before .before .before .before .before .before .before .before .if1 .taken)) (c .before .enum-told2 .given .1))
+returns-2 c =
+    let top = c .before .before .before .before .before .before .before .before .before .before .before .before in
+    let tested = c .before .before .before .before .before .before .before .before .before .before .before in
+    let chosen = c .before .before .before .before .before .before .before .before .before .before in
+    rw (c .ran-to2 .ensures) (ran-bad _ _ _ _ _ _ _ _ _ _ (top .loop .inv) _ _ _ (c .before .before .before .before .before .before .before .next .ensures) (sym (tested .is-full .ensures) ∙ not-true _ (chosen .if1 .taken)) (c .before .enum-told2 .given .1))
 
 enum-known-r : tie.Need-enum-known-r Inv-loop μ-loop
 enum-known-r c = search needs
 
 add-at : tie.Need-add-at Inv-loop μ-loop
-add-at c = omega (arith, ran-fits _ _ _ _ _ _ _ _ _ _ (c .before .before .before .before .before .before .before .before .before .before .before .before .loop .inv) _ _ _ (c .before .before .before .before .before .before .before .next .ensures) _ _ (c .before .r .given .1))
+add-at c =
+    let top = c .before .before .before .before .before .before .before .before .before .before .before .before in
+    omega (arith, ran-fits _ _ _ _ _ _ _ _ _ _ (top .loop .inv) _ _ _ (c .before .before .before .before .before .before .before .next .ensures) _ _ (c .before .r .given .1))
 
 add-k : tie.Need-add-k Inv-loop μ-loop
-add-k c = omega (arith, ran-fits _ _ _ _ _ _ _ _ _ _ (c .before .before .before .before .before .before .before .before .before .before .before .before .loop .inv) _ _ _ (c .before .before .before .before .before .before .before .next .ensures) _ _ (c .before .r .given .1))
+add-k c =
+    let top = c .before .before .before .before .before .before .before .before .before .before .before .before in
+    omega (arith, ran-fits _ _ _ _ _ _ _ _ _ _ (top .loop .inv) _ _ _ (c .before .before .before .before .before .before .before .next .ensures) _ _ (c .before .r .given .1))
 
 written-requires : tie.Need-written-requires Inv-loop μ-loop
 written-requires c κs = search needs
 
 add-n : tie.Need-add-n Inv-loop μ-loop
-add-n c = omega (arith, c .written .ensures, ran-fits _ _ _ _ _ _ _ _ _ _ (c .before .before .before .before .before .before .before .before .before .before .before .before .before .loop .inv) _ _ _ (c .before .before .before .before .before .before .before .before .next .ensures) _ _ (c .before .before .r .given .1))
+add-n c =
+    let top = c .before .before .before .before .before .before .before .before .before .before .before .before .before in
+    let made = c .before .before .before .before .before .before .before .before in
+    omega (arith, c .written .ensures, ran-fits _ _ _ _ _ _ _ _ _ _ (top .loop .inv) _ _ _ (made .next .ensures) _ _ (c .before .before .r .given .1))
 
 loop-less : tie.Need-loop-less Inv-loop μ-loop
-loop-less c = omega (arith, ran-fits _ _ _ _ _ _ _ _ _ _ (c .before .before .before .before .before .before .before .before .before .before .before .before .before .loop .inv) _ _ _ (c .before .before .before .before .before .before .before .before .next .ensures) _ _ (c .before .before .r .given .1))
+loop-less c =
+    let top = c .before .before .before .before .before .before .before .before .before .before .before .before .before in
+    let made = c .before .before .before .before .before .before .before .before in
+    omega (arith, ran-fits _ _ _ _ _ _ _ _ _ _ (top .loop .inv) _ _ _ (made .next .ensures) _ _ (c .before .before .r .given .1))
 
 loop-again : tie.Need-loop-again Inv-loop μ-loop
-loop-again c = rw (c .written .ensures) (ran-on _ _ _ _ _ _ _ _ _ _ (c .before .before .before .before .before .before .before .before .before .before .before .before .before .loop .inv) _ _ _ (c .before .before .before .before .before .before .before .before .next .ensures) _ _ (c .before .before .r .given .1) (sym (c .before .before .before .before .before .before .before .before .before .before .before .before .is-full .ensures) ∙ not-true _ (c .before .before .before .before .before .before .before .before .before .before .before .if1 .taken)))
+loop-again c =
+    let top = c .before .before .before .before .before .before .before .before .before .before .before .before .before in
+    let tested = c .before .before .before .before .before .before .before .before .before .before .before .before in
+    let chosen = c .before .before .before .before .before .before .before .before .before .before .before in
+    let made = c .before .before .before .before .before .before .before .before in
+    rw (c .written .ensures) (ran-on _ _ _ _ _ _ _ _ _ _ (top .loop .inv) _ _ _ (made .next .ensures) _ _ (c .before .before .r .given .1) (sym (tested .is-full .ensures) ∙ not-true _ (chosen .if1 .taken)))
 
 ran-to-requires-3 : tie.Need-ran-to-requires-3 Inv-loop μ-loop
 ran-to-requires-3 c κs = search needs

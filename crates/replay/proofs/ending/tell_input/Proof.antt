@@ -23,7 +23,9 @@ same-length-3 : tie.Need-same-length-3
 same-length-3 c = search needs
 
 returns : tie.Need-returns
-returns c = all-told _ _ _ _ _ _ _ (c .before .before .before .before .before .before .before .before .before .before .read-all .ensures) (c .before .before .stop-line .ensures)
+returns c =
+    let read = c .before .before .before .before .before .before .before .before .before .before in
+    all-told _ _ _ _ _ _ _ (read .read-all .ensures) (c .before .before .stop-line .ensures)
 
 pub tell-input-spec : {M : Type 1} → statement M
 tell-input-spec =
