@@ -1,10 +1,11 @@
 -- What is written at the end is the line of the bytes that came. Assumes nothing.
 use Prim.Native.Nat.{ℕ, _+_}
-use mathlib.Core.Path.{_≡_, refl, ap, _∙_}
+use mathlib.Core.Path.{_≡_, refl, sym, ap, _∙_}
 use mathlib.Core.Bool.{Bool, true, false, not, _&&_}
 use mathlib.Core.List.{List, []}
 use native.Mathlib.Omega.{arith}
 use lib.ListN.{length, take}
+use lib.Seq.{length-take-le}
 use Rattle.fields.specs.Put.{put}
 use Rattle.fields.proofs.PutLaws.{front-put, put-longer}
 use Rattle.table.specs.Table.{stopLine}
@@ -12,7 +13,7 @@ use Rattle.journal.specs.Journal.{endsBad}
 use Rattle.replay.specs.declared.Tells.{Tells}
 use Rattle.streams.specs.declared.pieces.End.{End}
 use Rattle.replay.specs.Reading.{Reads}
-use Rattle.replay.specs.Ending.{stopBy, StopLine, Told}
+use Rattle.replay.specs.Ending.{stopBy, StopLine, Told, ToldSize}
 
 pub stop-line : (e : End) (bad : Bool) (n : ℕ) (before after : List ℕ) → bad ≡ endsBad (e .stopped) (e .left) (e .seen)
     → n ≡ 0 + length (stopLine (not (e .failed) && bad)) → after ≡ put before 0 (stopLine (not (e .failed) && bad))
@@ -46,3 +47,6 @@ module _ (t : Tells) (ws buf out₀ out : List ℕ) (e : End) (n : ℕ) (x : e .
 
   pub all-told : Told out n
   all-told = by (e .failed) refl
+
+pub told-size : {out : List ℕ} {n : ℕ} → Told out n → ToldSize n
+told-size {out} {n} t = record { failed = t .failed; bytes = t .bytes; size = sym (length-take-le n out (t .within)) ∙ ap length (t .told) }

@@ -34,3 +34,9 @@ pub record Told (out : List ℕ) (n : ℕ) : Type 0 where
   pub bytes : List ℕ
   pub told : take n out ≡ stopLine (not failed && isBad bytes)
   pub within : n ≤ length out
+
+-- the bytes that are left to write are those of that line
+pub record ToldSize (n : ℕ) : Type 0 where
+  pub failed : Bool
+  pub bytes : List ℕ
+  pub size : n ≡ length (stopLine (not failed && isBad bytes))

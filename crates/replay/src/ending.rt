@@ -3,7 +3,7 @@ ghost use mathlib.Core.Path.{_≡_};
 ghost use Prim.Native.Nat.{_≤_};
 ghost use lib.ListN.{length};
 ghost use Rattle.words.specs.Layout.{ledgerSize};
-ghost use Rattle.replay.specs.Ending.{StopLine, lastTo, Told};
+ghost use Rattle.replay.specs.Ending.{StopLine, lastTo, Told, ToldSize};
 use crate::Tells;
 use entries::run;
 use libc::STDERR_FILENO;
@@ -56,7 +56,7 @@ fn last_of_input(ws: &mut [u64], buf: &mut [u8], out: &mut [u8], tells: Tells) -
 
 // Reads standard input and writes what is asked for of its entries, and the line behind; answers what was last to write.
 pub fn tell(tells: Tells) -> Output
-    ensures { λ o. ⌜ o .descriptor ≡ lastTo tells ⌝ }
+    ensures { λ o. ⌜ (o .descriptor ≡ lastTo tells) × ToldSize (o .length) ⌝ }
 {
     let mut ws = [0u64; 2436];
     let mut buf = [0u8; 262144];

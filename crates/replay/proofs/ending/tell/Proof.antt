@@ -1,6 +1,7 @@
 -- `replay::ending::tell` meets its contract: the buffers have the lengths that the reading asks for.
 use mathlib.Core.Path.{refl}
 use borrow.Author.Needs.{needs}
+use Rattle.replay.proofs.EndingLaws.{told-size}
 use Rattle.replay.proofs.ending.tell.Statement.{statement}
 use Rattle.replay.proofs.ending.tell.Tie as tie
 
@@ -23,7 +24,7 @@ send-requires : tie.Need-send-requires
 send-requires c κs = search needs
 
 returns : tie.Need-returns
-returns c = search needs
+returns c = let last = c .before .before .before .before .before .last-of-input .ensures in (last .0, told-size (last .1))
 
 pub tell-spec : {M : Type 1} → statement M
 tell-spec =
