@@ -19,13 +19,13 @@ use Rattle.ledger.specs.Sound.{sound, soundLedger}
 use Rattle.notices.specs.declared.bil.Bil.{Bil}
 use Rattle.notices.specs.declared.cxl.Cxl.{Cxl}
 use Rattle.notices.specs.Notices.{bil, cxl}
-use Rattle.notices.specs.Layout.{recordsFrom, isSup}
-use Rattle.notices.proofs.LayoutLaws.{length-records, long-record}
+use Rattle.records.specs.Layout.{recordsFrom, isSup}
+use Rattle.records.proofs.LayoutLaws.{length-records, long-record}
 use Rattle.notices.proofs.NoticeLaws.{length-bil, length-cxl}
-use Rattle.answers.specs.declared.acf.Acf.{Acf}
-use Rattle.answers.specs.declared.rej.Rej.{Rej}
-use Rattle.answers.specs.Answers.{acf, rejHeader, rejDetail, rejDetails, rej}
-use Rattle.answers.proofs.AnswerLaws.{length-acf, length-rej-header, length-rej-detail}
+use Rattle.notices.specs.declared.acf.Acf.{Acf}
+use Rattle.notices.specs.declared.rej.Rej.{Rej}
+use Rattle.notices.specs.Answers.{acf, rejHeader, rejDetail, rejDetails, rej}
+use Rattle.notices.proofs.AnswerLaws.{length-acf, length-rej-header, length-rej-detail}
 use Rattle.file.specs.File.{records, goodRecord, headed, goodFile, isHeader, Group, leading, groups, fileGroups, asksId}
 use Rattle.verdict.specs.declared.Check.{Check}
 use Rattle.verdict.specs.declared.Check.the-variants.{Clear, Stop}

@@ -66,7 +66,7 @@ nextWritten l (request r room) =
     bil
     (record {
       bill = asked r l;
-      former = billOf (r .identity) (l .bills) .terms .latest .consumption;
+      previous = billOf (r .identity) (l .bills) .terms .latest .consumption;
       today = l .today;
       confirmation = l .confirmation;
     })

@@ -11,8 +11,8 @@ use Rattle.fields.proofs.BoolLaws.{and-left, and-right}
 use Rattle.units.specs.Calendar.{isDate}
 use Rattle.ledger.specs.Lists.{every, count}
 use Rattle.ledger.proofs.ListLaws.{all-joined}
-use Rattle.notices.specs.Layout.{recordsFrom}
-use Rattle.notices.proofs.LayoutLaws.{length-records}
+use Rattle.records.specs.Layout.{recordsFrom}
+use Rattle.records.proofs.LayoutLaws.{length-records}
 use Rattle.file.specs.File.{records, goodRecord, headed, goodFile, isHeader, Group, leading, groups, fileGroups, asksId}
 use Rattle.verdict.specs.declared.Check.{Check}
 use Rattle.verdict.specs.declared.Check.the-variants.{Clear, Stop}

@@ -93,7 +93,7 @@ previousBy (At p) b = b .terms .latest .consumption
 
 -- the BIL of a request: c is the bill as it is left
 abbrev pub bilBy : LedgerHeader → Found → Bill → Bill → List ℕ
-bilBy h f b c = bil (record { bill = c; former = previousBy f b; today = h .today; confirmation = h .confirmation })
+bilBy h f b c = bil (record { bill = c; previous = previousBy f b; today = h .today; confirmation = h .confirmation })
 
 -- the CXL of a cancel
 abbrev pub cxlBy : LedgerHeader → Bill → List ℕ

@@ -31,14 +31,14 @@ pub fn put_bil(out: &mut [u8], writes: bool, h: LedgerHeader, f: Found, b: Bill,
     if !writes {
         return;
     }
-    let former = previous(f, b);
+    let consumption = previous(f, b);
     let today = h.today;
     notices::bil::write(
         out,
         0,
         Bil {
             bill: c,
-            former,
+            previous: consumption,
             today,
             confirmation: h.confirmation,
         },

@@ -4,7 +4,7 @@ ghost use mathlib.Core.Bool.{true};
 ghost use Prim.Native.Nat.{_+_, _-_, _*_, _≤_, _<_};
 ghost use lib.ListN.{length};
 ghost use Rattle.words.specs.Layout.{holdsLedger, ledgerOf};
-ghost use Rattle.notices.specs.Layout.{recordsFrom};
+ghost use Rattle.records.specs.Layout.{recordsFrom};
 ghost use Rattle.file.specs.File.{groups};
 ghost use Rattle.group.specs.Turns.{Ready, Fine, TurnedOn, TookBy};
 use group::Tally;

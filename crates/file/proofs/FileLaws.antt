@@ -12,8 +12,8 @@ use lib.Seq.{length-take-le, take-suc}
 use borrow.Author.Tests.{eq-eqb, ne-eqb}
 use Rattle.ledger.specs.Lists.{every, count}
 use Rattle.ledger.proofs.ListLaws.{every-append}
-use Rattle.notices.specs.Layout.{recordAt, recordsFrom, isRsp, isSup}
-use Rattle.notices.proofs.LayoutLaws.{records-step, records-end, length-records}
+use Rattle.records.specs.Layout.{recordAt, recordsFrom, isRsp, isSup}
+use Rattle.records.proofs.LayoutLaws.{records-step, records-end, length-records}
 use Rattle.file.specs.declared.Form.the-variants.{Broken, Unknown, Response, Supplement}
 use Rattle.file.specs.File.{printable, isHeader, goodRecord, headed, Group, leading, groups, asksId, detailOf, unfit, line1, line2, formOf}
 use Rattle.file.specs.Walk.{after, groupAt, pairForm}

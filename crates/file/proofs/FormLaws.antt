@@ -9,7 +9,7 @@ use borrow.Author.Tests.{eqb-true, eqb-false}
 use Rattle.fields.specs.Text.{text}
 use Rattle.fields.specs.Digits.{numeric}
 use Rattle.fields.specs.Put.{positions, sameList}
-use Rattle.notices.specs.Layout.{recordAt, companyIn, accountIn, recordCountIn, keyIn, isRsp}
+use Rattle.records.specs.Layout.{recordAt, companyIn, accountIn, recordCountIn, keyIn, isRsp}
 use Rattle.file.specs.declared.Form.{Form}
 use Rattle.file.specs.declared.Form.the-variants.{Broken, Unknown, Response, Supplement}
 use Rattle.file.specs.File.{Group, leading, unfit, line1, line2, formOf}

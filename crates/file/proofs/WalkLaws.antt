@@ -10,8 +10,8 @@ use native.Mathlib.Decide.{decLe}
 use lib.ListN.{take, drop}
 use Rattle.fields.specs.Put.{part}
 use Rattle.ledger.specs.Lists.{has}
-use Rattle.notices.specs.Layout.{recordAt, recordsFrom}
-use Rattle.notices.proofs.LayoutLaws.{lent-record}
+use Rattle.records.specs.Layout.{recordAt, recordsFrom}
+use Rattle.records.proofs.LayoutLaws.{lent-record}
 use Rattle.file.specs.File.{isHeader, Group, groups}
 use Rattle.file.specs.Walk.{groupAt, before, later}
 use Rattle.file.proofs.FileLaws.{groups-header, groups-detail, groups-end}

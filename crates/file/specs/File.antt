@@ -8,14 +8,15 @@ use Rattle.fields.specs.Text.{text}
 use Rattle.fields.specs.Digits.{numeric}
 use Rattle.fields.specs.Put.{positions, sameList}
 use Rattle.ledger.specs.Lists.{every, has}
-use Rattle.notices.specs.Layout.{recordsFrom, companyIn, accountIn, typeIn, noticeIn, recordCountIn, keyIn, isRsp, isSup}
+use Rattle.records.specs.Limits.{recordSize, fileSize}
+use Rattle.records.specs.Layout.{recordsFrom, companyIn, accountIn, typeIn, noticeIn, recordCountIn, keyIn, isRsp, isSup}
 use Rattle.file.specs.declared.Form.{Form}
 use Rattle.file.specs.declared.Form.the-variants.{Broken, Unknown, Response, Supplement}
 
 -- ---- the check of a file
 -- the records of a file
 unfoldable pub records : List ℕ → List (List ℕ)
-records s = recordsFrom s 0 (length s / 321)
+records s = recordsFrom s 0 (length s / recordSize)
 
 -- "codes 32 to 126"
 unfoldable pub printable : ℕ → Bool
@@ -39,7 +40,7 @@ headed (r ∷ rs) = isHeader r
 
 -- no cause 11: "length no multiple of 321 or over 64,200, a byte or type not as above, first record no header"
 unfoldable pub goodFile : List ℕ → Bool
-goodFile s = eqb (length s % 321) 0 && leb (length s) 64200 && every goodRecord (records s) && headed (records s)
+goodFile s = eqb (length s % recordSize) 0 && leb (length s) fileSize && every goodRecord (records s) && headed (records s)
 
 -- ---- groups: "A group is a header and the details up to the next header."
 pub record Group : Type 0 where
@@ -74,7 +75,7 @@ unfit h d =
     not (sameList (recordCountIn h) (text "01"))
     || not (sameList (companyIn h) (text "34"))
     || not (sameList (positions h 1 28) (positions d 1 28))
-    || not (sameList (positions h 31 33) (positions d 31 33))
+    || not (sameList (noticeIn h) (noticeIn d))
     || not (numeric (accountIn h))
     || not (numeric (keyIn d))
 

@@ -3,7 +3,7 @@ use Prim.Native.Nat.{ℕ, zero, suc, _+_, _-_}
 use mathlib.Core.Bool.{Bool, cond, _&&_}
 use mathlib.Core.List.{List, [], _∷_, _++_}
 use lib.ListN.{take}
-use Rattle.notices.specs.Layout.{recordAt, recordsFrom, isRsp, isSup}
+use Rattle.records.specs.Layout.{recordAt, recordsFrom, isRsp, isSup}
 use Rattle.file.specs.File.{isHeader, Group, leading, groups, unfit, passes, line3}
 use Rattle.file.specs.declared.Form.{Form}
 use Rattle.file.specs.declared.Form.the-variants.{Broken, Unknown, Response, Supplement}

@@ -3,9 +3,13 @@ ghost use mathlib.Core.Path.{_≡_};
 ghost use Prim.Native.Nat.{_+_, _*_, _≤_, _<_};
 ghost use lib.ListN.{length, take};
 ghost use Rattle.ledger.specs.Lists.{every, count};
-ghost use Rattle.notices.specs.Layout.{recordAt, recordsFrom, isSup};
+ghost use Rattle.records.specs.Limits.{recordSize};
+ghost use Rattle.records.specs.Layout.{recordAt, recordsFrom, isSup};
 ghost use Rattle.file.specs.File.{printable, isHeader, goodRecord, goodFile, leading, groups, asksId, unfit, formOf};
 ghost use Rattle.file.specs.Walk.{after, groupAt, pairForm};
+use records::FILE_SIZE;
+use records::RECORD_SIZE;
+use records::layout;
 
 // What lines 1 and 2 say of a group: BR17, BR19, or its Notification Code.
 pub enum Form {
@@ -32,39 +36,39 @@ fn all_printable(r: &[u8], n: usize) -> bool
 
 // Whether a record is of type 01.
 fn is_header(r: &[u8]) -> bool
-    requires { ⌜ 321 ≤ length (now r) ⌝ }
+    requires { ⌜ 30 ≤ length (now r) ⌝ }
     ensures { λ b. ⌜ b ≡ isHeader (now (r .entry)) ⌝ }
 {
-    fields::is_text(r, 28, b"01")
+    records::has_type_01(r)
 }
 
 // Whether a record is as document 01 asks.
 fn good_record(r: &[u8]) -> bool
-    requires { ⌜ 321 ≤ length (now r) ⌝ }
+    requires { ⌜ recordSize ≤ length (now r) ⌝ }
     ensures { λ b. ⌜ b ≡ goodRecord (now (r .entry)) ⌝ }
 {
-    let last = r[320];
-    all_printable(r, 320) & (last == 13) & (is_header(r) | fields::is_text(r, 28, b"02"))
+    let last = r[layout::END];
+    all_printable(r, layout::END) & (last == 13) & (is_header(r) | records::has_type_02(r))
 }
 
 // Whether record i is a header.
 pub fn header_at(s: &[u8], i: usize) -> bool
-    requires { ⌜ i * 321 + 321 ≤ length (now s) ⌝ }
+    requires { ⌜ i * recordSize + recordSize ≤ length (now s) ⌝ }
     ensures { λ b. ⌜ b ≡ isHeader (recordAt (now (s .entry)) i) ⌝ }
 {
-    let a = i * 321;
-    let e = a + 321;
+    let a = i * RECORD_SIZE;
+    let e = a + RECORD_SIZE;
     is_header(&s[a..e])
 }
 
 // Whether record i has the Notification Code SUP.
 pub fn sup_at(s: &[u8], i: usize) -> bool
-    requires { ⌜ i * 321 + 321 ≤ length (now s) ⌝ }
+    requires { ⌜ i * recordSize + recordSize ≤ length (now s) ⌝ }
     ensures { λ b. ⌜ b ≡ isSup (recordAt (now (s .entry)) i) ⌝ }
 {
-    let a = i * 321;
-    let e = a + 321;
-    notices::layout::is_sup(&s[a..e])
+    let a = i * RECORD_SIZE;
+    let e = a + RECORD_SIZE;
+    records::is_sup(&s[a..e])
 }
 
 // The check of a whole file: cause 11 where it is false.
@@ -72,17 +76,17 @@ pub fn good_file(s: &[u8]) -> bool
     ensures { λ b. ⌜ b ≡ goodFile (now (s .entry)) ⌝ }
 {
     let len = s.len();
-    if len % 321 != 0 {
+    if len % RECORD_SIZE != 0 {
         return false;
     }
-    if 64200 < len {
+    if FILE_SIZE < len {
         return false;
     }
-    let n = len / 321;
+    let n = len / RECORD_SIZE;
     let mut i = 0;
     while i < n {
-        let a = i * 321;
-        let e = a + 321;
+        let a = i * RECORD_SIZE;
+        let e = a + RECORD_SIZE;
         if good_record(&s[a..e]) {
             i += 1;
         } else {
@@ -97,7 +101,7 @@ pub fn good_file(s: &[u8]) -> bool
 
 // How many details the group has whose header is record i, in a file of n records.
 pub fn detail_count(s: &[u8], i: usize, n: usize) -> usize
-    requires { ⌜ (i < n) × (n * 321 ≤ length (now s)) ⌝ }
+    requires { ⌜ (i < n) × (n * recordSize ≤ length (now s)) ⌝ }
     ensures { λ r. ⌜ r ≡ leading (after (now (s .entry)) i n) ⌝ }
 {
     let mut j = i + 1;
@@ -117,7 +121,7 @@ pub struct Counts {
 }
 
 pub fn count_groups(s: &[u8], n: usize) -> Counts
-    requires { ⌜ n * 321 ≤ length (now s) ⌝ }
+    requires { ⌜ n * recordSize ≤ length (now s) ⌝ }
     ensures { λ r. ⌜ (r .groups ≡ length (groups (recordsFrom (now (s .entry)) 0 n))) × (r .ids ≡ count asksId (groups (recordsFrom (now (s .entry)) 0 n))) ⌝ }
 {
     let mut g = 0;
@@ -135,29 +139,29 @@ pub fn count_groups(s: &[u8], n: usize) -> Counts
 
 // Line 1 for a header and its only detail.
 fn unfit_pair(h: &[u8], d: &[u8]) -> bool
-    requires { ⌜ (321 ≤ length (now h)) × (321 ≤ length (now d)) ⌝ }
+    requires { ⌜ (60 ≤ length (now h)) × (45 ≤ length (now d)) ⌝ }
     ensures { λ b. ⌜ b ≡ unfit (now (h .entry)) (now (d .entry)) ⌝ }
 {
-    !fields::is_text(h, 58, b"01")
-        | !fields::is_text(h, 0, b"34")
-        | !fields::same_part(h, 0, d, 0, 28)
-        | !fields::same_part(h, 30, d, 30, 3)
-        | !fields::is_numeric(h, 7, 12)
-        | !fields::is_numeric(d, 41, 4)
+    !records::has_record_count_01(h)
+        | !records::has_company_34(h)
+        | !fields::same_part(h, layout::COMPANY, d, layout::COMPANY, layout::TYPE)
+        | !fields::same_part(h, layout::NOTICE, d, layout::NOTICE, layout::NOTICE_WIDTH)
+        | !records::has_numeric_account(h)
+        | !records::has_numeric_key(d)
 }
 
 // Lines 1 and 2 for a header and its only detail.
 fn pair_form(h: &[u8], d: &[u8]) -> Form
-    requires { ⌜ (321 ≤ length (now h)) × (321 ≤ length (now d)) ⌝ }
+    requires { ⌜ (60 ≤ length (now h)) × (45 ≤ length (now d)) ⌝ }
     ensures { λ r. ⌜ r ≡ pairForm (now (h .entry)) (now (d .entry)) ⌝ }
 {
     if unfit_pair(h, d) {
         return Form::Broken;
     }
-    if notices::layout::is_rsp(h) {
+    if records::is_rsp(h) {
         return Form::Response;
     }
-    if notices::layout::is_sup(h) {
+    if records::is_sup(h) {
         return Form::Supplement;
     }
     Form::Unknown
@@ -165,15 +169,15 @@ fn pair_form(h: &[u8], d: &[u8]) -> Form
 
 // Lines 1 and 2 for the group whose header is record i.
 pub fn form_at(s: &[u8], i: usize, n: usize) -> Form
-    requires { ⌜ (i < n) × (n * 321 ≤ length (now s)) ⌝ }
+    requires { ⌜ (i < n) × (n * recordSize ≤ length (now s)) ⌝ }
     ensures { λ r. ⌜ r ≡ formOf (groupAt (now (s .entry)) i n) ⌝ }
 {
     let k = detail_count(s, i, n);
     if k != 1 {
         return Form::Broken;
     }
-    let a = i * 321;
-    let b = (i + 1) * 321;
-    let e = b + 321;
+    let a = i * RECORD_SIZE;
+    let b = (i + 1) * RECORD_SIZE;
+    let e = b + RECORD_SIZE;
     pair_form(&s[a..b], &s[b..e])
 }

@@ -7,13 +7,13 @@ use native.Mathlib.Nat.{not-suc-le-zero, le-of-suc-le-suc}
 use lib.ListN.{length, take}
 use Rattle.ledger.specs.declared.Bill.{Bill}
 use Rattle.ledger.specs.declared.LedgerHeader.{LedgerHeader}
-use Rattle.notices.proofs.LayoutLaws.{long-record}
-use Rattle.answers.proofs.AnswerLaws.{length-acf}
-use Rattle.answers.proofs.RecordLaws.{length-rej}
+use Rattle.records.proofs.LayoutLaws.{long-record}
+use Rattle.notices.proofs.AnswerLaws.{length-acf}
+use Rattle.notices.proofs.RecordLaws.{length-rej}
 use Rattle.verdict.specs.declared.Verdict.{Verdict}
 use Rattle.verdict.specs.declared.Verdict.the-variants.{Accepted, Rejected}
 use Rattle.group.specs.Turns.{answerAt, recordsBy}
-use Rattle.notices.specs.Layout.{recordAt, recordsFrom}
+use Rattle.records.specs.Layout.{recordAt, recordsFrom}
 use Rattle.file.specs.File.{leading}
 use Rattle.file.specs.Walk.{after, groupAt}
 use Rattle.file.proofs.FileLaws.{header-is, leading-within, length-details}

@@ -17,7 +17,7 @@ use Rattle.ledger.specs.declared.Identity.{Identity}
 use Rattle.ledger.specs.Lists.{every, count, update}
 use Rattle.ledger.specs.Bills.{posting}
 use Rattle.ledger.specs.Books.{Book, book, live, view, ofId, placeOf, totalOf, stored, billAt, headerOf, updated, slotOf}
-use Rattle.notices.specs.Layout.{recordAt, recordsFrom}
+use Rattle.records.specs.Layout.{recordAt, recordsFrom}
 use Rattle.file.specs.File.{isHeader, Group, leading, groups, asksId, line3}
 use Rattle.file.specs.Walk.{after, groupAt, before, markAt}
 use Rattle.file.proofs.FileLaws.{groups-header, groups-detail, groups-end, leading-header, leading-detail, leading-within, from-start}

@@ -9,7 +9,7 @@ use Rattle.units.specs.declared.Date.{Date}
 use Rattle.ledger.specs.declared.Bill.{Bill}
 use Rattle.ledger.specs.declared.LedgerHeader.{LedgerHeader}
 use Rattle.ledger.specs.declared.Found.{Found}
-use Rattle.notices.specs.Layout.{recordAt, isSup}
+use Rattle.records.specs.Layout.{recordAt, isSup}
 use Rattle.file.specs.File.{Group, asksId}
 use Rattle.file.specs.Walk.{groupAt}
 use Rattle.file.proofs.FileLaws.{header-is}

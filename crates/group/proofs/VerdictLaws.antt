@@ -19,7 +19,7 @@ use Rattle.ledger.specs.declared.Found.the-variants as found
 use Rattle.ledger.specs.declared.Posted.{Posted}
 use Rattle.ledger.specs.Bills.{isPrepay, chargeOf, posting}
 use Rattle.ledger.specs.Books.{Book, View, view, billCharge, smallCharge}
-use Rattle.notices.specs.Layout.{noticeIn, sequenceIn, chargeIn, isRsp, isSup}
+use Rattle.records.specs.Layout.{noticeIn, sequenceIn, detailChargeIn, isRsp, isSup}
 use Rattle.file.specs.File.{Group, detailOf, asksId, line1, line2}
 use Rattle.verdict.specs.declared.Check.{Check}
 use Rattle.verdict.specs.declared.Check.the-variants.{Clear, Stop}
@@ -80,8 +80,8 @@ sup-not-rsp h e = ap (λ (x : List ℕ). sameList x (text "RSP")) (same-true (no
 
 charge-small : (prepay : Bool) (d : List ℕ) → fitsCents (chargeOf (amountsOf prepay d)) ≡ true
 unfolding amountsOf
-charge-small true d = lt-ltb _ _ (small-value (chargeIn d) 13 (length-part-le d 66 13))
-charge-small false d = lt-ltb _ _ (small-value (chargeIn d) 13 (length-part-le d 66 13))
+charge-small true d = lt-ltb _ _ (small-value (detailChargeIn d) 13 (length-part-le d 66 13))
+charge-small false d = lt-ltb _ _ (small-value (detailChargeIn d) 13 (length-part-le d 66 13))
 
 -- the lines of a group, with the product's mark written out
 abbrev pub listFor : Bool → Bool → Bool → Kind → Date → List ℕ → List ℕ → Sought → Bool → List Rule

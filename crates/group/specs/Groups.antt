@@ -9,7 +9,7 @@ use Rattle.ledger.specs.declared.Terms.{Terms}
 use Rattle.ledger.specs.Lists.{update}
 use Rattle.ledger.specs.Bills.{isOf, isPrepay, posting}
 use Rattle.ledger.specs.Books.{Book, View, view, ofId}
-use Rattle.notices.specs.Layout.{accountIn, keyIn, isRsp}
+use Rattle.records.specs.Layout.{accountIn, keyIn, isRsp}
 use Rattle.file.specs.File.{Group, detailOf, asksId, line1, line2, line3}
 use Rattle.verdict.specs.declared.Kind.{Kind}
 use Rattle.verdict.specs.declared.Kind.the-variants.{Response, Supplement}
@@ -19,7 +19,7 @@ use Rattle.verdict.specs.declared.Verdict.{Verdict}
 use Rattle.verdict.specs.declared.Verdict.the-variants.{Accepted, Rejected}
 use Rattle.verdict.specs.Rules.{Rule, rule, first}
 use Rattle.verdict.specs.Lines.{termsOf, lines4to10, amountsOf, settle}
-use Rattle.answers.specs.Answers.{acf, rej}
+use Rattle.notices.specs.Answers.{acf, rej}
 
 -- ---- the bill that a group names
 -- the account of its header and the Bill Key of its detail

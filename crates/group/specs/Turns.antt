@@ -16,14 +16,15 @@ use Rattle.ledger.specs.declared.Found.the-variants as found
 use Rattle.ledger.specs.Bills.{chargeOf, posting}
 use Rattle.ledger.specs.Lists.{every, count}
 use Rattle.ledger.specs.Books.{book, live, stored, placeOf, billAt, headerOf, updated, slotOf, totalOf, billCharge, smallCharge}
-use Rattle.notices.specs.Layout.{accountIn, keyIn, recordAt}
+use Rattle.records.specs.Limits.{fileRecords, fileSize}
+use Rattle.records.specs.Layout.{accountIn, keyIn, recordAt}
 use Rattle.file.specs.File.{Group, asksId}
 use Rattle.file.specs.Walk.{groupAt}
 use Rattle.verdict.specs.declared.Sought.{Sought}
 use Rattle.verdict.specs.declared.Sought.the-variants as sought
 use Rattle.verdict.specs.declared.Verdict.{Verdict}
 use Rattle.verdict.specs.declared.Verdict.the-variants.{Accepted, Rejected}
-use Rattle.answers.specs.Answers.{acf, rej}
+use Rattle.notices.specs.Answers.{acf, rej}
 use Rattle.group.specs.declared.Tally.{Tally}
 use Rattle.group.specs.declared.Turned.{Turned}
 use Rattle.group.specs.Groups.{verdictOn, taken, answers, verdicts, isAccepted, isRejected}
@@ -119,11 +120,11 @@ tallied c v b size =
 
 -- within a file there are at most 200 groups
 pub record Few (c : Tally) : Type 0 where
-  pub accepted : c .accepted ≤ 200
-  pub rejected : c .rejected ≤ 200
-  pub written : c .written ≤ 64200
-  pub came : c .came ≤ 200 * 10 ^ 13
-  pub went : c .went ≤ 200 * 10 ^ 13
+  pub accepted : c .accepted ≤ fileRecords
+  pub rejected : c .rejected ≤ fileRecords
+  pub written : c .written ≤ fileSize
+  pub came : c .came ≤ fileRecords * 10 ^ 13
+  pub went : c .went ≤ fileRecords * 10 ^ 13
 
 -- ---- one group's turn: v is its verdict
 pub record TurnedBy (v : Verdict) (g : Group) (h : LedgerHeader) (b : bill.Bill) (c : Tally) (writes : Bool) (out₀ out : List ℕ) (r : Turned) : Type 0 where
@@ -163,6 +164,6 @@ pub record TookBy (l : Ledger) (gs : List Group) (writes : Bool) (out₀ : List 
   pub rejected : c .rejected ≡ count isRejected (verdicts [] (book l) gs)
   pub written : c .written ≡ length (answers [] (book l) gs)
   pub bytes : out ≡ put out₀ 0 (said writes (answers [] (book l) gs))
-  pub came : c .came ≤ 200 * 10 ^ 13
-  pub went : c .went ≤ 200 * 10 ^ 13
+  pub came : c .came ≤ fileRecords * 10 ^ 13
+  pub went : c .went ≤ fileRecords * 10 ^ 13
   pub sums : totalOf (live k) + c .went ≡ totalOf (live l) + c .came

@@ -4,29 +4,31 @@ ghost use mathlib.Core.Bool.{true};
 ghost use Prim.Native.Nat.{_+_, _-_, _*_, _≤_, _<_};
 ghost use lib.ListN.{length};
 ghost use Rattle.fields.specs.Put.{put};
-ghost use Rattle.notices.specs.Layout.{recordAt};
-ghost use Rattle.answers.specs.Answers.{acf};
+ghost use Rattle.records.specs.Limits.{recordSize, fileRecords};
+ghost use Rattle.records.specs.Layout.{recordAt};
+ghost use Rattle.notices.specs.Answers.{acf};
 ghost use Rattle.file.specs.Walk.{groupAt};
 ghost use Rattle.group.specs.Turns.{said, answerAt, recordsBy};
-use answers::acf::Acf;
-use answers::rej::Rej;
 use ledger::Bill;
 use ledger::LedgerHeader;
+use notices::acf::Acf;
+use notices::rej::Rej;
+use records::RECORD_SIZE;
 use verdict::Verdict;
 
 // Writes the ACF for the header that is record i.
 fn write_acf(out: &mut [u8], at: usize, s: &[u8], i: usize, a: Acf)
-    requires { ⌜ (i * 321 + 321 ≤ length (now s)) × (at + 321 ≤ length (now out)) ⌝ }
+    requires { ⌜ (i * recordSize + recordSize ≤ length (now s)) × (at + recordSize ≤ length (now out)) ⌝ }
     ensures { λ _. ⌜ now (out .exit) ≡ put (now (out .entry)) at (acf (recordAt (now (s .entry)) i) a) ⌝ }
 {
-    let b = i * 321;
-    let e = b + 321;
+    let b = i * RECORD_SIZE;
+    let e = b + RECORD_SIZE;
     answers::acf::write(out, at, &s[b..e], a);
 }
 
 // How many records the answer to the group has whose header is record i.
 fn records(s: &[u8], i: usize, n: usize, v: Verdict) -> usize
-    requires { ⌜ (i < n) × (n * 321 ≤ length (now s)) ⌝ }
+    requires { ⌜ (i < n) × (n * recordSize ≤ length (now s)) ⌝ }
     ensures { λ r. ⌜ (r ≡ recordsBy v (groupAt (now (s .entry)) i n)) × (r ≤ n - i) ⌝ }
 {
     match v {
@@ -47,7 +49,7 @@ fn write_answer(
     h: LedgerHeader,
     k: usize,
 )
-    requires { ⌜ (i < n) × (n * 321 ≤ length (now s)) × (at + (n - i) * 321 ≤ length (now out)) ⌝ }
+    requires { ⌜ (i < n) × (n * recordSize ≤ length (now s)) × (at + (n - i) * recordSize ≤ length (now out)) ⌝ }
     requires { ⌜ (k ≡ recordsBy v (groupAt (now s) i n)) × (k ≤ n - i) ⌝ }
     ensures { λ _. ⌜ now (out .exit) ≡ put (now (out .entry)) at (answerAt v h b (groupAt (now (s .entry)) i n)) ⌝ }
 {
@@ -99,14 +101,14 @@ pub fn answer(
     b: Bill,
     h: LedgerHeader,
 ) -> usize
-    requires { ⌜ (i < n) × (n * 321 ≤ length (now s)) × (n ≤ 200) ⌝ }
-    requires { ⌜ (writes ≡ true → at + (n - i) * 321 ≤ length (now out)) ⌝ }
-    ensures { λ r. ⌜ (now (out .exit) ≡ put (now (out .entry)) at (said writes (answerAt v h b (groupAt (now (s .entry)) i n)))) × (r ≡ length (answerAt v h b (groupAt (now (s .entry)) i n))) × (r ≤ (n - i) * 321) ⌝ }
+    requires { ⌜ (i < n) × (n * recordSize ≤ length (now s)) × (n ≤ fileRecords) ⌝ }
+    requires { ⌜ (writes ≡ true → at + (n - i) * recordSize ≤ length (now out)) ⌝ }
+    ensures { λ r. ⌜ (now (out .exit) ≡ put (now (out .entry)) at (said writes (answerAt v h b (groupAt (now (s .entry)) i n)))) × (r ≡ length (answerAt v h b (groupAt (now (s .entry)) i n))) × (r ≤ (n - i) * recordSize) ⌝ }
 {
     let k = records(s, i, n, v);
     if writes {
         write_answer(out, at, s, i, n, v, b, h, k);
-        return k * 321;
+        return k * RECORD_SIZE;
     }
-    k * 321
+    k * RECORD_SIZE
 }

@@ -2,6 +2,7 @@
 ghost use mathlib.Core.Path.{_≡_};
 ghost use mathlib.Core.Bool.{cond};
 ghost use Prim.Native.Nat.{_+_, _*_, _^_, _≤_};
+ghost use Rattle.records.specs.Limits.{fileSize};
 ghost use Rattle.group.specs.Groups.{isAccepted, isRejected};
 ghost use Rattle.group.specs.Turns.{cameBy, wentBy, noTally, tallied, Few};
 use crate::Tally;
@@ -62,7 +63,7 @@ pub fn none() -> Tally
 
 // One group more, whose answer has so many bytes and before which b stood at its place.
 pub fn add(c: Tally, v: Verdict, b: Bill, size: usize) -> Tally
-    requires { ⌜ Few c × (size ≤ 64200) × (cameBy v ≤ 10 ^ 13) × (wentBy v b ≤ 10 ^ 13) ⌝ }
+    requires { ⌜ Few c × (size ≤ fileSize) × (cameBy v ≤ 10 ^ 13) × (wentBy v b ≤ 10 ^ 13) ⌝ }
     ensures { λ r. ⌜ r ≡ tallied c v b size ⌝ }
 {
     Tally {

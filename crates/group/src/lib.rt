@@ -7,6 +7,7 @@ ghost use mathlib.Core.Path.{_≡_};
 ghost use mathlib.Core.Bool.{true, false, cond};
 ghost use Prim.Native.Nat.{ℕ, _+_, _-_, _*_, _≤_, _<_};
 ghost use lib.ListN.{length, getD};
+ghost use Rattle.records.specs.Limits.{recordSize, fileRecords};
 ghost use Rattle.file.specs.Walk.{groupAt, markAt};
 ghost use Rattle.group.specs.Groups.{verdictOn};
 ghost use Rattle.group.specs.Turns.{identityIn, identityAt, soughtBy, CalmAt, CanPost, idsBy, billBy, Few, TurnedBy};
@@ -16,6 +17,8 @@ use ledger::Found;
 use ledger::Identity;
 use ledger::LedgerHeader;
 use ledger::Update;
+use records::FILE_RECORDS;
+use records::RECORD_SIZE;
 use units::Date;
 use verdict::Kind;
 use verdict::Sought;
@@ -39,33 +42,33 @@ pub struct Turned {
 
 // The identity that a header and a detail name.
 fn identity_of(h: &[u8], d: &[u8]) -> Identity
-    requires { ⌜ (321 ≤ length (now h)) × (321 ≤ length (now d)) ⌝ }
+    requires { ⌜ (19 ≤ length (now h)) × (45 ≤ length (now d)) ⌝ }
     ensures { λ r. ⌜ r ≡ identityIn (now (h .entry)) (now (d .entry)) ⌝ }
 {
     Identity {
-        account: pairs::number_at(h, 7, 12),
-        key: pairs::number_at(d, 41, 4),
+        account: records::account_number(h),
+        key: records::key_number(d),
     }
 }
 
 // The identity that the group of record i names, where a record follows.
 pub fn identity_at(s: &[u8], i: usize, n: usize) -> Identity
-    requires { ⌜ (i < n) × (n * 321 ≤ length (now s)) ⌝ }
+    requires { ⌜ (i < n) × (n * recordSize ≤ length (now s)) ⌝ }
     ensures { λ r. ⌜ r ≡ identityAt (now (s .entry)) i n ⌝ }
 {
     let j = i + 1;
     if n <= j {
         return Identity { account: 0, key: 0 };
     }
-    let a = i * 321;
-    let b = j * 321;
-    let e = b + 321;
+    let a = i * RECORD_SIZE;
+    let b = j * RECORD_SIZE;
+    let e = b + RECORD_SIZE;
     identity_of(&s[a..b], &s[b..e])
 }
 
 // Lines 1 to 10 for the group whose header is record i; duplicate says what line 3 asks, b is the bill it names.
 pub fn verdict_at(s: &[u8], i: usize, n: usize, duplicate: bool, b: Sought, today: Date) -> Verdict
-    requires { ⌜ (i < n) × (n * 321 ≤ length (now s)) ⌝ }
+    requires { ⌜ (i < n) × (n * recordSize ≤ length (now s)) ⌝ }
     ensures { λ r. ⌜ r ≡ verdictOn duplicate today b (groupAt (now (s .entry)) i n) ⌝ }
 {
     let form = file::form_at(s, i, n);
@@ -82,19 +85,19 @@ pub fn verdict_at(s: &[u8], i: usize, n: usize, duplicate: bool, b: Sought, toda
     if duplicate {
         return Verdict::Rejected(14);
     }
-    let a = i * 321;
-    let m = (i + 1) * 321;
-    let e = m + 321;
+    let a = i * RECORD_SIZE;
+    let m = (i + 1) * RECORD_SIZE;
+    let e = m + RECORD_SIZE;
     verdict::verdict_of(&s[a..m], &s[m..e], kind, b, today)
 }
 
 // The headers of groups that get BR14. (Most entries of a journal are no file: they are not searched.)
-pub fn marks(s: &[u8], n: usize) -> [bool; 200]
-    requires { ⌜ (n ≤ 200) × (n * 321 ≤ length (now s)) ⌝ }
+pub fn marks(s: &[u8], n: usize) -> [bool; FILE_RECORDS]
+    requires { ⌜ (n ≤ fileRecords) × (n * recordSize ≤ length (now s)) ⌝ }
     ensures { λ r. ⌜ ((k : ℕ) → k < n → getD r k false ≡ markAt (now (s .entry)) n k) × ((k : ℕ) → n ≤ k → getD r k false ≡ false) ⌝ }
 {
     if n == 0 {
-        return [false; 200];
+        return [false; FILE_RECORDS];
     }
     pairs::duplicates(s, n)
 }
@@ -144,7 +147,7 @@ pub fn turn(
     f: Found,
     b: Bill,
 ) -> Turned
-    requires { ⌜ (i < n) × (n * 321 ≤ length (now s)) × (n ≤ 200) × (writes ≡ true → c .written + (n - i) * 321 ≤ length (now out)) ⌝ }
+    requires { ⌜ (i < n) × (n * recordSize ≤ length (now s)) × (n ≤ fileRecords) × (writes ≡ true → c .written + (n - i) * recordSize ≤ length (now out)) ⌝ }
     requires { ⌜ CalmAt f b × Few c × (h .tracking ≤ 1000000200) × (h .confirmation ≤ 1000000200) ⌝ }
     ensures { λ r. ⌜ TurnedBy (verdictOn duplicate (h .today) (soughtBy f b) (groupAt (now (s .entry)) i n)) (groupAt (now (s .entry)) i n) h b c writes (now (out .entry)) (now (out .exit)) r ⌝ }
 {

@@ -18,7 +18,7 @@ use Rattle.ledger.specs.Bills.{isPrepay, isOpen, posting, cents}
 use Rattle.ledger.specs.Books.{Book, view}
 use Rattle.ledger.specs.Sound.{soundTerms, balanced, soundAmounts, soundBill}
 use Rattle.ledger.proofs.SoundLaws.{terms-facts, facts-terms, bill-terms}
-use Rattle.notices.specs.Layout.{appliedIn, owedIn}
+use Rattle.records.specs.Layout.{appliedIn, owedIn}
 use Rattle.file.specs.File.{Group, detailOf, asksId, line1, line2}
 use Rattle.verdict.specs.declared.Check.the-variants.{Clear}
 use Rattle.verdict.specs.declared.Kind.{Kind}

@@ -2,7 +2,8 @@
 ghost use mathlib.Core.Bool.{true};
 ghost use Prim.Native.Nat.{_+_, _-_, _*_, _≤_, _<_};
 ghost use lib.ListN.{length};
-ghost use Rattle.notices.specs.Layout.{recordsFrom};
+ghost use Rattle.records.specs.Limits.{recordSize, fileRecords};
+ghost use Rattle.records.specs.Layout.{recordsFrom};
 ghost use Rattle.file.specs.File.{groups};
 ghost use Rattle.group.specs.Turns.{Ready, Fine, TurnedOn, TookBy};
 use group::Tally;
@@ -17,7 +18,7 @@ pub struct Taken {
 
 // One group's turn: its bill found, the group decided and answered, and what that leaves stored.
 fn turn(t: Taken, out: &mut [u8], s: &[u8], i: usize, n: usize, duplicate: bool) -> Taken
-    requires { ⌜ (i < n) × (n * 321 ≤ length (now s)) × (n ≤ 200) × (t .tally .written + (n - i) * 321 ≤ length (now out)) ⌝ }
+    requires { ⌜ (i < n) × (n * recordSize ≤ length (now s)) × (n ≤ fileRecords) × (t .tally .written + (n - i) * recordSize ≤ length (now out)) ⌝ }
     requires { ⌜ Fine (t .ledger) (t .tally) ⌝ }
     ensures { λ r. ⌜ TurnedOn (now (s .entry)) i n duplicate (t .ledger) (t .tally) true (now (out .entry)) (r .ledger) (now (out .exit)) (r .tally) ⌝ }
 {
@@ -46,7 +47,7 @@ fn turn(t: Taken, out: &mut [u8], s: &[u8], i: usize, n: usize, duplicate: bool)
 
 // The groups of a file of n records that passed the check, in order, each on the ledger that the one before left.
 pub fn take_groups(l: Ledger, out: &mut [u8], s: &[u8], n: usize) -> Taken
-    requires { ⌜ (n ≤ 200) × (n * 321 ≤ length (now s)) × (n * 321 ≤ length (now out)) ⌝ }
+    requires { ⌜ (n ≤ fileRecords) × (n * recordSize ≤ length (now s)) × (n * recordSize ≤ length (now out)) ⌝ }
     requires { ⌜ Ready l ⌝ }
     ensures { λ r. ⌜ TookBy l (groups (recordsFrom (now (s .entry)) 0 n)) true (now (out .entry)) (r .ledger) (now (out .exit)) (r .tally) ⌝ }
 {

@@ -10,7 +10,7 @@ use Rattle.units.specs.declared.Date.{Date}
 use Rattle.ledger.specs.declared.Posted.{Posted}
 use Rattle.ledger.specs.Bills.{isPrepay, isOpen, chargeOf}
 use Rattle.ledger.specs.Books.{View}
-use Rattle.notices.specs.Layout.{isRsp}
+use Rattle.records.specs.Layout.{isRsp}
 use Rattle.file.specs.File.{Group, detailOf, line1, line2}
 use Rattle.verdict.specs.declared.Check.the-variants.{Clear}
 use Rattle.verdict.specs.declared.Kind.{Kind}

@@ -8,8 +8,8 @@ use lib.ListN.{length, length-append, take}
 use Rattle.fields.proofs.BoolLaws.{cases}
 use Rattle.fields.specs.Put.{part}
 use Rattle.fields.proofs.PutLaws.{part-left, part-right, part-whole}
-use Rattle.notices.specs.Layout.{recordsFrom}
-use Rattle.notices.proofs.LayoutLaws.{long-record}
+use Rattle.records.specs.Layout.{recordsFrom}
+use Rattle.records.proofs.LayoutLaws.{long-record}
 use Rattle.file.specs.File.{records, isHeader, leading, groups, fileGroups, Group}
 use Rattle.history.specs.Claim.{All}
 

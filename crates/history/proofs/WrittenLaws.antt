@@ -14,14 +14,13 @@ use Rattle.units.proofs.DateLaws.{date-fits, date-some}
 use Rattle.ledger.specs.Books.{View}
 use Rattle.notices.specs.declared.bil.Bil.{Bil}
 use Rattle.notices.specs.declared.cxl.Cxl.{Cxl}
-use Rattle.notices.specs.Layout.{trackingIn, noticeIn, isSup}
+use Rattle.records.specs.Layout.{trackingIn, noticeIn, isSup}
 use Rattle.notices.specs.Notices.{bilHeader, bilDetail, bil, cxlHeader, cxlDetail, cxl}
 use Rattle.notices.proofs.NoticeLaws.{length-bil-header, length-bil-detail, length-cxl-header, length-cxl-detail}
-use Rattle.notices.proofs.ReadLaws.{bil-tracking}
-use Rattle.answers.specs.declared.acf.Acf.{Acf}
-use Rattle.answers.specs.declared.rej.Rej.{Rej}
-use Rattle.answers.specs.Answers.{acf, rejHeader, rejDetail, rejDetails, rej}
-use Rattle.answers.proofs.AnswerLaws.{length-acf, length-rej-header, length-rej-detail}
+use Rattle.notices.specs.declared.acf.Acf.{Acf}
+use Rattle.notices.specs.declared.rej.Rej.{Rej}
+use Rattle.notices.specs.Answers.{acf, rejHeader, rejDetail, rejDetails, rej}
+use Rattle.notices.proofs.AnswerLaws.{length-acf, length-rej-header, length-rej-detail}
 use Rattle.file.specs.File.{records, Group, asksId}
 use Rattle.verdict.specs.declared.Verdict.{Verdict}
 use Rattle.verdict.specs.declared.Verdict.the-variants.{Accepted, Rejected}
@@ -30,7 +29,7 @@ use Rattle.group.specs.Groups.{sought, answer, isAccepted}
 use Rattle.history.specs.Claim.{All}
 use Rattle.history.specs.Written.{keep, isAcf, assigns, assignedIn, acfsIn}
 use Rattle.history.proofs.RecordLaws.{records-cons, records-none, Whole, Formed}
-use Rattle.history.proofs.NoticeReads.{bil-header-assigns, bil-detail-not, cxl-header-assigns, cxl-tracking, cxl-detail-not, bil-header-not-acf, bil-detail-not-acf, cxl-header-not-acf, cxl-detail-not-acf, acf-tracking, acf-is-acf, acf-sup-assigns, acf-rsp-not, rej-header-notice, rej-detail-notice, rej-not-acf, rej-not-assigns}
+use Rattle.history.proofs.NoticeReads.{bil-tracking, bil-header-assigns, bil-detail-not, cxl-header-assigns, cxl-tracking, cxl-detail-not, bil-header-not-acf, bil-detail-not-acf, cxl-header-not-acf, cxl-detail-not-acf, acf-tracking, acf-is-acf, acf-sup-assigns, acf-rsp-not, rej-header-notice, rej-detail-notice, rej-not-acf, rej-not-assigns}
 
 -- ---- those of the records that pass a test
 module _ (p : List ℕ → Bool) where

@@ -16,8 +16,8 @@ use Rattle.ledger.specs.declared.Product.the-variants as product
 use Rattle.ledger.specs.declared.Posted.the-variants as posted
 use Rattle.ledger.specs.Bills.{productByte, cents}
 use Rattle.ledger.specs.Books.{Book}
-use Rattle.notices.specs.declared.Lead.{Lead}
-use Rattle.notices.specs.Notices.{lead, ending}
+use Rattle.notices.specs.declared.Alike.{Alike}
+use Rattle.notices.specs.Notices.{alikeFields, ending}
 use Rattle.verdict.specs.declared.Check.{Check}
 use Rattle.verdict.specs.declared.Check.the-variants.{Clear, Stop}
 use Rattle.verdict.specs.declared.Verdict.{Verdict}
@@ -43,8 +43,8 @@ pub record Sent : Type 0 where
 abbrev day : ℕ → Date
 day d = record { 0 = d }
 
-abbrev leadOf : Sent → Lead
-leadOf x =
+abbrev alikeOf : Sent → Alike
+alikeOf x =
     record {
       code = record { first = 90; second = 90; tens = 52; ones = 48 };
       account = 123456780019;
@@ -57,12 +57,12 @@ noticeOf x = cond (x .sup) (text "SUP") (text "RSP")
 
 -- a header: Confirmation Number, Scheduled Date, Record Count, Prepaid Balance
 unfoldable pub sentHeader : Sent → List ℕ
-sentHeader x = lead (leadOf x) (text "01") (noticeOf x) ++ digits 9 1 ++ digits 8 20171116 ++ text "01" ++ digits 13 0 ++ ending 247
+sentHeader x = alikeFields (alikeOf x) (text "01") (noticeOf x) ++ digits 9 1 ++ digits 8 20171116 ++ text "01" ++ digits 13 0 ++ ending 247
 
 -- a detail: Bill Key, Billing Date, sequence, consumption, charge, From Date, four tiers, previous fields, applied, owed
 unfoldable pub sentDetail : Sent → List ℕ
 sentDetail x =
-    lead (leadOf x) (text "02") (noticeOf x)
+    alikeFields (alikeOf x) (text "02") (noticeOf x)
     ++ digits 4 7
     ++ digits 8 20171113
     ++ digits 3 (x .sequence)

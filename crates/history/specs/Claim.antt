@@ -9,7 +9,7 @@ use Rattle.ledger.specs.declared.Ledger.{Ledger}
 use Rattle.ledger.specs.Lists.{count}
 use Rattle.ledger.specs.Books.{Book, book, view}
 use Rattle.ledger.specs.Sound.{sound}
-use Rattle.notices.specs.Layout.{isRsp}
+use Rattle.records.specs.Layout.{isRsp}
 use Rattle.verdict.specs.declared.Check.the-variants.{Clear}
 use Rattle.verdict.specs.Rules.{first}
 use Rattle.verdict.specs.Lines.{isNothing, termsOf}

@@ -5,7 +5,7 @@ use mathlib.Core.List.{List, [], _∷_, map}
 use Rattle.fields.specs.Text.{text}
 use Rattle.fields.specs.Digits.{number}
 use Rattle.fields.specs.Put.{sameList}
-use Rattle.notices.specs.Layout.{trackingIn, noticeIn, scheduledIn}
+use Rattle.records.specs.Layout.{trackingIn, noticeIn, scheduledIn}
 use Rattle.file.specs.File.{records, isHeader}
 
 -- those that pass a test

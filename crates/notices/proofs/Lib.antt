@@ -1,4 +1,7 @@
 -- Laws that belong to no one function.
-pub mod LayoutLaws
 pub mod NoticeLaws
+pub mod AnswerLaws
+pub mod RecordLaws
+pub mod PositionLaws
+pub mod AnswerPositions
 pub mod ReadLaws

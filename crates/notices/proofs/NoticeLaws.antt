@@ -6,44 +6,44 @@ use lib.ListN.{length, length-append}
 use Rattle.fields.specs.Text.{text}
 use Rattle.fields.proofs.DigitLaws.{length-digits}
 use Rattle.fields.proofs.PutLaws.{length-filled}
-use Rattle.notices.specs.declared.Lead.{Lead}
+use Rattle.notices.specs.declared.Alike.{Alike}
 use Rattle.notices.specs.declared.bil.Bil.{Bil}
 use Rattle.notices.specs.declared.cxl.Cxl.{Cxl}
-use Rattle.notices.specs.Notices.{ending, lead, header, keyed, asked, former, bilLead, bilHeader, bilDetail, bil, cxlLead, cxlHeader, cxlDetail, cxl}
+use Rattle.notices.specs.Notices.{ending, alikeFields, header, detailToKey, bilToTiers, bilToOwed, bilAlike, bilHeader, bilDetail, bil, cxlAlike, cxlHeader, cxlDetail, cxl}
 
 pub length-ending : (n : ℕ) → length (ending n) ≡ n + 1
 unfolding ending
 length-ending n = simp (length-append, length-filled)
 
 -- ---- our own records
-module _ (l : Lead) (notice : List ℕ) (three : length notice ≡ 3) where
-  pub length-lead : (type : List ℕ) → length type ≡ 2 → length (lead l type notice) ≡ 41
-  unfolding lead
-  length-lead type two = simp (length-append, length-digits, two, three)
+module _ (l : Alike) (notice : List ℕ) (three : length notice ≡ 3) where
+  pub length-alike : (type : List ℕ) → length type ≡ 2 → length (alikeFields l type notice) ≡ 41
+  unfolding alikeFields
+  length-alike type two = simp (length-append, length-digits, two, three)
 
   pub length-header : (confirmation scheduled : ℕ) → length (header l notice confirmation scheduled) ≡ 321
   unfolding header
-  length-header confirmation scheduled = simp (length-append, length-digits, length-lead, length-ending)
+  length-header confirmation scheduled = simp (length-append, length-digits, length-alike, length-ending)
 
-  pub length-keyed : (key : ℕ) → length (keyed l notice key) ≡ 45
-  unfolding keyed
-  length-keyed key = simp (length-append, length-digits, length-lead)
+  pub length-detail-to-key : (key : ℕ) → length (detailToKey l notice key) ≡ 45
+  unfolding detailToKey
+  length-detail-to-key key = simp (length-append, length-digits, length-alike)
 
-pub length-asked : (b : Bil) → length (asked b) ≡ 162
-unfolding asked
-length-asked b = simp (length-append, length-digits, length-filled)
+pub length-bil-to-tiers : (b : Bil) → length (bilToTiers b) ≡ 207
+unfolding bilToTiers
+length-bil-to-tiers b = simp (length-append, length-detail-to-key (bilAlike b) (text "BIL") refl, length-digits, length-filled)
 
-pub length-former : (b : Bil) → length (former b) ≡ 52
-unfolding former
-length-former b = simp (length-append, length-digits, length-filled)
+pub length-bil-to-owed : (b : Bil) → length (bilToOwed b) ≡ 259
+unfolding bilToOwed
+length-bil-to-owed b = simp (length-append, length-bil-to-tiers, length-digits, length-filled)
 
 pub length-bil-header : (b : Bil) → length (bilHeader b) ≡ 321
 unfolding bilHeader
-length-bil-header b = length-header (bilLead b) _ refl _ _
+length-bil-header b = length-header (bilAlike b) _ refl _ _
 
 pub length-bil-detail : (b : Bil) → length (bilDetail b) ≡ 321
 unfolding bilDetail
-length-bil-detail b = simp (length-append, length-keyed (bilLead b) (text "BIL") refl, length-asked, length-former, length-ending)
+length-bil-detail b = simp (length-append, length-bil-to-owed, length-ending)
 
 pub length-bil : (b : Bil) → length (bil b) ≡ 642
 unfolding bil
@@ -51,11 +51,11 @@ length-bil b = simp (length-append, length-bil-header, length-bil-detail)
 
 pub length-cxl-header : (x : Cxl) → length (cxlHeader x) ≡ 321
 unfolding cxlHeader
-length-cxl-header x = length-header (cxlLead x) _ refl _ _
+length-cxl-header x = length-header (cxlAlike x) _ refl _ _
 
 pub length-cxl-detail : (x : Cxl) → length (cxlDetail x) ≡ 321
 unfolding cxlDetail
-length-cxl-detail x = simp (length-append, length-keyed (cxlLead x) (text "CXL") refl, length-ending)
+length-cxl-detail x = simp (length-append, length-detail-to-key (cxlAlike x) (text "CXL") refl, length-ending)
 
 pub length-cxl : (x : Cxl) → length (cxl x) ≡ 642
 unfolding cxl

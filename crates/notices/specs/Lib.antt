@@ -1,3 +1,4 @@
--- The layout of the records, and the notices.
-pub mod Layout
+-- The four notices, and what stands at each position of them.
 pub mod Notices
+pub mod Answers
+pub mod Positions

@@ -6,7 +6,7 @@ use Rattle.fields.specs.Text.{text}
 use Rattle.fields.specs.Digits.{digits}
 use Rattle.fields.specs.Put.{filled}
 use Rattle.ledger.specs.Bills.{codeBytes, chargeOf, isPrepay}
-use Rattle.notices.specs.declared.Lead.{Lead}
+use Rattle.notices.specs.declared.Alike.{Alike}
 use Rattle.notices.specs.declared.bil.Bil.{Bil}
 use Rattle.notices.specs.declared.cxl.Cxl.{Cxl}
 
@@ -22,9 +22,9 @@ unfoldable pub ending : ℕ → List ℕ
 ending n = spaces n ++ (13 ∷ [])
 
 -- ---- our own records
--- positions 1 to 41: Company, rate code, account, Tracking ID, type, Notification Code, and "Transmission Date is today"
-unfoldable pub lead : Lead → List ℕ → List ℕ → List ℕ
-lead l type notice =
+-- "1-41 alike": Company, rate code, account, Tracking ID, type, Notification Code, and "Transmission Date is today"
+unfoldable pub alikeFields : Alike → List ℕ → List ℕ → List ℕ
+alikeFields l type notice =
     text "34"
     ++ codeBytes (l .code)
     ++ digits 12 (l .account)
@@ -34,17 +34,17 @@ lead l type notice =
     ++ digits 8 (l .today .0)
 
 -- a header: Confirmation Number, Scheduled Date, "Record Count 01, spaces from 61"
-unfoldable pub header : Lead → List ℕ → ℕ → ℕ → List ℕ
+unfoldable pub header : Alike → List ℕ → ℕ → ℕ → List ℕ
 header l notice confirmation scheduled =
-    lead l (text "01") notice ++ digits 9 confirmation ++ digits 8 scheduled ++ text "01" ++ ending 260
+    alikeFields l (text "01") notice ++ digits 9 confirmation ++ digits 8 scheduled ++ text "01" ++ ending 260
 
--- a detail to position 45: the Bill Key
-unfoldable pub keyed : Lead → List ℕ → ℕ → List ℕ
-keyed l notice key = lead l (text "02") notice ++ digits 4 key
+-- "detail to position 45": the Bill Key
+unfoldable pub detailToKey : Alike → List ℕ → ℕ → List ℕ
+detailToKey l notice key = alikeFields l (text "02") notice ++ digits 4 key
 
 -- ---- BIL
-abbrev pub bilLead : Bil → Lead
-bilLead b =
+abbrev pub bilAlike : Bil → Alike
+bilAlike b =
     record {
       code = b .bill .terms .code;
       account = b .bill .terms .identity .account;
@@ -52,10 +52,14 @@ bilLead b =
       today = b .today;
     }
 
--- positions 46 to 207: Billing Date, sequence, consumption, charge zeros, From Date, "88-207 zeros"
-unfoldable pub asked : Bil → List ℕ
-asked b =
-    digits 8 (b .bill .terms .latest .billing .0)
+unfoldable pub bilHeader : Bil → List ℕ
+bilHeader b = header (bilAlike b) (text "BIL") (b .confirmation) (b .bill .terms .latest .scheduled .0)
+
+-- the detail to position 207: Billing Date, sequence, consumption, "charge .. zeros", From Date, "88-207 zeros"
+unfoldable pub bilToTiers : Bil → List ℕ
+bilToTiers b =
+    detailToKey (bilAlike b) (text "BIL") (b .bill .terms .identity .key)
+    ++ digits 8 (b .bill .terms .latest .billing .0)
     ++ digits 3 (b .bill .terms .sequence)
     ++ digits 10 (b .bill .terms .latest .consumption .0)
     ++ zeros 13
@@ -66,35 +70,33 @@ asked b =
 abbrev pub productFill : Bool → ℕ
 productFill prepay = cond prepay 48 32
 
--- positions 208 to 259: "previous sequence the count of requests, previous consumption the former one (0 on the first),
+-- the detail to position 259: "previous sequence the count of requests, previous consumption the former one (0 on the first),
 -- previous charge the posted one"
-unfoldable pub former : Bil → List ℕ
-former b =
-    digits 3 (b .bill .terms .requests)
-    ++ digits 10 (b .former .0)
+unfoldable pub bilToOwed : Bil → List ℕ
+bilToOwed b =
+    bilToTiers b
+    ++ digits 3 (b .bill .terms .requests)
+    ++ digits 10 (b .previous .0)
     ++ digits 13 (chargeOf (b .bill .posted) .0)
     ++ filled 26 (productFill (isPrepay (b .bill .terms .product)))
 
-unfoldable pub bilHeader : Bil → List ℕ
-bilHeader b = header (bilLead b) (text "BIL") (b .confirmation) (b .bill .terms .latest .scheduled .0)
-
 -- "spaces from 260"
 unfoldable pub bilDetail : Bil → List ℕ
-bilDetail b = keyed (bilLead b) (text "BIL") (b .bill .terms .identity .key) ++ asked b ++ former b ++ ending 61
+bilDetail b = bilToOwed b ++ ending 61
 
 unfoldable pub bil : Bil → List ℕ
 bil b = bilHeader b ++ bilDetail b
 
 -- ---- CXL: "header with Scheduled Date 00000000, Record Count 01; detail to position 45; all else spaces"
-abbrev pub cxlLead : Cxl → Lead
-cxlLead x =
+abbrev pub cxlAlike : Cxl → Alike
+cxlAlike x =
     record { code = x .terms .code; account = x .terms .identity .account; tracking = x .tracking; today = x .today }
 
 unfoldable pub cxlHeader : Cxl → List ℕ
-cxlHeader x = header (cxlLead x) (text "CXL") (x .confirmation) 0
+cxlHeader x = header (cxlAlike x) (text "CXL") (x .confirmation) 0
 
 unfoldable pub cxlDetail : Cxl → List ℕ
-cxlDetail x = keyed (cxlLead x) (text "CXL") (x .terms .identity .key) ++ ending 275
+cxlDetail x = detailToKey (cxlAlike x) (text "CXL") (x .terms .identity .key) ++ ending 275
 
 unfoldable pub cxl : Cxl → List ℕ
 cxl x = cxlHeader x ++ cxlDetail x

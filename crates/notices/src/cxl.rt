@@ -3,9 +3,11 @@ ghost use mathlib.Core.Path.{_≡_};
 ghost use Prim.Native.Nat.{_+_, _≤_};
 ghost use lib.ListN.{length};
 ghost use Rattle.fields.specs.Put.{put};
-ghost use Rattle.notices.specs.Notices.{cxlLead, cxlDetail, cxl};
-use crate::Lead;
+ghost use Rattle.records.specs.Limits.{recordSize, noticeSize};
+ghost use Rattle.notices.specs.Notices.{cxlAlike, cxlDetail, cxl};
+use crate::Alike;
 use ledger::Terms;
+use records::layout;
 use units::Date;
 
 // What a CXL holds: the bill's terms, and the numbers that the cancel uses.
@@ -16,12 +18,12 @@ pub struct Cxl {
     pub confirmation: u64,
 }
 
-fn lead_of(x: Cxl) -> Lead
-    ensures { λ r. ⌜ r ≡ cxlLead x ⌝ }
+fn alike_of(x: Cxl) -> Alike
+    ensures { λ r. ⌜ r ≡ cxlAlike x ⌝ }
 {
     let code = x.terms.code;
     let today = x.today;
-    Lead {
+    Alike {
         code,
         account: x.terms.identity.account,
         tracking: x.tracking,
@@ -30,20 +32,20 @@ fn lead_of(x: Cxl) -> Lead
 }
 
 fn put_detail(out: &mut [u8], at: usize, x: Cxl)
-    requires { ⌜ at + 321 ≤ length (now out) ⌝ }
+    requires { ⌜ at + recordSize ≤ length (now out) ⌝ }
     ensures { λ _. ⌜ now (out .exit) ≡ put (now (out .entry)) at (cxlDetail x) ⌝ }
 {
-    let lead = lead_of(x);
-    crate::put_keyed(out, at, lead, b"CXL", x.terms.identity.key);
-    crate::put_end(out, at + 45, 275);
+    let alike = alike_of(x);
+    crate::put_detail_to_key(out, at, alike, b"CXL", x.terms.identity.key);
+    crate::put_end(out, at + layout::BILLING, 275);
 }
 
-// Writes a CXL, 642 bytes.
+// Writes a CXL.
 pub fn write(out: &mut [u8], at: usize, x: Cxl)
-    requires { ⌜ at + 642 ≤ length (now out) ⌝ }
+    requires { ⌜ at + noticeSize ≤ length (now out) ⌝ }
     ensures { λ _. ⌜ now (out .exit) ≡ put (now (out .entry)) at (cxl x) ⌝ }
 {
-    let lead = lead_of(x);
-    crate::put_header(out, at, lead, b"CXL", x.confirmation, 0);
-    put_detail(out, at + 321, x);
+    let alike = alike_of(x);
+    crate::put_header(out, at, alike, b"CXL", x.confirmation, 0);
+    put_detail(out, at + records::RECORD_SIZE, x);
 }

@@ -15,8 +15,8 @@ use Rattle.fields.proofs.DigitLaws.{number-lt}
 use Rattle.fields.proofs.SameLaws.{same-true}
 use Rattle.fields.proofs.PutLaws.{length-part}
 use Rattle.fields.proofs.HoldLaws.{value-number, same-number}
-use Rattle.notices.specs.Layout.{recordAt, accountIn, keyIn, noticeIn, isRsp, isSup}
-use Rattle.notices.proofs.LayoutLaws.{long-record}
+use Rattle.records.specs.Layout.{recordAt, accountIn, keyIn, noticeIn, isRsp, isSup}
+use Rattle.records.proofs.LayoutLaws.{long-record}
 use Rattle.file.specs.declared.Form.the-variants.{Response, Supplement}
 use Rattle.file.specs.File.{isHeader, Group, detailOf, line1, line2, formOf, passes, alike}
 use Rattle.file.specs.Walk.{groupAt}

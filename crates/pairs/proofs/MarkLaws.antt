@@ -9,7 +9,7 @@ use lib.Seq.{getD-set-same, getD-set-other}
 use lib.Dec.{eqb}
 use borrow.Author.Tests.{eqb-true, eqb-false, eq-eqb, ne-eqb, not-true}
 use Rattle.fields.proofs.BoolLaws.{and-left, and-right}
-use Rattle.notices.specs.Layout.{recordAt}
+use Rattle.records.specs.Layout.{recordAt}
 use Rattle.file.specs.File.{isHeader, alike, passes, line3}
 use Rattle.file.specs.Walk.{groupAt, before, later, markAt}
 use Rattle.file.proofs.WalkLaws.{others-none, others-hit}

@@ -4,7 +4,7 @@ use mathlib.Core.Bool.{cond}
 use mathlib.Core.List.{List}
 use lib.Dec.{eqb}
 use Rattle.fields.specs.Field.{fieldOf, value}
-use Rattle.notices.specs.Layout.{recordAt, accountIn, keyIn}
+use Rattle.records.specs.Layout.{recordAt, accountIn, keyIn}
 use Rattle.file.specs.declared.Form.{Form}
 use Rattle.file.specs.declared.Form.the-variants.{Broken, Unknown, Response, Supplement}
 use Rattle.file.specs.File.{isHeader, Group, detailOf, formOf}

@@ -10,19 +10,16 @@ use lib.Seq.{drop-at}
 use borrow.Author.Tests.{ne-eqb}
 use Rattle.fields.specs.Text.{text}
 use Rattle.fields.specs.Digits.{digits}
-use Rattle.fields.specs.Put.{part, positions, put}
-use Rattle.fields.proofs.ChainLaws.{part-chain}
-use Rattle.fields.proofs.DigitLaws.{length-digits}
+use Rattle.fields.specs.Put.{part, put}
 use Rattle.fields.proofs.PutLaws.{length-part, part-part, part-left, part-right, part-at, part-whole}
 use Rattle.ledger.specs.declared.Posted.{Posted}
 use Rattle.ledger.specs.Books.{Book, View, view}
-use Rattle.notices.specs.Layout.{recordAt, recordsFrom, confirmationIn, fromIn, isSup}
-use Rattle.notices.specs.Notices.{ending}
-use Rattle.notices.proofs.NoticeLaws.{length-ending}
-use Rattle.answers.specs.declared.acf.Acf.{Acf}
-use Rattle.answers.specs.declared.rej.Rej.{Rej}
-use Rattle.answers.specs.Answers.{acfScheduled, acfBalance, acfLead, acf, rejLead, rejHeader, fromBack, rejDetail, rejDetails, rej}
-use Rattle.answers.proofs.AnswerLaws.{length-within, length-balance, length-acf-lead, length-acf, length-rej-lead, length-rej-header, length-from, length-rej-detail}
+use Rattle.records.specs.Layout.{recordAt, recordsFrom, confirmationIn, errorCodeIn, isSup}
+use Rattle.notices.specs.declared.acf.Acf.{Acf}
+use Rattle.notices.specs.declared.rej.Rej.{Rej}
+use Rattle.notices.specs.Answers.{acf, rejHeader, rejDetail, rejDetails, rej}
+use Rattle.notices.proofs.AnswerLaws.{length-acf, length-rej-header, length-rej-detail}
+use Rattle.notices.proofs.AnswerPositions.{acf-at, rej-header-at, rej-detail-at}
 use Rattle.file.specs.File.{records, Group, groups, fileGroups, line1}
 use Rattle.verdict.specs.declared.Verdict.{Verdict}
 use Rattle.verdict.specs.declared.Verdict.the-variants.{Accepted, Rejected}
@@ -43,13 +40,7 @@ module _ (h : List ℕ) (x : Acf) (ys : List ℕ) (whole : length h ≡ 321) whe
   acf-left i n l = part-left (acf h x) ys i n (omega (arith, length-acf h enough x))
 
   acf-confirmation : confirmationIn (acf h x ++ ys) ≡ digits 9 (x .confirmation)
-  unfolding acf
-  acf-confirmation =
-      acf-left 41 9 (omega arith)
-      ∙ part-chain (acfLead h x) (digits 9 (x .confirmation) ∷ digits 8 (acfScheduled h x) ∷ text "00" ∷ acfBalance h x ∷ ending 247 ∷ [])
-      (41 ∷ 9 ∷ 8 ∷ 2 ∷ 13 ∷ 248 ∷ [])
-      (length-acf-lead h enough x, (length-digits 9 _, (length-digits 8 _, (refl, (length-balance h enough x, (length-ending 247, tt)))))) 1 0 9 (omega arith) (omega arith)
-      ∙ part-whole (digits 9 (x .confirmation)) 9 (length-digits 9 _)
+  acf-confirmation = acf-left 41 9 (omega arith) ∙ acf-at h x enough .confirmation
 
   acf-told : isAcf (acf h x ++ ys) ≡ true
   acf-told = rw (acf-left 30 3 (omega arith)) (acf-is-acf h x enough)
@@ -71,35 +62,10 @@ module _ (h : List ℕ) (ds : List (List ℕ)) (x : Rej) (ys : List ℕ) (whole 
   rej-left i n l = ap (λ (b : List ℕ). part b i n) rej-split ∙ part-left (rejHeader h x) tail i n (omega (arith, length-rej-header h enough′ x))
 
   rej-confirmation : confirmationIn (rej h ds x ++ ys) ≡ digits 9 (x .confirmation)
-  unfolding rejHeader
-  rej-confirmation =
-      rej-left 41 9 (omega arith)
-      ∙ part-chain (rejLead h x) (digits 9 (x .confirmation) ∷ positions h 51 321 ∷ []) (41 ∷ 9 ∷ 271 ∷ [])
-      (length-rej-lead h enough′ x, (length-digits 9 _, (length-within h enough′ 50 271 (omega arith), tt))) 1 0 9 (omega arith) (omega arith)
-      ∙ part-whole (digits 9 (x .confirmation)) 9 (length-digits 9 _)
+  rej-confirmation = rej-left 41 9 (omega arith) ∙ rej-header-at h x enough′ .confirmation
 
   rej-told : isAcf (rej h ds x ++ ys) ≡ false
   rej-told = rej-not-acf (rej h ds x ++ ys) (rej-left 30 3 (omega arith) ∙ rej-header-notice h x enough′)
-
--- the error code of a detail
-detail-code : (sup : Bool) (d : List ℕ) (x : Rej) → length d ≡ 321 → positions (rejDetail sup d x) 260 263 ≡ text "BR" ++ digits 2 (x .code)
-unfolding rejDetail
-detail-code sup d x w =
-    let enough : 321 ≤ length d = omega arith in
-    let p : List ℕ = rejLead d x ++ positions d 42 79 ++ fromBack sup (fromIn d) ++ positions d 88 259 in
-    let c : List ℕ = text "BR" ++ digits 2 (x .code) in
-    let n : length p ≡ 259 =
-    simp (
-      length-append,
-      length-rej-lead d enough x,
-      length-within d enough 41 38 (omega arith),
-      length-from d enough sup,
-      length-within d enough 87 172 (omega arith),
-    ) in
-    let m : length c ≡ 4 = simp length-digits in
-    ap (λ (b : List ℕ). part (b ++ ending 57) 259 4) (append-assoc p (text "BR") (digits 2 (x .code)))
-    ∙ part-left (p ++ c) (ending 57) 259 4 (omega (arith, length-append p c))
-    ∙ part-at p c 259 4 n m
 
 -- the length of a REJ
 long-details : (sup : Bool) (ds : List (List ℕ)) (x : Rej) → All Whole ds → length (rejDetails sup ds x) ≡ length ds * 321
@@ -132,7 +98,7 @@ rej-verdict h (d ∷ ds) x ys w a f =
     ∙ part-left (rejDetail sup d x) more 0 321 (omega arith)
     ∙ part-whole (rejDetail sup d x) 321 n in
     rw (rej-told h (d ∷ ds) x ys w, ne-eqb (length (d ∷ ds)) 0 (λ z. omega arith))
-    (ap (λ (r : List ℕ). positions r 260 263) e ∙ detail-code sup d x (a .0))
+    (ap (λ (r : List ℕ). errorCodeIn r) e ∙ rej-detail-at d x (omega (arith, a .0)) sup .errorCode)
 
 -- ---- a group's line as it is read, and what follows its answer
 module _ (g : Group) (ys : List ℕ) (f : Formed g) where

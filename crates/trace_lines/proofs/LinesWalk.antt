@@ -8,7 +8,7 @@ use lib.ListN.{length, drop}
 use lib.Seq.{drop-drop}
 use Rattle.fields.specs.Put.{put}
 use Rattle.fields.proofs.PutLaws.{first, next, put-nil}
-use Rattle.notices.specs.Layout.{recordAt, recordsFrom}
+use Rattle.records.specs.Layout.{recordAt, recordsFrom}
 use Rattle.file.specs.File.{isHeader, Group, leading, groups}
 use Rattle.file.specs.Walk.{groupAt}
 use Rattle.file.proofs.FileLaws.{groups-header, groups-detail, groups-end, leading-header, leading-detail, length-details, from-start}

@@ -12,8 +12,8 @@ use Rattle.fields.specs.Text.{text}
 use Rattle.fields.specs.Put.{part, put, filled, holds}
 use Rattle.fields.proofs.PutLaws.{first, next, length-part, length-filled, part-part}
 use Rattle.fields.proofs.HoldLaws.{length-part-le}
-use Rattle.notices.specs.Layout.{recordAt, recordsFrom}
-use Rattle.notices.proofs.LayoutLaws.{length-records}
+use Rattle.records.specs.Layout.{recordAt, recordsFrom}
+use Rattle.records.proofs.LayoutLaws.{length-records}
 use Rattle.file.specs.File.{Group, leading}
 use Rattle.file.specs.Walk.{after, groupAt}
 use Rattle.file.proofs.FileLaws.{length-details}

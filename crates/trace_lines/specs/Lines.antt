@@ -7,7 +7,7 @@ use lib.IntN.{ℤ, pos, negsuc, natAbs}
 use lib.ListN.{length}
 use Rattle.fields.specs.Text.{text}
 use Rattle.fields.specs.Digits.{digits}
-use Rattle.notices.specs.Layout.{accountIn, noticeIn, keyIn}
+use Rattle.records.specs.Layout.{accountIn, noticeIn, keyIn}
 use Rattle.notices.specs.Notices.{spaces}
 use Rattle.file.specs.File.{Group}
 use Rattle.verdict.specs.declared.Verdict.{Verdict}

@@ -6,9 +6,10 @@ use mathlib.Core.List.{List, [], _∷_, _++_}
 use lib.Dec.{eqb}
 use lib.ListN.{length, drop}
 use Rattle.fields.specs.Text.{text}
-use Rattle.fields.specs.Put.{put, positions}
+use Rattle.fields.specs.Put.{put}
 use Rattle.ledger.specs.Books.{Book}
-use Rattle.notices.specs.Layout.{recordAt, recordsFrom, accountIn, noticeIn, confirmationIn}
+use Rattle.records.specs.Limits.{recordSize}
+use Rattle.records.specs.Layout.{recordAt, recordsFrom, accountIn, noticeIn, confirmationIn, errorCodeIn}
 use Rattle.file.specs.File.{Group}
 use Rattle.group.specs.Groups.{answers, verdicts}
 use Rattle.table.specs.Table.{cell, ended}
@@ -29,11 +30,11 @@ groupFrom s i k = record { header = recordAt s i; details = recordsFrom s (i + 1
 -- the bytes a begin with the answer to a group of k details: its header is an ACF, or the first detail of the REJ has the error code at 260-263;
 -- a REJ without detail answers a group without detail, which is BR17
 unfoldable pub readVerdict : List ℕ → ℕ → List ℕ
-readVerdict a k = cond (isAcf a) (text "ACF") (cond (eqb k 0) (text "BR17") (positions (recordAt a 1) 260 263))
+readVerdict a k = cond (isAcf a) (text "ACF") (cond (eqb k 0) (text "BR17") (errorCodeIn (recordAt a 1)))
 
 -- an ACF is one record, a REJ as many as the group has
 unfoldable pub answerLong : List ℕ → ℕ → ℕ
-answerLong a k = cond (isAcf a) 321 ((k + 1) * 321)
+answerLong a k = cond (isAcf a) recordSize ((k + 1) * recordSize)
 
 -- the line of a group whose answer stands at the start of a
 unfoldable pub readLine : List ℕ → Group → List ℕ

@@ -3,12 +3,18 @@ ghost use mathlib.Core.Path.{_≡_};
 ghost use Prim.Native.Nat.{_+_, _*_, _≤_, _<_};
 ghost use lib.ListN.{length, drop};
 ghost use Rattle.fields.specs.Put.{put, part};
-ghost use Rattle.notices.specs.Layout.{recordsFrom};
+ghost use Rattle.records.specs.Limits.{recordSize};
+ghost use Rattle.records.specs.Layout.{recordsFrom};
 ghost use Rattle.file.specs.File.{groups};
 ghost use Rattle.file.specs.Walk.{groupAt};
 ghost use Rattle.table.specs.Table.{cell, ended};
 ghost use Rattle.trace_lines.specs.Lines.{firstKey};
 ghost use Rattle.trace_lines.specs.Read.{groupFrom, readVerdict, answerLong, readLine, readLines, Lined};
+use records::RECORD_SIZE;
+use records::layout;
+
+// Where the error code of a REJ's first detail stands.
+const FIRST_ERROR_CODE: usize = RECORD_SIZE + layout::ERROR_CODE;
 
 // Writes n bytes of src from index `from` on and a comma.
 fn put_field(out: &mut [u8], at: usize, src: &[u8], from: usize, n: usize)
@@ -23,23 +29,29 @@ fn put_field(out: &mut [u8], at: usize, src: &[u8], from: usize, n: usize)
 // Writes the Bill Key of a group of k details and a comma, 5 bytes.
 fn put_key(out: &mut [u8], at: usize, s: &[u8], i: usize, k: usize)
     requires { ⌜ at + 5 ≤ length (now out) ⌝ }
-    requires { ⌜ (i + 1 + k) * 321 ≤ length (now s) ⌝ }
+    requires { ⌜ (i + 1 + k) * recordSize ≤ length (now s) ⌝ }
     ensures { λ _. ⌜ now (out .exit) ≡ put (now (out .entry)) at (cell (firstKey (recordsFrom (now (s .entry)) (i + 1) k))) ⌝ }
 {
     if k == 0 {
         fields::put_bytes(out, at, b"    ,");
         return;
     }
-    put_field(out, at, s, (i + 1) * 321 + 41, 4);
+    put_field(
+        out,
+        at,
+        s,
+        (i + 1) * RECORD_SIZE + layout::KEY,
+        layout::KEY_WIDTH,
+    );
 }
 
 // Writes ACF or the error code, as the answer to a group of k details has it, and byte 10; answers where they end.
 fn put_verdict(out: &mut [u8], at: usize, sent: &[u8], from: usize, k: usize) -> usize
     requires { ⌜ at + 5 ≤ length (now out) ⌝ }
-    requires { ⌜ from + (k + 1) * 321 ≤ length (now sent) ⌝ }
+    requires { ⌜ from + (k + 1) * recordSize ≤ length (now sent) ⌝ }
     ensures { λ r. ⌜ (now (out .exit) ≡ put (now (out .entry)) at (ended (readVerdict (drop from (now (sent .entry))) k))) × (r ≡ at + length (ended (readVerdict (drop from (now (sent .entry))) k))) ⌝ }
 {
-    if fields::is_text(sent, from + 30, b"ACF") {
+    if fields::is_text(sent, from + layout::NOTICE, b"ACF") {
         fields::put_bytes(out, at, b"ACF\n");
         return at + 4;
     }
@@ -47,20 +59,26 @@ fn put_verdict(out: &mut [u8], at: usize, sent: &[u8], from: usize, k: usize) ->
         fields::put_bytes(out, at, b"BR17\n");
         return at + 5;
     }
-    fields::put_part(out, at, sent, from + 580, 4);
+    fields::put_part(
+        out,
+        at,
+        sent,
+        from + FIRST_ERROR_CODE,
+        layout::ERROR_CODE_WIDTH,
+    );
     fields::put_bytes(out, at + 4, b"\n");
     at + 5
 }
 
 // Where the answer to a group of k details ends.
 fn next_answer(sent: &[u8], from: usize, k: usize) -> usize
-    requires { ⌜ from + (k + 1) * 321 ≤ length (now sent) ⌝ }
+    requires { ⌜ from + (k + 1) * recordSize ≤ length (now sent) ⌝ }
     ensures { λ r. ⌜ r ≡ from + answerLong (drop from (now (sent .entry))) k ⌝ }
 {
-    if fields::is_text(sent, from + 30, b"ACF") {
-        return from + 321;
+    if fields::is_text(sent, from + layout::NOTICE, b"ACF") {
+        return from + RECORD_SIZE;
     }
-    from + (k + 1) * 321
+    from + (k + 1) * RECORD_SIZE
 }
 
 // Writes the line of the group of record i with k details, whose answer stands at `from`, and answers where it ends: 42 bytes, or 43.
@@ -74,14 +92,32 @@ fn put_group_line(
     from: usize,
 ) -> usize
     requires { ⌜ at + 43 ≤ length (now out) ⌝ }
-    requires { ⌜ ((i + 1 + k) * 321 ≤ length (now s)) × (from + (k + 1) * 321 ≤ length (now sent)) ⌝ }
+    requires { ⌜ ((i + 1 + k) * recordSize ≤ length (now s)) × (from + (k + 1) * recordSize ≤ length (now sent)) ⌝ }
     ensures { λ r. ⌜ (now (out .exit) ≡ put (now (out .entry)) at (readLine (drop from (now (sent .entry))) (groupFrom (now (s .entry)) i k))) × (r ≡ at + length (readLine (drop from (now (sent .entry))) (groupFrom (now (s .entry)) i k))) ⌝ }
 {
     fields::put_bytes(out, at, b"group,");
-    put_field(out, at + 6, sent, from + 41, 9);
-    put_field(out, at + 16, s, i * 321 + 7, 12);
+    put_field(
+        out,
+        at + 6,
+        sent,
+        from + layout::CONFIRMATION,
+        layout::CONFIRMATION_WIDTH,
+    );
+    put_field(
+        out,
+        at + 16,
+        s,
+        i * RECORD_SIZE + layout::ACCOUNT,
+        layout::ACCOUNT_WIDTH,
+    );
     put_key(out, at + 29, s, i, k);
-    put_field(out, at + 34, s, i * 321 + 30, 3);
+    put_field(
+        out,
+        at + 34,
+        s,
+        i * RECORD_SIZE + layout::NOTICE,
+        layout::NOTICE_WIDTH,
+    );
     put_verdict(out, at + 38, sent, from, k)
 }
 
@@ -93,7 +129,7 @@ struct Reached {
 
 // The line of the group whose header is record i of n.
 fn group_turn(r: Reached, out: &mut [u8], s: &[u8], i: usize, n: usize, sent: &[u8]) -> Reached
-    requires { ⌜ (i < n) × (n * 321 ≤ length (now s)) × (n * 321 ≤ length (now sent)) × (r .from ≤ i * 321) ⌝ }
+    requires { ⌜ (i < n) × (n * recordSize ≤ length (now s)) × (n * recordSize ≤ length (now sent)) × (r .from ≤ i * recordSize) ⌝ }
     requires { ⌜ r .end + 43 ≤ length (now out) ⌝ }
     ensures { λ q. ⌜ (now (out .exit) ≡ put (now (out .entry)) (r .end) (readLine (drop (r .from) (now (sent .entry))) (groupAt (now (s .entry)) i n))) × (q .end ≡ r .end + length (readLine (drop (r .from) (now (sent .entry))) (groupAt (now (s .entry)) i n))) × (q .from ≡ r .from + answerLong (drop (r .from) (now (sent .entry))) (length (groupAt (now (s .entry)) i n .details))) ⌝ }
 {
@@ -108,7 +144,7 @@ fn group_turn(r: Reached, out: &mut [u8], s: &[u8], i: usize, n: usize, sent: &[
 
 // Writes a line for each group of a file of n records, read off the file and its answers, and answers where they end: at most 43 bytes a group.
 pub fn put_group_lines(out: &mut [u8], at: usize, s: &[u8], n: usize, sent: &[u8]) -> usize
-    requires { ⌜ (n * 321 ≤ length (now s)) × (n * 321 ≤ length (now sent)) ⌝ }
+    requires { ⌜ (n * recordSize ≤ length (now s)) × (n * recordSize ≤ length (now sent)) ⌝ }
     requires { ⌜ at + 43 * n ≤ length (now out) ⌝ }
     ensures { λ r. ⌜ Lined (groups (recordsFrom (now (s .entry)) 0 n)) (now (sent .entry)) (now (out .entry)) at (now (out .exit)) r ⌝ }
     ensures { λ r. ⌜ (now (out .exit) ≡ put (now (out .entry)) at (readLines (now (sent .entry)) (groups (recordsFrom (now (s .entry)) 0 n)))) × (r ≡ at + length (readLines (now (sent .entry)) (groups (recordsFrom (now (s .entry)) 0 n)))) × (r ≤ at + 43 * n) ⌝ }

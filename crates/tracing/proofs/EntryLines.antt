@@ -14,7 +14,7 @@ use Rattle.ledger.specs.declared.Ledger.{Ledger}
 use Rattle.ledger.specs.Books.{Book, book}
 use Rattle.ledger.specs.Sound.{soundLedger}
 use Rattle.words.specs.Layout.{ledgerOf}
-use Rattle.notices.specs.Layout.{recordsFrom}
+use Rattle.records.specs.Layout.{recordsFrom}
 use Rattle.file.specs.File.{Group, records, groups, fileGroups}
 use Rattle.group.specs.Groups.{answers, verdicts}
 use Rattle.causes.specs.Causes.{file}

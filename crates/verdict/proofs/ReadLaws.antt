@@ -4,18 +4,19 @@ use Prim.Native.Nat.{ℕ}
 use mathlib.Core.Path.{_≡_}
 use mathlib.Core.List.{List}
 use Rattle.units.specs.declared.Date.{Date}
-use Rattle.notices.specs.Layout.{codeIn, trackingIn, balanceIn, sequenceIn, consumptionIn, chargeIn, tierRateIn, appliedIn, owedIn}
+use Rattle.records.specs.Layout.{rateCodeIn, trackingIn, balanceIn, sequenceIn, consumptionIn, detailChargeIn, tierRateIn, appliedIn, owedIn}
 use Rattle.verdict.specs.declared.Kind.the-variants.{Response, Supplement}
 use Rattle.verdict.specs.declared.Sought.{Sought}
-use Rattle.verdict.specs.Lines.{line5, line6, line7, line8, tierConsumptions, tierCharges, line9, line10, amountsOf, verdictOf}
+use Rattle.records.specs.Tiers.{tierConsumptions, tierCharges}
+use Rattle.verdict.specs.Lines.{line5, line6, line7, line8, line9, line10, amountsOf, verdictOf}
 
 -- the two headers and details agree on what is read
 pub record Agree (h h′ d d′ : List ℕ) : Type 0 where
-  pub code : codeIn h ≡ codeIn h′
+  pub code : rateCodeIn h ≡ rateCodeIn h′
   pub balance : balanceIn h ≡ balanceIn h′
   pub sequence : sequenceIn d ≡ sequenceIn d′
   pub consumption : consumptionIn d ≡ consumptionIn d′
-  pub charge : chargeIn d ≡ chargeIn d′
+  pub charge : detailChargeIn d ≡ detailChargeIn d′
   pub rate : tierRateIn d 88 ≡ tierRateIn d′ 88
   pub consumptions : tierConsumptions d ≡ tierConsumptions d′
   pub charges : tierCharges d ≡ tierCharges d′

@@ -14,13 +14,19 @@ use Rattle.ledger.specs.declared.Posted.{Posted}
 use Rattle.ledger.specs.declared.Posted.the-variants as posted
 use Rattle.ledger.specs.declared.Terms.{Terms}
 use Rattle.ledger.specs.Bills.{codeBytes, isPrepay, isOpen, cents, blankBill}
-use Rattle.notices.specs.Layout.{codeIn, trackingIn, balanceIn, sequenceIn, consumptionIn, chargeIn, tierRateIn, tierConsumptionIn, tierChargeIn, appliedIn, owedIn}
+use Rattle.records.specs.Layout.{rateCodeIn, trackingIn, balanceIn, sequenceIn, consumptionIn, detailChargeIn, tierRateIn, appliedIn, owedIn}
+use Rattle.records.specs.declared.Tiers.{Tiers}
+use Rattle.records.specs.declared.Tiers.the-variants as tiers
+use Rattle.records.specs.Tiers.{tierConsumptions, tierCharges}
 use Rattle.verdict.specs.declared.Kind.{Kind}
 use Rattle.verdict.specs.declared.Kind.the-variants.{Response, Supplement}
 use Rattle.verdict.specs.declared.Sought.{Sought}
 use Rattle.verdict.specs.declared.Sought.the-variants.{Bill, Nothing}
 use Rattle.verdict.specs.declared.Check.{Check}
 use Rattle.verdict.specs.declared.Check.the-variants.{Clear, Stop}
+use Rattle.verdict.specs.declared.TierRate.{TierRate}
+use Rattle.verdict.specs.declared.TierRate.the-variants.{Of}
+use Rattle.verdict.specs.declared.TierRate.the-variants as rate
 use Rattle.verdict.specs.declared.Verdict.{Verdict}
 use Rattle.verdict.specs.declared.Verdict.the-variants.{Accepted, Rejected}
 use Rattle.verdict.specs.Rules.{Rule, rule, first, only}
@@ -41,7 +47,7 @@ line4 b = rule (isNothing b) 16 ∷ []
 
 -- "5. BR07: another rate code."
 unfoldable pub line5 : List ℕ → Terms → List Rule
-line5 h t = rule (not (sameList (codeIn h) (codeBytes (t .code)))) 7 ∷ []
+line5 h t = rule (not (sameList (rateCodeIn h) (codeBytes (t .code)))) 7 ∷ []
 
 -- "6. RSP: BR09 if not open; BR01 if the Tracking ID isn't the latest request's; BR05 if the sequence isn't the bill's. SUP: BR09 if cancelled (H);
 -- BR11 if open; BR05 if the sequence isn't 000 or the bill's is 999 (H)."
@@ -62,7 +68,7 @@ unfoldable pub line7 : List ℕ → Terms → List Rule
 line7 d t =
     rule (bad (fieldOf (consumptionIn d))) 8
     ∷ rule (not (eqb (value (fieldOf (consumptionIn d))) (t .latest .consumption .0))) 6
-    ∷ rule (bad (fieldOf (chargeIn d))) 10
+    ∷ rule (bad (fieldOf (detailChargeIn d))) 10
     ∷ []
 
 -- "8. Prepay only: BR21 balance, BR22 applied, BR23 owed not numeric."
@@ -72,30 +78,15 @@ line8 prepay h d =
     (rule (bad (fieldOf (balanceIn h))) 21 ∷ rule (bad (fieldOf (appliedIn d))) 22 ∷ rule (bad (fieldOf (owedIn d))) 23 ∷ [])
 
 -- ---- the tiers
--- how a tier's consumption or charge is read
-abbrev pub tierField : List ℕ → Field
-tierField x = fieldOf x
+-- tier 1's rate, where it is numeric
+abbrev pub rateOf : Field → TierRate
+rateOf (Number n) = Of (record { 0 = n })
+rateOf NotNumeric = rate.NotNumeric
 
--- the sum of two fields, a number where both are
-abbrev pub add : Field → Field → Field
-add (Number a) (Number b) = Number (a + b)
-add (Number a) NotNumeric = NotNumeric
-add NotNumeric f = NotNumeric
-
--- the sum of the four tiers, "from 88, 118, 148 and 178"
-abbrev pub fourTiers : (ℕ → List ℕ) → Field
-fourTiers tier = add (tierField (tier 88)) (add (tierField (tier 118)) (add (tierField (tier 148)) (tierField (tier 178))))
-
-unfoldable pub tierConsumptions : List ℕ → Field
-tierConsumptions d = fourTiers (tierConsumptionIn d)
-
-unfoldable pub tierCharges : List ℕ → Field
-tierCharges d = fourTiers (tierChargeIn d)
-
--- a sum is not numeric, or not this total
-abbrev pub misses : Field → ℕ → Bool
-misses (Number n) total = not (eqb n total)
-misses NotNumeric total = true
+-- "a tier consumption not numeric, or the four don't add up to the consumption": so for charges
+abbrev pub misses : Tiers → ℕ → Bool
+misses (tiers.Numbers a b c e) total = not (eqb (a + (b + (c + e))) total)
+misses tiers.NotNumeric total = true
 
 -- "9. BR24: tier 1 rate not numeric. BR25: a tier consumption not numeric, or the four don't add up to the consumption. BR26: the same for charges."
 unfoldable pub line9 : List ℕ → ℕ → ℕ → List Rule
@@ -116,7 +107,7 @@ abbrev pub sentConsumption : List ℕ → ℕ
 sentConsumption d = value (fieldOf (consumptionIn d))
 
 abbrev pub sentCharge : List ℕ → ℕ
-sentCharge d = value (fieldOf (chargeIn d))
+sentCharge d = value (fieldOf (detailChargeIn d))
 
 abbrev pub lines8to10 : Bool → List ℕ → List ℕ → ℕ → ℕ → List Rule
 lines8to10 prepay h d consumption charge = line8 prepay h d ++ (line9 d consumption charge ++ line10 prepay d charge)

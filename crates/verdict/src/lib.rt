@@ -1,20 +1,24 @@
 // Lines 4 to 10: the verdict of a group that passes lines 1 to 3, on the bill that it names.
 ghost use mathlib.Core.Path.{_≡_};
-ghost use mathlib.Core.Bool.{true, not};
+ghost use mathlib.Core.Bool.{true};
 ghost use Prim.Native.Nat.{_≤_};
 ghost use lib.ListN.{length};
 ghost use Rattle.fields.specs.Put.{sameList};
+ghost use Rattle.fields.specs.Field.{fieldOf};
 ghost use Rattle.ledger.specs.Bills.{codeBytes, isPrepay};
-ghost use Rattle.notices.specs.Layout.{codeIn};
+ghost use Rattle.records.specs.Limits.{recordSize};
+ghost use Rattle.records.specs.Layout.{rateCodeIn, tierRateIn};
 ghost use Rattle.verdict.specs.Rules.{first};
-ghost use Rattle.verdict.specs.Lines.{line6, tierConsumptions, tierCharges, misses, line9, lines8to10, lines7to10, lines5to10, sentCharge, amountsOf, settle, verdictOf};
+ghost use Rattle.verdict.specs.Lines.{line6, rateOf, line9, lines8to10, lines7to10, lines5to10, sentCharge, amountsOf, settle, verdictOf};
 use fields::Field;
 use ledger::Posted;
 use ledger::RateCode;
 use ledger::Terms;
+use records::Tiers;
 use units::Ccf;
 use units::Cents;
 use units::Date;
+use units::Rate;
 
 // The Notification Code of a group that passes lines 1 and 2.
 pub enum Kind {
@@ -34,6 +38,12 @@ pub enum Check {
     Stop(u64),
 }
 
+// Tier 1's rate, where it is numeric.
+enum TierRate {
+    Of(Rate),
+    NotNumeric,
+}
+
 // A group's verdict: accepted with its amounts, or rejected with its code.
 pub enum Verdict {
     Accepted(Posted),
@@ -42,25 +52,25 @@ pub enum Verdict {
 
 // Whether a header has this rate code.
 fn has_code(h: &[u8], c: RateCode) -> bool
-    requires { ⌜ 321 ≤ length (now h) ⌝ }
-    ensures { λ r. ⌜ r ≡ sameList (codeIn (now (h .entry))) (codeBytes c) ⌝ }
+    requires { ⌜ 7 ≤ length (now h) ⌝ }
+    ensures { λ r. ⌜ r ≡ sameList (rateCodeIn (now (h .entry))) (codeBytes c) ⌝ }
 {
     let code = [c.first, c.second, 67, c.tens, c.ones];
-    fields::is_text(h, 2, &code)
+    records::has_rate_code(h, &code)
 }
 
 // Line 6 for RSP.
 fn line_6_response(h: &[u8], d: &[u8], t: Terms, today: Date) -> Check
-    requires { ⌜ (321 ≤ length (now h)) × (321 ≤ length (now d)) ⌝ }
+    requires { ⌜ (recordSize ≤ length (now h)) × (recordSize ≤ length (now d)) ⌝ }
     ensures { λ r. ⌜ r ≡ first (line6 Kind.Response today (now (h .entry)) (now (d .entry)) t) ⌝ }
 {
     if !t.is_open(today) {
         return Check::Stop(9);
     }
-    if !fields::is_digits(h, 19, 9, t.latest.tracking) {
+    if !records::has_tracking(h, t.latest.tracking) {
         return Check::Stop(1);
     }
-    if !fields::is_digits(d, 53, 3, t.sequence) {
+    if !records::has_sequence(d, t.sequence) {
         return Check::Stop(5);
     }
     Check::Clear
@@ -68,7 +78,7 @@ fn line_6_response(h: &[u8], d: &[u8], t: Terms, today: Date) -> Check
 
 // Line 6 for SUP.
 fn line_6_supplement(h: &[u8], d: &[u8], t: Terms, today: Date) -> Check
-    requires { ⌜ (321 ≤ length (now h)) × (321 ≤ length (now d)) ⌝ }
+    requires { ⌜ (recordSize ≤ length (now h)) × (recordSize ≤ length (now d)) ⌝ }
     ensures { λ r. ⌜ r ≡ first (line6 Kind.Supplement today (now (h .entry)) (now (d .entry)) t) ⌝ }
 {
     let cancelled = t.cancelled;
@@ -78,7 +88,7 @@ fn line_6_supplement(h: &[u8], d: &[u8], t: Terms, today: Date) -> Check
     if t.is_open(today) {
         return Check::Stop(11);
     }
-    if !fields::is_text(d, 53, b"000") {
+    if !records::has_sequence(d, 0) {
         return Check::Stop(5);
     }
     let sequence = t.sequence;
@@ -90,7 +100,7 @@ fn line_6_supplement(h: &[u8], d: &[u8], t: Terms, today: Date) -> Check
 
 // Line 6: from the Notification Code to its check lines.
 fn line_6(h: &[u8], d: &[u8], kind: Kind, t: Terms, today: Date) -> Check
-    requires { ⌜ (321 ≤ length (now h)) × (321 ≤ length (now d)) ⌝ }
+    requires { ⌜ (recordSize ≤ length (now h)) × (recordSize ≤ length (now d)) ⌝ }
     ensures { λ r. ⌜ r ≡ first (line6 kind today (now (h .entry)) (now (d .entry)) t) ⌝ }
 {
     match kind {
@@ -99,61 +109,38 @@ fn line_6(h: &[u8], d: &[u8], kind: Kind, t: Terms, today: Date) -> Check
     }
 }
 
-// Whether the four tier consumptions are numeric and add up to the consumption.
-fn consumptions_add_up(d: &[u8], consumption: Ccf) -> bool
-    requires { ⌜ 321 ≤ length (now d) ⌝ }
-    ensures { λ r. ⌜ r ≡ not (misses (tierConsumptions (now (d .entry))) (consumption .0)) ⌝ }
+// The rate of tier 1, which no rule adds or compares.
+fn tier_1_rate(d: &[u8]) -> TierRate
+    requires { ⌜ 94 ≤ length (now d) ⌝ }
+    ensures { λ r. ⌜ r ≡ rateOf (fieldOf (tierRateIn (now (d .entry)) 88)) ⌝ }
 {
-    let Field::Number(a) = fields::read_field(d, 94, 10) else {
-        return false;
+    let Field::Number(rate) = records::tier_1_rate(d) else {
+        return TierRate::NotNumeric;
     };
-    let Field::Number(b) = fields::read_field(d, 124, 10) else {
-        return false;
-    };
-    let Field::Number(c) = fields::read_field(d, 154, 10) else {
-        return false;
-    };
-    let Field::Number(e) = fields::read_field(d, 184, 10) else {
-        return false;
-    };
-    Ccf(a).plus(Ccf(b).plus(Ccf(c).plus(Ccf(e))))
-        .same(consumption)
-}
-
-// Whether the four tier charges are numeric and add up to the charge.
-fn charges_add_up(d: &[u8], charge: Cents) -> bool
-    requires { ⌜ 321 ≤ length (now d) ⌝ }
-    ensures { λ r. ⌜ r ≡ not (misses (tierCharges (now (d .entry))) (charge .0)) ⌝ }
-{
-    let Field::Number(a) = fields::read_field(d, 104, 13) else {
-        return false;
-    };
-    let Field::Number(b) = fields::read_field(d, 134, 13) else {
-        return false;
-    };
-    let Field::Number(c) = fields::read_field(d, 164, 13) else {
-        return false;
-    };
-    let Field::Number(e) = fields::read_field(d, 194, 13) else {
-        return false;
-    };
-    Cents(a)
-        .plus(Cents(b).plus(Cents(c).plus(Cents(e))))
-        .same(charge)
+    TierRate::Of(Rate(rate))
 }
 
 // Line 9.
 fn line_9(d: &[u8], consumption: Ccf, charge: Cents) -> Check
-    requires { ⌜ 321 ≤ length (now d) ⌝ }
+    requires { ⌜ 207 ≤ length (now d) ⌝ }
     ensures { λ r. ⌜ r ≡ first (line9 (now (d .entry)) (consumption .0) (charge .0)) ⌝ }
 {
-    let Field::Number(_) = fields::read_field(d, 87, 7) else {
+    let TierRate::Of(_) = tier_1_rate(d) else {
         return Check::Stop(24);
     };
-    if !consumptions_add_up(d, consumption) {
+    let Tiers::Numbers(a, b, c, e) = records::tier_consumptions(d) else {
+        return Check::Stop(25);
+    };
+    if !Ccf(a).plus(Ccf(b).plus(Ccf(c).plus(Ccf(e))))
+        .same(consumption) {
         return Check::Stop(25);
     }
-    if !charges_add_up(d, charge) {
+    let Tiers::Numbers(p, q, r, s) = records::tier_charges(d) else {
+        return Check::Stop(26);
+    };
+    if !Cents(p)
+        .plus(Cents(q).plus(Cents(r).plus(Cents(s))))
+        .same(charge) {
         return Check::Stop(26);
     }
     Check::Clear
@@ -161,7 +148,7 @@ fn line_9(d: &[u8], consumption: Ccf, charge: Cents) -> Check
 
 // Lines 8 to 10 for Bill Ready: line 9 alone.
 fn bill_ready(d: &[u8], consumption: Ccf, charge: Cents) -> Verdict
-    requires { ⌜ 321 ≤ length (now d) ⌝ }
+    requires { ⌜ 207 ≤ length (now d) ⌝ }
     ensures { λ r. ⌜ r ≡ settle (first (line9 (now (d .entry)) (consumption .0) (charge .0))) (Posted.BillReady charge) ⌝ }
 {
     let check = line_9(d, consumption, charge);
@@ -173,17 +160,17 @@ fn bill_ready(d: &[u8], consumption: Ccf, charge: Cents) -> Verdict
 
 // Lines 8 to 10 for Prepay.
 fn prepay(h: &[u8], d: &[u8], consumption: Ccf, charge: Cents) -> Verdict
-    requires { ⌜ (321 ≤ length (now h)) × (321 ≤ length (now d)) ⌝ }
+    requires { ⌜ (recordSize ≤ length (now h)) × (recordSize ≤ length (now d)) ⌝ }
     requires { ⌜ charge .0 ≡ sentCharge (now d) ⌝ }
     ensures { λ r. ⌜ r ≡ settle (first (lines8to10 true (now (h .entry)) (now (d .entry)) (consumption .0) (charge .0))) (amountsOf true (now (d .entry))) ⌝ }
 {
-    let Field::Number(_) = fields::read_field(h, 60, 13) else {
+    let Field::Number(_) = records::balance(h) else {
         return Verdict::Rejected(21);
     };
-    let Field::Number(applied) = fields::read_field(d, 233, 13) else {
+    let Field::Number(applied) = records::applied(d) else {
         return Verdict::Rejected(22);
     };
-    let Field::Number(owed) = fields::read_field(d, 246, 13) else {
+    let Field::Number(owed) = records::owed(d) else {
         return Verdict::Rejected(23);
     };
     let check = line_9(d, consumption, charge);
@@ -202,17 +189,17 @@ fn prepay(h: &[u8], d: &[u8], consumption: Ccf, charge: Cents) -> Verdict
 
 // Lines 7 to 10.
 fn amounts(h: &[u8], d: &[u8], t: Terms) -> Verdict
-    requires { ⌜ (321 ≤ length (now h)) × (321 ≤ length (now d)) ⌝ }
+    requires { ⌜ (recordSize ≤ length (now h)) × (recordSize ≤ length (now d)) ⌝ }
     ensures { λ r. ⌜ r ≡ settle (first (lines7to10 (now (h .entry)) (now (d .entry)) t)) (amountsOf (isPrepay (t .product)) (now (d .entry))) ⌝ }
 {
-    let Field::Number(c) = fields::read_field(d, 56, 10) else {
+    let Field::Number(c) = records::consumption(d) else {
         return Verdict::Rejected(8);
     };
     let asked = t.latest.consumption;
     if !Ccf(c).same(asked) {
         return Verdict::Rejected(6);
     }
-    let Field::Number(m) = fields::read_field(d, 66, 13) else {
+    let Field::Number(m) = records::charge(d) else {
         return Verdict::Rejected(10);
     };
     let product = t.product;
@@ -224,7 +211,7 @@ fn amounts(h: &[u8], d: &[u8], t: Terms) -> Verdict
 
 // Lines 5 to 10.
 fn known(h: &[u8], d: &[u8], kind: Kind, t: Terms, today: Date) -> Verdict
-    requires { ⌜ (321 ≤ length (now h)) × (321 ≤ length (now d)) ⌝ }
+    requires { ⌜ (recordSize ≤ length (now h)) × (recordSize ≤ length (now d)) ⌝ }
     ensures { λ r. ⌜ r ≡ settle (first (lines5to10 kind today (now (h .entry)) (now (d .entry)) t)) (amountsOf (isPrepay (t .product)) (now (d .entry))) ⌝ }
 {
     let code = t.code;
@@ -240,7 +227,7 @@ fn known(h: &[u8], d: &[u8], kind: Kind, t: Terms, today: Date) -> Verdict
 
 // Lines 4 to 10.
 pub fn verdict_of(h: &[u8], d: &[u8], kind: Kind, b: Sought, today: Date) -> Verdict
-    requires { ⌜ (321 ≤ length (now h)) × (321 ≤ length (now d)) ⌝ }
+    requires { ⌜ (recordSize ≤ length (now h)) × (recordSize ≤ length (now d)) ⌝ }
     ensures { λ r. ⌜ r ≡ verdictOf kind today (now (h .entry)) (now (d .entry)) b ⌝ }
 {
     let Sought::Bill(t) = b else {

@@ -3,7 +3,7 @@ use Prim.Native.Nat.{_+_, _-_, _≤_}
 use mathlib.Core.Path.{_≡_, sym, _∙_}
 use native.Mathlib.Omega.{arith}
 use borrow.Author.Needs.{needs}
-use Rattle.notices.specs.Layout.{recordsFrom}
+use Rattle.records.specs.Layout.{recordsFrom}
 use Rattle.file.specs.File.{leading}
 use Rattle.file.specs.Walk.{after}
 use Rattle.file.proofs.FileLaws.{leading-header, leading-detail, leading-end}

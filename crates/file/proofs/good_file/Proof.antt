@@ -6,8 +6,8 @@ use borrow.Author.Needs.{needs}
 use borrow.Author.Tests.{eq-eqb, ne-eqb, le-leb, lt-leb}
 use lib.ListN.{length}
 use Rattle.ledger.specs.Lists.{every}
-use Rattle.notices.specs.Layout.{recordsFrom}
-use Rattle.notices.proofs.LayoutLaws.{lent-record}
+use Rattle.records.specs.Layout.{recordsFrom}
+use Rattle.records.proofs.LayoutLaws.{lent-record}
 use Rattle.file.specs.File.{records, goodRecord, goodFile}
 use Rattle.file.proofs.FileLaws.{from-start, good-step, good-stop, good-end, headed-first, headed-none}
 use Rattle.file.proofs.good_file.Statement.{statement}

@@ -13,15 +13,12 @@ all-printable-requires c κs = search needs
 is-header-requires : tie.Need-is-header-requires
 is-header-requires c κs = search needs
 
-slice-aggregate-is-text : tie.Need-slice-aggregate-is-text
-slice-aggregate-is-text c = search needs
-
-is-text-requires : tie.Need-is-text-requires
-is-text-requires c κs = search needs
+has-type-02-requires : tie.Need-has-type-02-requires
+has-type-02-requires c κs = search needs
 
 returns : tie.Need-returns
 unfolding goodRecord isDetail
-returns c = rw (c .before .before .before .all-printable .ensures, c .before .before .is-header .ensures, c .is-text .ensures)
+returns c = rw (c .before .before .all-printable .ensures, c .before .is-header .ensures, c .has-type-02 .ensures)
 
 pub good-record-spec : {M : Type 1} → statement M
 good-record-spec =
@@ -30,6 +27,5 @@ good-record-spec =
     shared-slice-read-last
     all-printable-requires
     is-header-requires
-    slice-aggregate-is-text
-    is-text-requires
+    has-type-02-requires
     returns)

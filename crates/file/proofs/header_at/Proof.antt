@@ -1,7 +1,7 @@
 -- `file::header_at` meets its contract: the bytes lent are those of the record.
 use borrow.Author.Needs.{needs}
 use mathlib.Core.Path.{ap, _∙_}
-use Rattle.notices.proofs.LayoutLaws.{lent-record}
+use Rattle.records.proofs.LayoutLaws.{lent-record}
 use Rattle.file.specs.File.{isHeader}
 use Rattle.file.proofs.header_at.Statement.{statement}
 use Rattle.file.proofs.header_at.Tie as tie

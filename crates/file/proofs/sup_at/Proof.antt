@@ -1,8 +1,8 @@
 -- `file::sup_at` meets its contract: the bytes lent are those of the record.
 use borrow.Author.Needs.{needs}
 use mathlib.Core.Path.{ap, _∙_}
-use Rattle.notices.proofs.LayoutLaws.{lent-record}
-use Rattle.notices.specs.Layout.{isSup}
+use Rattle.records.proofs.LayoutLaws.{lent-record}
+use Rattle.records.specs.Layout.{isSup}
 use Rattle.file.proofs.sup_at.Statement.{statement}
 use Rattle.file.proofs.sup_at.Tie as tie
 

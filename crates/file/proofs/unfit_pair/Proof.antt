@@ -4,17 +4,11 @@ use Rattle.file.specs.File.{unfit}
 use Rattle.file.proofs.unfit_pair.Statement.{statement}
 use Rattle.file.proofs.unfit_pair.Tie as tie
 
-slice-aggregate-is-text : tie.Need-slice-aggregate-is-text
-slice-aggregate-is-text c = search needs
+has-record-count-01-requires : tie.Need-has-record-count-01-requires
+has-record-count-01-requires c κs = search needs
 
-is-text-requires : tie.Need-is-text-requires
-is-text-requires c κs = search needs
-
-slice-aggregate-is-text-2 : tie.Need-slice-aggregate-is-text-2
-slice-aggregate-is-text-2 c = search needs
-
-is-text-requires-2 : tie.Need-is-text-requires-2
-is-text-requires-2 c κs = search needs
+has-company-34-requires : tie.Need-has-company-34-requires
+has-company-34-requires c κs = search needs
 
 same-part-requires : tie.Need-same-part-requires
 same-part-requires c κs = search needs
@@ -22,34 +16,32 @@ same-part-requires c κs = search needs
 same-part-requires-2 : tie.Need-same-part-requires-2
 same-part-requires-2 c κs = search needs
 
-is-numeric-requires : tie.Need-is-numeric-requires
-is-numeric-requires c κs = search needs
+has-numeric-account-requires : tie.Need-has-numeric-account-requires
+has-numeric-account-requires c κs = search needs
 
-is-numeric-requires-2 : tie.Need-is-numeric-requires-2
-is-numeric-requires-2 c κs = search needs
+has-numeric-key-requires : tie.Need-has-numeric-key-requires
+has-numeric-key-requires c κs = search needs
 
 returns : tie.Need-returns
 unfolding unfit
 returns c =
     rw (
-      c .before .before .before .before .before .before .is-text .ensures,
-      c .before .before .before .before .is-text2 .ensures,
+      c .before .before .before .before .before .has-record-count-01 .ensures,
+      c .before .before .before .before .has-company-34 .ensures,
       c .before .before .before .same-part .ensures,
       c .before .before .same-part2 .ensures,
-      c .before .is-numeric .ensures,
-      c .is-numeric2 .ensures,
+      c .before .has-numeric-account .ensures,
+      c .has-numeric-key .ensures,
     )
 
 pub unfit-pair-spec : {M : Type 1} → statement M
 unfit-pair-spec =
     tie.close
     (tie.spec
-    slice-aggregate-is-text
-    is-text-requires
-    slice-aggregate-is-text-2
-    is-text-requires-2
+    has-record-count-01-requires
+    has-company-34-requires
     same-part-requires
     same-part-requires-2
-    is-numeric-requires
-    is-numeric-requires-2
+    has-numeric-account-requires
+    has-numeric-key-requires
     returns)

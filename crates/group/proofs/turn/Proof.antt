@@ -1,7 +1,7 @@
 -- `group::turn` meets its contract: its parts answer by one verdict.
 use mathlib.Core.Path.{_≡_, refl, sym, ap, _∙_}
 use native.Mathlib.Omega.{arith}
-use Rattle.notices.specs.Layout.{isSup}
+use Rattle.records.specs.Layout.{isSup}
 use Rattle.file.specs.File.{asksId}
 use Rattle.file.specs.Walk.{groupAt}
 use Rattle.file.proofs.FileLaws.{header-is}

@@ -5,15 +5,15 @@ use Rattle.fields.proofs.PutLaws.{first, next}
 use mathlib.Core.Path.{refl}
 use Rattle.fields.proofs.DigitLaws.{length-digits}
 use Rattle.notices.specs.Notices.{header}
-use Rattle.notices.proofs.NoticeLaws.{length-lead, length-ending}
+use Rattle.notices.proofs.NoticeLaws.{length-alike, length-ending}
 use Rattle.notices.proofs.put_header.Statement.{statement}
 use Rattle.notices.proofs.put_header.Tie as tie
 
-slice-aggregate-put-lead : tie.Need-slice-aggregate-put-lead
-slice-aggregate-put-lead c = search needs
+slice-aggregate-put-alike : tie.Need-slice-aggregate-put-alike
+slice-aggregate-put-alike c = search needs
 
-put-lead-requires : tie.Need-put-lead-requires
-put-lead-requires c κs = search needs
+put-alike-requires : tie.Need-put-alike-requires
+put-alike-requires c κs = search needs
 
 add-put-digits : tie.Need-add-put-digits
 add-put-digits c = search needs
@@ -49,7 +49,7 @@ returns : tie.Need-returns
 unfolding header
 returns c =
     let a = c .before .before .before .before .before .before .before .before .before .before .before .before .before .before .before .before .before .before .before .before .before .before .before .before .args in
-    let w1 = first (a .out .now) (a .at) _ (omega (arith, c .before .before .before .before .before .before .before .before .before .before .before .before .before .before .before .before .before .before .before .before .before .before .before .before .pre)) (c .before .before .before .before .before .before .before .before .before .before .before .before .before .before .before .before .before .before .before .put-lead .ensures) (length-lead (a .l) (a .notice .now) (c .before .before .before .before .before .before .before .before .before .before .before .before .before .before .before .before .before .before .before .before .before .before .before .before .pre .1) _ refl) in
+    let w1 = first (a .out .now) (a .at) _ (omega (arith, c .before .before .before .before .before .before .before .before .before .before .before .before .before .before .before .before .before .before .before .before .before .before .before .before .pre)) (c .before .before .before .before .before .before .before .before .before .before .before .before .before .before .before .before .before .before .before .put-alike .ensures) (length-alike (a .l) (a .notice .now) (c .before .before .before .before .before .before .before .before .before .before .before .before .before .before .before .before .before .before .before .before .before .before .before .before .pre .1) _ refl) in
     let w2 = next w1 _ (c .before .before .before .before .before .before .before .before .before .before .before .before .before .before .before .put-digits .ensures) (length-digits 9 _) in
     let w3 = next w2 _ (c .before .before .before .before .before .before .before .before .before .before .before .put-digits2 .ensures) (length-digits 8 _) in
     let w4 = next w3 _ (c .before .before .before .before .before .before .put-bytes .ensures) refl in
@@ -59,8 +59,8 @@ pub put-header-spec : {M : Type 1} → statement M
 put-header-spec =
     tie.close
     (tie.spec
-    slice-aggregate-put-lead
-    put-lead-requires
+    slice-aggregate-put-alike
+    put-alike-requires
     add-put-digits
     put-digits-requires
     add-put-digits-2

@@ -4,11 +4,11 @@ use Rattle.pairs.specs.Pairs.{namedBy}
 use Rattle.pairs.proofs.named.Statement.{statement}
 use Rattle.pairs.proofs.named.Tie as tie
 
-number-at-requires : tie.Need-number-at-requires
-number-at-requires c κs = search needs
+account-number-requires : tie.Need-account-number-requires
+account-number-requires c κs = search needs
 
-number-at-requires-2 : tie.Need-number-at-requires-2
-number-at-requires-2 c κs = search needs
+key-number-requires : tie.Need-key-number-requires
+key-number-requires c κs = search needs
 
 mul-result : tie.Need-mul-result
 mul-result c = search needs
@@ -24,14 +24,14 @@ add-result-2 c = search needs
 
 returns : tie.Need-returns
 unfolding namedBy
-returns c = rw (c .before .number-at .ensures .0, c .number-at2 .ensures .0)
+returns c = rw (c .before .account-number .ensures .0, c .key-number .ensures .0)
 
 pub named-spec : {M : Type 1} → statement M
 named-spec =
     tie.close
     (tie.spec
-    number-at-requires
-    number-at-requires-2
+    account-number-requires
+    key-number-requires
     mul-result
     mul-result-2
     add-result

@@ -12,13 +12,13 @@ use Rattle.verdict.proofs.amounts.Tie as tie
 
 -- what the two fields hold
 consumption-is : (c : tie.After-c) → fieldOf (part (c .before .before .before .before .before .args .d .now) 56 10) ≡ Number (c .c .given .0 .0)
-consumption-is c = sym (c .before .before .read-field .ensures) ∙ c .c .given .1
+consumption-is c = sym (c .before .before .consumption .ensures) ∙ c .c .given .1
 
 charge-is : (c : tie.After-m) → fieldOf (part (c .before .before .before .before .before .before .before .before .before .before .before .before .args .d .now) 66 13) ≡ Number (c .m .given .0 .0)
-charge-is c = sym (c .before .before .read-field2 .ensures) ∙ c .m .given .1
+charge-is c = sym (c .before .before .charge .ensures) ∙ c .m .given .1
 
-read-field-requires : tie.Need-read-field-requires
-read-field-requires c κs = search needs
+consumption-requires : tie.Need-consumption-requires
+consumption-requires c κs = search needs
 
 enum-known-c : tie.Need-enum-known-c
 enum-known-c c = search needs
@@ -28,7 +28,7 @@ enum-told c = search needs
 
 returns : tie.Need-returns
 unfolding line7
-returns c = rw (sym (c .before .before .read-field .ensures) ∙ c .enum-told .given .1)
+returns c = rw (sym (c .before .before .consumption .ensures) ∙ c .enum-told .given .1)
 
 same-requires : tie.Need-same-requires
 same-requires c κs = search needs
@@ -37,8 +37,8 @@ returns-2 : tie.Need-returns-2
 unfolding line7
 returns-2 c = rw (consumption-is (c .before .before .before .before), sym (c .before .same .ensures) ∙ not-true _ (c .if1 .taken))
 
-read-field-requires-2 : tie.Need-read-field-requires-2
-read-field-requires-2 c κs = search needs
+charge-requires : tie.Need-charge-requires
+charge-requires c κs = search needs
 
 enum-known-m : tie.Need-enum-known-m
 enum-known-m c = search needs
@@ -48,7 +48,7 @@ enum-told-2 c = search needs
 
 returns-3 : tie.Need-returns-3
 unfolding line7
-returns-3 c = rw (consumption-is (c .before .before .before .before .before .before .before), sym (c .before .before .before .before .same .ensures) ∙ not-false _ (c .before .before .before .if1 .left), sym (c .before .before .read-field2 .ensures) ∙ c .enum-told2 .given .1)
+returns-3 c = rw (consumption-is (c .before .before .before .before .before .before .before), sym (c .before .before .before .before .same .ensures) ∙ not-false _ (c .before .before .before .if1 .left), sym (c .before .before .charge .ensures) ∙ c .enum-told2 .given .1)
 
 is-prepay-requires : tie.Need-is-prepay-requires
 is-prepay-requires c κs = search needs
@@ -71,13 +71,13 @@ pub amounts-spec : {M : Type 1} → statement M
 amounts-spec =
     tie.close
     (tie.spec
-    read-field-requires
+    consumption-requires
     enum-known-c
     enum-told
     returns
     same-requires
     returns-2
-    read-field-requires-2
+    charge-requires
     enum-known-m
     enum-told-2
     returns-3

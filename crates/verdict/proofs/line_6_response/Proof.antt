@@ -2,7 +2,6 @@
 use borrow.Author.Needs.{needs}
 use mathlib.Core.Path.{sym, _∙_}
 use borrow.Author.Tests.{not-true, not-false}
-use Rattle.fields.specs.Digits.{digits}
 use Rattle.verdict.specs.Lines.{line6}
 use Rattle.verdict.proofs.line_6_response.Statement.{statement}
 use Rattle.verdict.proofs.line_6_response.Tie as tie
@@ -14,23 +13,23 @@ returns : tie.Need-returns
 unfolding line6
 returns c = rw (sym (c .before .is-open .ensures) ∙ not-true _ (c .if1 .taken))
 
-is-digits-requires : tie.Need-is-digits-requires
-is-digits-requires c κs = search needs
+has-tracking-requires : tie.Need-has-tracking-requires
+has-tracking-requires c κs = search needs
 
 returns-2 : tie.Need-returns-2
-unfolding line6 digits
-returns-2 c = rw (sym (c .before .before .before .is-open .ensures) ∙ not-false _ (c .before .before .if1 .left), sym (c .before .is-digits .ensures) ∙ not-true _ (c .if2 .taken))
+unfolding line6
+returns-2 c = rw (sym (c .before .before .before .is-open .ensures) ∙ not-false _ (c .before .before .if1 .left), sym (c .before .has-tracking .ensures) ∙ not-true _ (c .if2 .taken))
 
-is-digits-requires-2 : tie.Need-is-digits-requires-2
-is-digits-requires-2 c κs = search needs
+has-sequence-requires : tie.Need-has-sequence-requires
+has-sequence-requires c κs = search needs
 
 returns-3 : tie.Need-returns-3
-unfolding line6 digits
-returns-3 c = rw (sym (c .before .before .before .before .before .is-open .ensures) ∙ not-false _ (c .before .before .before .before .if1 .left), sym (c .before .before .before .is-digits .ensures) ∙ not-false _ (c .before .before .if2 .left), sym (c .before .is-digits2 .ensures) ∙ not-true _ (c .if3 .taken))
+unfolding line6
+returns-3 c = rw (sym (c .before .before .before .before .before .is-open .ensures) ∙ not-false _ (c .before .before .before .before .if1 .left), sym (c .before .before .before .has-tracking .ensures) ∙ not-false _ (c .before .before .if2 .left), sym (c .before .has-sequence .ensures) ∙ not-true _ (c .if3 .taken))
 
 returns-4 : tie.Need-returns-4
-unfolding line6 digits
-returns-4 c = rw (sym (c .before .before .before .before .before .is-open .ensures) ∙ not-false _ (c .before .before .before .before .if1 .left), sym (c .before .before .before .is-digits .ensures) ∙ not-false _ (c .before .before .if2 .left), sym (c .before .is-digits2 .ensures) ∙ not-false _ (c .if3 .left))
+unfolding line6
+returns-4 c = rw (sym (c .before .before .before .before .before .is-open .ensures) ∙ not-false _ (c .before .before .before .before .if1 .left), sym (c .before .before .before .has-tracking .ensures) ∙ not-false _ (c .before .before .if2 .left), sym (c .before .has-sequence .ensures) ∙ not-false _ (c .if3 .left))
 
 pub line-6-response-spec : {M : Type 1} → statement M
 line-6-response-spec =
@@ -38,8 +37,8 @@ line-6-response-spec =
     (tie.spec
     is-open-requires
     returns
-    is-digits-requires
+    has-tracking-requires
     returns-2
-    is-digits-requires-2
+    has-sequence-requires
     returns-3
     returns-4)

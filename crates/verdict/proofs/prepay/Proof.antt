@@ -17,20 +17,20 @@ use Rattle.verdict.proofs.prepay.Tie as tie
 
 -- what the three fields hold
 balance-is : (c : tie.After-enum-told) → bad (fieldOf (part (c .before .before .before .before .before .args .h .now) 60 13)) ≡ false
-balance-is c = rw (sym (c .before .before .read-field .ensures) ∙ c .enum-told .given .1)
+balance-is c = rw (sym (c .before .before .balance .ensures) ∙ c .enum-told .given .1)
 
-applied-is : (c : tie.After-applied) → fieldOf (part (c .before .before .before .before .before .before .before .before .args .d .now) 233 13) ≡ Number (c .applied .given .0 .0)
-applied-is c = sym (c .before .before .read-field2 .ensures) ∙ c .applied .given .1
+applied-is : (c : tie.After-applied2) → fieldOf (part (c .before .before .before .before .before .before .before .before .args .d .now) 233 13) ≡ Number (c .applied2 .given .0 .0)
+applied-is c = sym (c .before .before .applied .ensures) ∙ c .applied2 .given .1
 
-owed-is : (c : tie.After-owed) → fieldOf (part (c .before .before .before .before .before .before .before .before .before .before .before .before .args .d .now) 246 13) ≡ Number (c .owed .given .0 .0)
-owed-is c = sym (c .before .before .read-field3 .ensures) ∙ c .owed .given .1
+owed-is : (c : tie.After-owed2) → fieldOf (part (c .before .before .before .before .before .before .before .before .before .before .before .before .args .d .now) 246 13) ≡ Number (c .owed2 .given .0 .0)
+owed-is c = sym (c .before .before .owed .ensures) ∙ c .owed2 .given .1
 
 -- whether applied plus owed is the charge
-sum-is : (c : tie.After-same) → eqb (c .before .before .before .before .before .before .before .before .before .before .applied .given .0 .0 + c .before .before .before .before .before .before .owed .given .0 .0) (c .before .before .before .before .before .before .before .before .before .before .before .before .before .before .before .before .before .before .args .charge .0) ≡ c .same .result
+sum-is : (c : tie.After-same) → eqb (c .before .before .before .before .before .before .before .before .before .before .applied2 .given .0 .0 + c .before .before .before .before .before .before .owed2 .given .0 .0) (c .before .before .before .before .before .before .before .before .before .before .before .before .before .before .before .before .before .before .args .charge .0) ≡ c .same .result
 sum-is c = rw (c .same .ensures, c .before .plus .ensures)
 
-read-field-requires : tie.Need-read-field-requires
-read-field-requires c κs = search needs
+balance-requires : tie.Need-balance-requires
+balance-requires c κs = search needs
 
 enum-told : tie.Need-enum-told
 enum-told c = search needs
@@ -40,10 +40,10 @@ enum-told-2 c = search needs
 
 returns : tie.Need-returns
 unfolding line8
-returns c = rw (sym (c .before .before .read-field .ensures) ∙ c .enum-told2 .given .1)
+returns c = rw (sym (c .before .before .balance .ensures) ∙ c .enum-told2 .given .1)
 
-read-field-requires-2 : tie.Need-read-field-requires-2
-read-field-requires-2 c κs = search needs
+applied-requires : tie.Need-applied-requires
+applied-requires c κs = search needs
 
 enum-known-applied : tie.Need-enum-known-applied
 enum-known-applied c = search needs
@@ -53,10 +53,10 @@ enum-told-3 c = search needs
 
 returns-2 : tie.Need-returns-2
 unfolding line8
-returns-2 c = rw (balance-is (c .before .before .before), sym (c .before .before .read-field2 .ensures) ∙ c .enum-told3 .given .1)
+returns-2 c = rw (balance-is (c .before .before .before), sym (c .before .before .applied .ensures) ∙ c .enum-told3 .given .1)
 
-read-field-requires-3 : tie.Need-read-field-requires-3
-read-field-requires-3 c κs = search needs
+owed-requires : tie.Need-owed-requires
+owed-requires c κs = search needs
 
 enum-known-owed : tie.Need-enum-known-owed
 enum-known-owed c = search needs
@@ -66,7 +66,7 @@ enum-told-4 c = search needs
 
 returns-3 : tie.Need-returns-3
 unfolding line8
-returns-3 c = rw (balance-is (c .before .before .before .before .before .before .before), applied-is (c .before .before .before .before), sym (c .before .before .read-field3 .ensures) ∙ c .enum-told4 .given .1)
+returns-3 c = rw (balance-is (c .before .before .before .before .before .before .before), applied-is (c .before .before .before .before), sym (c .before .before .owed .ensures) ∙ c .enum-told4 .given .1)
 
 line-9-requires : tie.Need-line-9-requires
 line-9-requires c κs = search needs
@@ -99,15 +99,15 @@ pub prepay-spec : {M : Type 1} → statement M
 prepay-spec =
     tie.close
     (tie.spec
-    read-field-requires
+    balance-requires
     enum-told
     enum-told-2
     returns
-    read-field-requires-2
+    applied-requires
     enum-known-applied
     enum-told-3
     returns-2
-    read-field-requires-3
+    owed-requires
     enum-known-owed
     enum-told-4
     returns-3

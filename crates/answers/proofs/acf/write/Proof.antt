@@ -4,9 +4,9 @@ use native.Mathlib.Omega.{arith}
 use Rattle.fields.proofs.PutLaws.{first, next}
 use mathlib.Core.Path.{refl}
 use Rattle.fields.proofs.DigitLaws.{length-digits}
-use Rattle.answers.specs.Answers.{acf}
+use Rattle.notices.specs.Answers.{acf}
 use Rattle.notices.proofs.NoticeLaws.{length-ending}
-use Rattle.answers.proofs.AnswerLaws.{length-acf-lead, length-balance}
+use Rattle.notices.proofs.AnswerLaws.{length-acf-alike, length-balance}
 use Rattle.answers.proofs.acf.write.Statement.{statement}
 use Rattle.answers.proofs.acf.write.Tie as tie
 
@@ -19,8 +19,8 @@ is-sup-requires c κs = search needs
 scheduled-of-requires : tie.Need-scheduled-of-requires
 scheduled-of-requires c κs = search needs
 
-put-lead-requires : tie.Need-put-lead-requires
-put-lead-requires c κs = search needs
+put-alike-requires : tie.Need-put-alike-requires
+put-alike-requires c κs = search needs
 
 add-put-digits : tie.Need-add-put-digits
 add-put-digits c = search needs
@@ -62,7 +62,7 @@ returns : tie.Need-returns
 unfolding acf
 returns c =
     let a = c .before .before .before .before .before .before .before .before .before .before .before .before .before .before .before .before .before .before .before .before .before .before .before .before .before .before .before .before .before .before .before .before .args in
-    let w1 = first (a .out .now) (a .at) _ (omega (arith, c .before .before .before .before .before .before .before .before .before .before .before .before .before .before .before .before .before .before .before .before .before .before .before .before .before .before .before .before .before .before .before .before .pre)) (c .before .before .before .before .before .before .before .before .before .before .before .before .before .before .before .before .before .before .before .before .before .before .before .put-lead .ensures) (length-acf-lead (a .h .now) (c .before .before .before .before .before .before .before .before .before .before .before .before .before .before .before .before .before .before .before .before .before .before .before .before .before .before .before .before .before .before .before .before .pre .1) (a .a)) in
+    let w1 = first (a .out .now) (a .at) _ (omega (arith, c .before .before .before .before .before .before .before .before .before .before .before .before .before .before .before .before .before .before .before .before .before .before .before .before .before .before .before .before .before .before .before .before .pre)) (c .before .before .before .before .before .before .before .before .before .before .before .before .before .before .before .before .before .before .before .before .before .before .before .put-alike .ensures) (length-acf-alike (a .h .now) (c .before .before .before .before .before .before .before .before .before .before .before .before .before .before .before .before .before .before .before .before .before .before .before .before .before .before .before .before .before .before .before .before .pre .1) (a .a)) in
     let w2 = next w1 _ (c .before .before .before .before .before .before .before .before .before .before .before .before .before .before .before .before .before .before .before .put-digits .ensures) (length-digits 9 _) in
     let w3 = next w2 _ (rw (c .before .before .before .before .before .before .before .before .before .before .before .before .before .before .before .before .before .before .before .before .before .before .before .before .before .scheduled-of .ensures, c .before .before .before .before .before .before .before .before .before .before .before .before .before .before .before .before .before .before .before .before .before .before .before .before .before .before .is-sup .ensures) at (c .before .before .before .before .before .before .before .before .before .before .before .before .before .before .before .put-digits2 .ensures)) (length-digits 8 _) in
     let w4 = next w3 _ (c .before .before .before .before .before .before .before .before .before .before .put-bytes .ensures) refl in
@@ -76,7 +76,7 @@ write-spec =
     is-prepay-requires
     is-sup-requires
     scheduled-of-requires
-    put-lead-requires
+    put-alike-requires
     add-put-digits
     put-digits-requires
     add-put-digits-2

@@ -4,14 +4,14 @@ use native.Mathlib.Omega.{arith}
 use Rattle.fields.proofs.PutLaws.{first, next}
 use mathlib.Core.Path.{refl}
 use Rattle.fields.proofs.DigitLaws.{length-digits}
-use Rattle.answers.specs.Answers.{rejDetail}
+use Rattle.notices.specs.Answers.{rejDetail}
 use Rattle.notices.proofs.NoticeLaws.{length-ending}
-use Rattle.answers.proofs.AnswerLaws.{length-within, length-rej-lead, length-from}
+use Rattle.notices.proofs.AnswerLaws.{length-within, length-rej-alike, length-from}
 use Rattle.answers.proofs.rej.put_detail.Statement.{statement}
 use Rattle.answers.proofs.rej.put_detail.Tie as tie
 
-put-lead-requires : tie.Need-put-lead-requires
-put-lead-requires c κs = search needs
+put-alike-requires : tie.Need-put-alike-requires
+put-alike-requires c κs = search needs
 
 add-put-part : tie.Need-add-put-part
 add-put-part c = search needs
@@ -59,7 +59,7 @@ returns : tie.Need-returns
 unfolding rejDetail
 returns c =
     let a = c .before .before .before .before .before .before .before .before .before .before .before .before .before .before .before .before .before .before .before .before .before .before .before .before .before .before .before .before .before .before .before .args in
-    let w1 = first (a .out .now) (a .at) _ (omega (arith, c .before .before .before .before .before .before .before .before .before .before .before .before .before .before .before .before .before .before .before .before .before .before .before .before .before .before .before .before .before .before .before .pre)) (c .before .before .before .before .before .before .before .before .before .before .before .before .before .before .before .before .before .before .before .before .before .before .before .before .before .before .before .put-lead .ensures) (length-rej-lead (a .d .now) (c .before .before .before .before .before .before .before .before .before .before .before .before .before .before .before .before .before .before .before .before .before .before .before .before .before .before .before .before .before .before .before .pre .1) _) in
+    let w1 = first (a .out .now) (a .at) _ (omega (arith, c .before .before .before .before .before .before .before .before .before .before .before .before .before .before .before .before .before .before .before .before .before .before .before .before .before .before .before .before .before .before .before .pre)) (c .before .before .before .before .before .before .before .before .before .before .before .before .before .before .before .before .before .before .before .before .before .before .before .before .before .before .before .put-alike .ensures) (length-rej-alike (a .d .now) (c .before .before .before .before .before .before .before .before .before .before .before .before .before .before .before .before .before .before .before .before .before .before .before .before .before .before .before .before .before .before .before .pre .1) _) in
     let w2 = next w1 _ (c .before .before .before .before .before .before .before .before .before .before .before .before .before .before .before .before .before .before .before .before .before .before .before .put-part .ensures) (length-within (a .d .now) (c .before .before .before .before .before .before .before .before .before .before .before .before .before .before .before .before .before .before .before .before .before .before .before .before .before .before .before .before .before .before .before .pre .1) 41 38 (omega arith)) in
     let w3 = next w2 _ (c .before .before .before .before .before .before .before .before .before .before .before .before .before .before .before .before .before .before .before .put-from .ensures) (length-from (a .d .now) (c .before .before .before .before .before .before .before .before .before .before .before .before .before .before .before .before .before .before .before .before .before .before .before .before .before .before .before .before .before .before .before .pre .1) _) in
     let w4 = next w3 _ (c .before .before .before .before .before .before .before .before .before .before .before .before .before .before .before .put-part2 .ensures) (length-within (a .d .now) (c .before .before .before .before .before .before .before .before .before .before .before .before .before .before .before .before .before .before .before .before .before .before .before .before .before .before .before .before .before .before .before .pre .1) 87 172 (omega arith)) in
@@ -71,7 +71,7 @@ pub put-detail-spec : {M : Type 1} → statement M
 put-detail-spec =
     tie.close
     (tie.spec
-    put-lead-requires
+    put-alike-requires
     add-put-part
     put-part-requires
     add-put-from

@@ -4,8 +4,8 @@ use Prim.Native.Nat.{ℕ}
 use mathlib.Core.Path.{ap, _∙_}
 use mathlib.Core.List.{List}
 use Rattle.fields.specs.Put.{put}
-use Rattle.answers.specs.Answers.{rejDetail}
-use Rattle.notices.proofs.LayoutLaws.{lent-record}
+use Rattle.notices.specs.Answers.{rejDetail}
+use Rattle.records.proofs.LayoutLaws.{lent-record}
 use Rattle.answers.proofs.rej.put_detail_at.Statement.{statement}
 use Rattle.answers.proofs.rej.put_detail_at.Tie as tie
 

@@ -1,6 +1,6 @@
 -- `answers::rej::put_from` meets its contract, by the test.
 use borrow.Author.Needs.{needs}
-use Rattle.answers.specs.Answers.{fromBack}
+use Rattle.notices.specs.Answers.{fromBack}
 use Rattle.answers.proofs.rej.put_from.Statement.{statement}
 use Rattle.answers.proofs.rej.put_from.Tie as tie
 

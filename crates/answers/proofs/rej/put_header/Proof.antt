@@ -3,13 +3,13 @@ use borrow.Author.Needs.{needs}
 use native.Mathlib.Omega.{arith}
 use Rattle.fields.proofs.PutLaws.{first, next}
 use Rattle.fields.proofs.DigitLaws.{length-digits}
-use Rattle.answers.specs.Answers.{rejHeader}
-use Rattle.answers.proofs.AnswerLaws.{length-within, length-rej-lead}
+use Rattle.notices.specs.Answers.{rejHeader}
+use Rattle.notices.proofs.AnswerLaws.{length-within, length-rej-alike}
 use Rattle.answers.proofs.rej.put_header.Statement.{statement}
 use Rattle.answers.proofs.rej.put_header.Tie as tie
 
-put-lead-requires : tie.Need-put-lead-requires
-put-lead-requires c κs = search needs
+put-alike-requires : tie.Need-put-alike-requires
+put-alike-requires c κs = search needs
 
 add-put-digits : tie.Need-add-put-digits
 add-put-digits c = search needs
@@ -30,7 +30,7 @@ returns : tie.Need-returns
 unfolding rejHeader
 returns c =
     let a = c .before .before .before .before .before .before .before .before .before .before .before .before .before .before .args in
-    let w1 = first (a .out .now) (a .at) _ (omega (arith, c .before .before .before .before .before .before .before .before .before .before .before .before .before .before .pre)) (c .before .before .before .before .before .before .before .before .before .before .put-lead .ensures) (length-rej-lead (a .h .now) (c .before .before .before .before .before .before .before .before .before .before .before .before .before .before .pre .1) _) in
+    let w1 = first (a .out .now) (a .at) _ (omega (arith, c .before .before .before .before .before .before .before .before .before .before .before .before .before .before .pre)) (c .before .before .before .before .before .before .before .before .before .before .put-alike .ensures) (length-rej-alike (a .h .now) (c .before .before .before .before .before .before .before .before .before .before .before .before .before .before .pre .1) _) in
     let w2 = next w1 _ (c .before .before .before .before .before .before .put-digits .ensures) (length-digits 9 _) in
     next w2 _ (c .before .before .put-part .ensures) (length-within (a .h .now) (c .before .before .before .before .before .before .before .before .before .before .before .before .before .before .pre .1) 50 271 (omega arith)) .same
 
@@ -38,7 +38,7 @@ pub put-header-spec : {M : Type 1} → statement M
 put-header-spec =
     tie.close
     (tie.spec
-    put-lead-requires
+    put-alike-requires
     add-put-digits
     put-digits-requires
     add-put-part

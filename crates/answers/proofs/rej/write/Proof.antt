@@ -7,12 +7,12 @@ use native.Mathlib.Omega.{arith}
 use borrow.Author.Needs.{needs}
 use lib.ListN.{length}
 use Rattle.fields.proofs.PutLaws.{Wrote, first, next, put-nil}
-use Rattle.answers.specs.declared.rej.Rej.{Rej}
-use Rattle.notices.specs.Layout.{recordAt, recordsFrom, isSup}
-use Rattle.answers.specs.Answers.{rejHeader, rejDetails, rej}
-use Rattle.answers.proofs.AnswerLaws.{length-rej-header}
-use Rattle.notices.proofs.LayoutLaws.{lent-record, long-record}
-use Rattle.answers.proofs.RecordLaws.{details-none, details-more, long-detail}
+use Rattle.notices.specs.declared.rej.Rej.{Rej}
+use Rattle.records.specs.Layout.{recordAt, recordsFrom, isSup}
+use Rattle.notices.specs.Answers.{rejHeader, rejDetails, rej}
+use Rattle.notices.proofs.AnswerLaws.{length-rej-header}
+use Rattle.records.proofs.LayoutLaws.{lent-record, long-record}
+use Rattle.notices.proofs.RecordLaws.{details-none, details-more, long-detail}
 use Rattle.answers.proofs.rej.write.Statement.{statement}
 use Rattle.answers.proofs.rej.write.Tie as tie
 

@@ -4,8 +4,8 @@ use mathlib.Core.Path.{ap, _∙_}
 use mathlib.Core.List.{List}
 use Prim.Native.Nat.{ℕ}
 use Rattle.fields.specs.Put.{put}
-use Rattle.notices.proofs.LayoutLaws.{lent-record}
-use Rattle.answers.specs.Answers.{acf}
+use Rattle.records.proofs.LayoutLaws.{lent-record}
+use Rattle.notices.specs.Answers.{acf}
 use Rattle.group.proofs.answer.write_acf.Statement.{statement}
 use Rattle.group.proofs.answer.write_acf.Tie as tie
 

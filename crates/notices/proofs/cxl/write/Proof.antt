@@ -8,8 +8,8 @@ use Rattle.notices.proofs.NoticeLaws.{length-header, length-cxl-detail}
 use Rattle.notices.proofs.cxl.write.Statement.{statement}
 use Rattle.notices.proofs.cxl.write.Tie as tie
 
-lead-of-requires : tie.Need-lead-of-requires
-lead-of-requires c κs = search needs
+alike-of-requires : tie.Need-alike-of-requires
+alike-of-requires c κs = search needs
 
 slice-aggregate-put-header : tie.Need-slice-aggregate-put-header
 slice-aggregate-put-header c = search needs
@@ -30,14 +30,14 @@ returns : tie.Need-returns
 unfolding cxl cxlHeader
 returns c =
     let a = c .before .before .before .before .before .before .before .before .before .before .before .args in
-    let w1 = first (a .out .now) (a .at) _ (omega (arith, c .before .before .before .before .before .before .before .before .before .before .before .pre)) (rw (c .before .before .before .before .before .before .before .before .before .lead-of .ensures) at (c .before .before .before .before .before .before .put-header .ensures)) (length-header _ _ refl _ _) in
+    let w1 = first (a .out .now) (a .at) _ (omega (arith, c .before .before .before .before .before .before .before .before .before .before .before .pre)) (rw (c .before .before .before .before .before .before .before .before .before .alike-of .ensures) at (c .before .before .before .before .before .before .put-header .ensures)) (length-header _ _ refl _ _) in
     next w1 _ (c .before .before .put-detail .ensures) (length-cxl-detail _) .same
 
 pub write-spec : {M : Type 1} → statement M
 write-spec =
     tie.close
     (tie.spec
-    lead-of-requires
+    alike-of-requires
     slice-aggregate-put-header
     put-header-requires
     add-put-detail

@@ -1,0 +1,74 @@
+-- `answers::acf::put_alike` meets its contract: five writes, one after the other.
+use borrow.Author.Needs.{needs}
+use native.Mathlib.Omega.{arith}
+use Rattle.fields.proofs.PutLaws.{first, next}
+use mathlib.Core.Path.{refl}
+use Rattle.fields.proofs.DigitLaws.{length-digits}
+use Rattle.notices.specs.Answers.{acfAlike}
+use Rattle.notices.proofs.AnswerLaws.{length-within, length-tracking}
+use Rattle.answers.proofs.acf.put_alike.Statement.{statement}
+use Rattle.answers.proofs.acf.put_alike.Tie as tie
+
+is-sup-requires : tie.Need-is-sup-requires
+is-sup-requires c κs = search needs
+
+put-part-requires : tie.Need-put-part-requires
+put-part-requires c κs = search needs
+
+add-put-tracking : tie.Need-add-put-tracking
+add-put-tracking c = search needs
+
+put-tracking-requires : tie.Need-put-tracking-requires
+put-tracking-requires c κs = search needs
+
+add-put-part : tie.Need-add-put-part
+add-put-part c = search needs
+
+put-part-requires-2 : tie.Need-put-part-requires-2
+put-part-requires-2 c κs = search needs
+
+add-put-bytes : tie.Need-add-put-bytes
+add-put-bytes c = search needs
+
+slice-aggregate-put-bytes : tie.Need-slice-aggregate-put-bytes
+slice-aggregate-put-bytes c = search needs
+
+put-bytes-requires : tie.Need-put-bytes-requires
+put-bytes-requires c κs = search needs
+
+add-put-digits : tie.Need-add-put-digits
+add-put-digits c = search needs
+
+put-digits-requires : tie.Need-put-digits-requires
+put-digits-requires c κs = search needs
+
+same-length : tie.Need-same-length
+same-length c = search needs
+
+returns : tie.Need-returns
+unfolding acfAlike
+returns c =
+    let a = c .before .before .before .before .before .before .before .before .before .before .before .before .before .before .before .before .before .before .before .before .before .before .before .before .args in
+    let w1 = first (a .out .now) (a .at) _ (omega (arith, c .before .before .before .before .before .before .before .before .before .before .before .before .before .before .before .before .before .before .before .before .before .before .before .before .pre)) (c .before .before .before .before .before .before .before .before .before .before .before .before .before .before .before .before .before .before .before .put-part .ensures) (length-within (a .h .now) (c .before .before .before .before .before .before .before .before .before .before .before .before .before .before .before .before .before .before .before .before .before .before .before .before .pre .1) 0 19 (omega arith)) in
+    let w2 = next w1 _ (rw (c .before .before .before .before .before .before .before .before .before .before .before .before .before .before .before .before .before .before .before .before .before .is-sup .ensures) at (c .before .before .before .before .before .before .before .before .before .before .before .before .before .before .before .put-tracking .ensures)) (length-tracking (a .h .now) (c .before .before .before .before .before .before .before .before .before .before .before .before .before .before .before .before .before .before .before .before .before .before .before .before .pre .1) (a .a)) in
+    let w3 = next w2 _ (c .before .before .before .before .before .before .before .before .before .before .before .put-part2 .ensures) (length-within (a .h .now) (c .before .before .before .before .before .before .before .before .before .before .before .before .before .before .before .before .before .before .before .before .before .before .before .before .pre .1) 28 2 (omega arith)) in
+    let w4 = next w3 _ (c .before .before .before .before .before .before .put-bytes .ensures) refl in
+    next w4 _ (c .before .before .put-digits .ensures) (length-digits 8 _) .same
+
+pub put-alike-spec : {M : Type 1} → statement M
+put-alike-spec =
+    tie.close
+    (tie.spec
+    is-sup-requires
+    put-part-requires
+    add-put-tracking
+    put-tracking-requires
+    add-put-part
+    put-part-requires-2
+    add-put-bytes
+    slice-aggregate-put-bytes
+    put-bytes-requires
+    add-put-digits
+    put-digits-requires
+    same-length
+    returns)

@@ -1,2 +1,0 @@
--- The answers to a group.
-pub mod Answers

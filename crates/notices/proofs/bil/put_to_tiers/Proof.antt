@@ -1,0 +1,92 @@
+-- `notices::bil::put_to_tiers` meets its contract: seven writes, one after the other.
+use borrow.Author.Needs.{needs}
+use native.Mathlib.Omega.{arith}
+use mathlib.Core.Path.{refl}
+use Rattle.fields.proofs.PutLaws.{first, next, length-filled}
+use Rattle.fields.proofs.DigitLaws.{length-digits}
+use Rattle.notices.specs.Notices.{bilToTiers}
+use Rattle.notices.proofs.NoticeLaws.{length-detail-to-key}
+use Rattle.notices.proofs.bil.put_to_tiers.Statement.{statement}
+use Rattle.notices.proofs.bil.put_to_tiers.Tie as tie
+
+alike-of-requires : tie.Need-alike-of-requires
+alike-of-requires c κs = search needs
+
+slice-aggregate-put-detail-to-key : tie.Need-slice-aggregate-put-detail-to-key
+slice-aggregate-put-detail-to-key c = search needs
+
+put-detail-to-key-requires : tie.Need-put-detail-to-key-requires
+put-detail-to-key-requires c κs = search needs
+
+add-put-digits : tie.Need-add-put-digits
+add-put-digits c = search needs
+
+put-digits-requires : tie.Need-put-digits-requires
+put-digits-requires c κs = search needs
+
+add-put-digits-2 : tie.Need-add-put-digits-2
+add-put-digits-2 c = search needs
+
+put-digits-requires-2 : tie.Need-put-digits-requires-2
+put-digits-requires-2 c κs = search needs
+
+add-put-digits-3 : tie.Need-add-put-digits-3
+add-put-digits-3 c = search needs
+
+put-digits-requires-3 : tie.Need-put-digits-requires-3
+put-digits-requires-3 c κs = search needs
+
+add-put-fill : tie.Need-add-put-fill
+add-put-fill c = search needs
+
+put-fill-requires : tie.Need-put-fill-requires
+put-fill-requires c κs = search needs
+
+add-put-digits-4 : tie.Need-add-put-digits-4
+add-put-digits-4 c = search needs
+
+put-digits-requires-4 : tie.Need-put-digits-requires-4
+put-digits-requires-4 c κs = search needs
+
+add-put-fill-2 : tie.Need-add-put-fill-2
+add-put-fill-2 c = omega (arith, c .before .before .before .before .before .before .before .before .before .before .before .before .before .before .before .before .before .before .before .before .before .before .before .before .before .before .before .before .before .pre, c .before .before .before .before .before .before .before .before .before .before .before .before .before .before .before .before .before .before .before .before .before .before .before .before .before .before .before .before .before .good)
+
+put-fill-requires-2 : tie.Need-put-fill-requires-2
+put-fill-requires-2 c κs = search needs
+
+same-length : tie.Need-same-length
+same-length c = search needs
+
+returns : tie.Need-returns
+unfolding bilToTiers
+returns c =
+    let a = c .before .before .before .before .before .before .before .before .before .before .before .before .before .before .before .before .before .before .before .before .before .before .before .before .before .before .before .before .before .before .before .before .args in
+    let w1 = first (a .out .now) (a .at) _ (omega (arith, c .before .before .before .before .before .before .before .before .before .before .before .before .before .before .before .before .before .before .before .before .before .before .before .before .before .before .before .before .before .before .before .before .pre)) (rw (c .before .before .before .before .before .before .before .before .before .before .before .before .before .before .before .before .before .before .before .before .before .before .before .before .before .before .before .before .before .before .alike-of .ensures) at (c .before .before .before .before .before .before .before .before .before .before .before .before .before .before .before .before .before .before .before .before .before .before .before .before .before .before .put-detail-to-key .ensures)) (length-detail-to-key _ _ refl _) in
+    let w2 = next w1 _ (c .before .before .before .before .before .before .before .before .before .before .before .before .before .before .before .before .before .before .before .before .before .before .put-digits .ensures) (length-digits 8 _) in
+    let w3 = next w2 _ (c .before .before .before .before .before .before .before .before .before .before .before .before .before .before .before .before .before .before .put-digits2 .ensures) (length-digits 3 _) in
+    let w4 = next w3 _ (c .before .before .before .before .before .before .before .before .before .before .before .before .before .before .put-digits3 .ensures) (length-digits 10 _) in
+    let w5 = next w4 _ (c .before .before .before .before .before .before .before .before .before .before .put-fill .ensures) (length-filled 13 48) in
+    let w6 = next w5 _ (c .before .before .before .before .before .before .put-digits4 .ensures) (length-digits 8 _) in
+    next w6 _ (c .before .before .put-fill2 .ensures) (length-filled 120 48) .same
+
+pub put-to-tiers-spec : {M : Type 1} → statement M
+put-to-tiers-spec =
+    tie.close
+    (tie.spec
+    alike-of-requires
+    slice-aggregate-put-detail-to-key
+    put-detail-to-key-requires
+    add-put-digits
+    put-digits-requires
+    add-put-digits-2
+    put-digits-requires-2
+    add-put-digits-3
+    put-digits-requires-3
+    add-put-fill
+    put-fill-requires
+    add-put-digits-4
+    put-digits-requires-4
+    add-put-fill-2
+    put-fill-requires-2
+    same-length
+    returns)
