@@ -87,5 +87,5 @@ pub fn write(out: &mut [u8], at: usize, h: &[u8], a: Acf)
     );
     fields::put_bytes(out, at + layout::RECORD_COUNT, b"00");
     put_balance(out, at + layout::BALANCE, h, prepay);
-    notices::put_end(out, at + layout::HEADER_FILLER, layout::HEADER_FILLER_WIDTH);
+    notices::put_end(out, at, layout::HEADER_FILLER);
 }

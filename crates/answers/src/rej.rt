@@ -94,7 +94,7 @@ fn put_detail(out: &mut [u8], at: usize, d: &[u8], sup: bool, x: Rej)
         layout::ERROR_NUMBER_WIDTH,
         x.code,
     );
-    notices::put_end(out, at + layout::REJ_FILLER, layout::REJ_FILLER_WIDTH);
+    notices::put_end(out, at, layout::REJ_FILLER);
 }
 
 // Writes a detail for record j of the file s.

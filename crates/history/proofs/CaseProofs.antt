@@ -7,7 +7,7 @@ use Rattle.units.specs.Calendar.{isLeap, monthDays, isDate}
 use Rattle.ledger.specs.Bills.{isRateCode}
 use Rattle.ledger.specs.Sound.{termsTests, balanced, soundAmounts, soundBill, distinct, bookTests}
 use Rattle.records.specs.Layout.{recordsFrom}
-use Rattle.notices.specs.Notices.{alikeFields, ending, header, detailToKey, bilToTiers, bilToOwed, bilHeader, bilDetail, bil, cxlHeader, cxlDetail, cxl}
+use Rattle.notices.specs.Notices.{alikeFields, spacesFrom, header, detailToKey, bilToTiers, bilToOwed, bilHeader, bilDetail, bil, cxlHeader, cxlDetail, cxl}
 use Rattle.notices.specs.Answers.{acfAlike, acf, rejAlike, rejHeader, isBlank, fromBack, rejDetail, rejDetails, rej}
 use Rattle.file.specs.File.{records, printable, isHeader, isDetail, goodRecord, headed, goodFile, leading, groups, fileGroups, unfit, line1, line2, passes, alike, line3}
 use Rattle.records.specs.Tiers.{tierConsumptions, tierCharges}
@@ -20,5 +20,5 @@ use Rattle.history.specs.Claim.{All, assigned}
 use Rattle.history.specs.Cases.{sentHeader, sentDetail, sent, resultOf, table, Holds}
 
 pub cases-hold : All Holds table
-unfolding digits number isDigit numeric part filled sameList fieldOf isLeap monthDays isDate isRateCode termsTests balanced soundAmounts soundBill distinct bookTests recordsFrom alikeFields ending header detailToKey bilToTiers bilToOwed bilHeader bilDetail bil cxlHeader cxlDetail cxl acfAlike acf rejAlike rejHeader isBlank fromBack rejDetail rejDetails rej records printable isHeader isDetail goodRecord headed goodFile leading groups fileGroups unfit line1 line2 passes alike line3 line4 line5 line6 line7 line8 tierConsumptions tierCharges line9 line10 amountsOf linesBy verdictOn verdictBy settled answer taken answers verdicts requestTests billCauses requestCauses fileCauses cancelCauses closeCauses causes cause next nextWritten nextVerdicts outcome step after outcomes assigns assignedIn assigned sentHeader sentDetail sent resultOf table
+unfolding digits number isDigit numeric part filled sameList fieldOf isLeap monthDays isDate isRateCode termsTests balanced soundAmounts soundBill distinct bookTests recordsFrom alikeFields spacesFrom header detailToKey bilToTiers bilToOwed bilHeader bilDetail bil cxlHeader cxlDetail cxl acfAlike acf rejAlike rejHeader isBlank fromBack rejDetail rejDetails rej records printable isHeader isDetail goodRecord headed goodFile leading groups fileGroups unfit line1 line2 passes alike line3 line4 line5 line6 line7 line8 tierConsumptions tierCharges line9 line10 amountsOf linesBy verdictOn verdictBy settled answer taken answers verdicts requestTests billCauses requestCauses fileCauses cancelCauses closeCauses causes cause next nextWritten nextVerdicts outcome step after outcomes assigns assignedIn assigned sentHeader sentDetail sent resultOf table
 cases-hold = (refl, (refl, (refl, (refl, (refl, (refl, (refl, (refl, (refl, (refl, (refl, tt)))))))))))

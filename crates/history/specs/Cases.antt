@@ -17,7 +17,7 @@ use Rattle.ledger.specs.declared.Posted.the-variants as posted
 use Rattle.ledger.specs.Bills.{productByte, cents}
 use Rattle.ledger.specs.Books.{Book}
 use Rattle.notices.specs.declared.Alike.{Alike}
-use Rattle.notices.specs.Notices.{alikeFields, ending}
+use Rattle.notices.specs.Notices.{alikeFields, spacesFrom}
 use Rattle.verdict.specs.declared.Check.{Check}
 use Rattle.verdict.specs.declared.Check.the-variants.{Clear, Stop}
 use Rattle.verdict.specs.declared.Verdict.{Verdict}
@@ -57,7 +57,7 @@ noticeOf x = cond (x .sup) (text "SUP") (text "RSP")
 
 -- a header: Confirmation Number, Scheduled Date, Record Count, Prepaid Balance
 unfoldable pub sentHeader : Sent → List ℕ
-sentHeader x = alikeFields (alikeOf x) (text "01") (noticeOf x) ++ digits 9 1 ++ digits 8 20171116 ++ text "01" ++ digits 13 0 ++ ending 247
+sentHeader x = alikeFields (alikeOf x) (text "01") (noticeOf x) ++ digits 9 1 ++ digits 8 20171116 ++ text "01" ++ digits 13 0 ++ spacesFrom 74
 
 -- a detail: Bill Key, Billing Date, sequence, consumption, charge, From Date, four tiers, previous fields, applied, owed
 unfoldable pub sentDetail : Sent → List ℕ
@@ -80,7 +80,7 @@ sentDetail x =
     ++ digits 26 0
     ++ digits 13 (x .applied)
     ++ digits 13 (x .owed)
-    ++ ending 61
+    ++ spacesFrom 260
 
 unfoldable pub sent : List Sent → List ℕ
 sent [] = []

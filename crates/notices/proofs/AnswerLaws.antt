@@ -10,7 +10,7 @@ use Rattle.fields.proofs.DigitLaws.{length-digits}
 use Rattle.fields.proofs.PutLaws.{length-filled, length-part}
 use Rattle.ledger.specs.Bills.{isPrepay}
 use Rattle.records.specs.Layout.{fromIn, isSup}
-use Rattle.notices.proofs.NoticeLaws.{length-ending}
+use Rattle.notices.proofs.NoticeLaws.{length-spaces-from}
 use Rattle.notices.specs.declared.acf.Acf.{Acf}
 use Rattle.notices.specs.declared.rej.Rej.{Rej}
 use Rattle.notices.specs.Answers.{acfTracking, acfBalance, acfAlike, acf, rejAlike, rejHeader, isBlank, fromBack, rejDetail}
@@ -36,7 +36,7 @@ module _ (r : List ℕ) (whole : 321 ≤ length r) where
 
   pub length-acf : (a : Acf) → length (acf r a) ≡ 321
   unfolding acf
-  length-acf a = simp (length-append, length-acf-alike a, length-digits, length-balance a, length-ending)
+  length-acf a = simp (length-append, length-acf-alike a, length-digits, length-balance a, length-spaces-from)
 
   pub length-rej-alike : (x : Rej) → length (rejAlike r x) ≡ 41
   unfolding rejAlike
@@ -60,5 +60,5 @@ module _ (r : List ℕ) (whole : 321 ≤ length r) where
         length-from sup,
         length-within 87 172 (omega arith),
         length-digits,
-        length-ending,
+        length-spaces-from,
       )

@@ -16,12 +16,12 @@ use Rattle.records.specs.Layout.{recordAt, trackingIn, typeIn, fromIn, isSup}
 use Rattle.records.proofs.FieldLaws.{field-at}
 use Rattle.notices.specs.declared.acf.Acf.{Acf}
 use Rattle.notices.specs.declared.rej.Rej.{Rej}
-use Rattle.notices.specs.Notices.{ending}
+use Rattle.notices.specs.Notices.{spacesFrom}
 use Rattle.notices.specs.Answers.{acfTracking, acfScheduled, acfBalance, acfAlike, acf, rejAlike, rejHeader, fromBack, rejDetail, rejDetails, rej}
 use Rattle.notices.specs.Positions.{AcfAt, RejHeaderAt, RejDetailAt, RejAt}
-use Rattle.notices.proofs.NoticeLaws.{length-ending}
+use Rattle.notices.proofs.NoticeLaws.{length-spaces-from}
 use Rattle.notices.proofs.AnswerLaws.{length-within, length-tracking, length-balance, length-acf, length-rej-header, length-from, length-rej-detail}
-use Rattle.notices.proofs.PositionLaws.{ending-blank, ending-end}
+use Rattle.notices.proofs.PositionLaws.{from-blank, from-end}
 
 -- ---- ACF
 module _ (h : List ℕ) (a : Acf) (whole : 321 ≤ length h) where
@@ -35,7 +35,7 @@ module _ (h : List ℕ) (a : Acf) (whole : 321 ≤ length h) where
       ∷ digits 8 (acfScheduled h a)
       ∷ text "00"
       ∷ acfBalance h a
-      ∷ ending 247
+      ∷ spacesFrom 74
       ∷ []
 
   abbrev acfWidths : List ℕ
@@ -52,7 +52,7 @@ module _ (h : List ℕ) (a : Acf) (whole : 321 ≤ length h) where
           refl,
           (
             length-digits 8 _,
-            (length-digits 9 _, (length-digits 8 _, (refl, (length-balance h whole a, (length-ending 247, tt))))),
+            (length-digits 9 _, (length-digits 8 _, (refl, (length-balance h whole a, (length-spaces-from 74, tt))))),
           ),
         ),
       ),
@@ -77,8 +77,8 @@ module _ (h : List ℕ) (a : Acf) (whole : 321 ≤ length h) where
         scheduled = field 6 (omega arith);
         recordCount = field 7 (omega arith);
         balance = field 8 (omega arith);
-        blank = within 9 0 247 (omega arith) (omega arith) ∙ ending-blank 247;
-        end = within 9 247 1 (omega arith) (omega arith) ∙ ending-end 247;
+        blank = within 9 0 247 (omega arith) (omega arith) ∙ from-blank 74;
+        end = within 9 247 1 (omega arith) (omega arith) ∙ from-end 74;
       }
 
 -- ---- REJ
@@ -106,7 +106,7 @@ module _ (r : List ℕ) (x : Rej) (whole : 321 ≤ length r) where
         ∷ fromBack sup (fromIn r)
         ∷ positions r 88 259
         ∷ (text "BR" ++ digits 2 (x .code))
-        ∷ ending 57
+        ∷ spacesFrom 264
         ∷ []
 
     abbrev rejWidths : List ℕ
@@ -127,7 +127,7 @@ module _ (r : List ℕ) (x : Rej) (whole : 321 ≤ length r) where
                 length-within r whole 87 172 (omega arith),
                 (
                   length-append (text "BR") (digits 2 (x .code)) ∙ ap (λ (k : ℕ). 2 + k) (length-digits 2 _),
-                  (length-ending 57, tt),
+                  (length-spaces-from 264, tt),
                 ),
               ),
             ),
@@ -141,7 +141,7 @@ module _ (r : List ℕ) (x : Rej) (whole : 321 ≤ length r) where
     unfolding rejDetail rejAlike
     one-code =
         let p : List ℕ = rejAlike r x ++ positions r 42 79 ++ fromBack sup (fromIn r) ++ positions r 88 259 in
-        ap (λ (b : List ℕ). b ++ ending 57) (append-assoc p (text "BR") (digits 2 (x .code)))
+        ap (λ (b : List ℕ). b ++ spacesFrom 264) (append-assoc p (text "BR") (digits 2 (x .code)))
 
     fields-at : RejDetailAt sup r x (chain (positions r 1 30) rejFields)
     fields-at =
@@ -155,8 +155,8 @@ module _ (r : List ℕ) (x : Rej) (whole : 321 ≤ length r) where
           from = field 4 (omega arith);
           tiersToOwed = field 5 (omega arith);
           errorCode = field 6 (omega arith);
-          blank = within 7 0 57 (omega arith) (omega arith) ∙ ending-blank 57;
-          end = within 7 57 1 (omega arith) (omega arith) ∙ ending-end 57;
+          blank = within 7 0 57 (omega arith) (omega arith) ∙ from-blank 264;
+          end = within 7 57 1 (omega arith) (omega arith) ∙ from-end 264;
         }
 
     pub rej-detail-at : RejDetailAt sup r x (rejDetail sup r x)

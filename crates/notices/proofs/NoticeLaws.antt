@@ -1,7 +1,7 @@
 -- The lengths of the notices and of their parts. Assumes nothing.
 use mathlib.Core.Path.{_≡_, refl}
 use mathlib.Core.List.{List}
-use Prim.Native.Nat.{ℕ, _+_}
+use Prim.Native.Nat.{ℕ, _+_, _-_}
 use lib.ListN.{length, length-append}
 use Rattle.fields.specs.Text.{text}
 use Rattle.fields.proofs.DigitLaws.{length-digits}
@@ -9,11 +9,11 @@ use Rattle.fields.proofs.PutLaws.{length-filled}
 use Rattle.notices.specs.declared.Alike.{Alike}
 use Rattle.notices.specs.declared.bil.Bil.{Bil}
 use Rattle.notices.specs.declared.cxl.Cxl.{Cxl}
-use Rattle.notices.specs.Notices.{ending, alikeFields, header, detailToKey, bilToTiers, bilToOwed, bilAlike, bilHeader, bilDetail, bil, cxlAlike, cxlHeader, cxlDetail, cxl}
+use Rattle.notices.specs.Notices.{spacesFrom, alikeFields, header, detailToKey, bilToTiers, bilToOwed, bilAlike, bilHeader, bilDetail, bil, cxlAlike, cxlHeader, cxlDetail, cxl}
 
-pub length-ending : (n : ℕ) → length (ending n) ≡ n + 1
-unfolding ending
-length-ending n = simp (length-append, length-filled)
+pub length-spaces-from : (a : ℕ) → length (spacesFrom a) ≡ 321 - a + 1
+unfolding spacesFrom
+length-spaces-from a = simp (length-append, length-filled)
 
 -- ---- our own records
 module _ (l : Alike) (notice : List ℕ) (three : length notice ≡ 3) where
@@ -23,7 +23,7 @@ module _ (l : Alike) (notice : List ℕ) (three : length notice ≡ 3) where
 
   pub length-header : (confirmation scheduled : ℕ) → length (header l notice confirmation scheduled) ≡ 321
   unfolding header
-  length-header confirmation scheduled = simp (length-append, length-digits, length-alike, length-ending)
+  length-header confirmation scheduled = simp (length-append, length-digits, length-alike, length-spaces-from)
 
   pub length-detail-to-key : (key : ℕ) → length (detailToKey l notice key) ≡ 45
   unfolding detailToKey
@@ -43,7 +43,7 @@ length-bil-header b = length-header (bilAlike b) _ refl _ _
 
 pub length-bil-detail : (b : Bil) → length (bilDetail b) ≡ 321
 unfolding bilDetail
-length-bil-detail b = simp (length-append, length-bil-to-owed, length-ending)
+length-bil-detail b = simp (length-append, length-bil-to-owed, length-spaces-from)
 
 pub length-bil : (b : Bil) → length (bil b) ≡ 642
 unfolding bil
@@ -55,7 +55,7 @@ length-cxl-header x = length-header (cxlAlike x) _ refl _ _
 
 pub length-cxl-detail : (x : Cxl) → length (cxlDetail x) ≡ 321
 unfolding cxlDetail
-length-cxl-detail x = simp (length-append, length-detail-to-key (cxlAlike x) (text "CXL") refl, length-ending)
+length-cxl-detail x = simp (length-append, length-detail-to-key (cxlAlike x) (text "CXL") refl, length-spaces-from)
 
 pub length-cxl : (x : Cxl) → length (cxl x) ≡ 642
 unfolding cxl

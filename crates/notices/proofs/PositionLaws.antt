@@ -1,7 +1,7 @@
 -- BIL and CXL hold at each position what document 01 says. Assumes nothing.
 use mathlib.Core.Path.{_≡_, refl, _∙_}
 use mathlib.Core.List.{List, [], _∷_}
-use Prim.Native.Nat.{ℕ, _+_, _≤_, _<_}
+use Prim.Native.Nat.{ℕ, _+_, _-_, _≤_, _<_}
 use native.Mathlib.Omega.{arith}
 use lib.ListN.{length, getD}
 use Rattle.fields.specs.Text.{text}
@@ -16,18 +16,20 @@ use Rattle.records.proofs.FieldLaws.{field-at}
 use Rattle.notices.specs.declared.Alike.{Alike}
 use Rattle.notices.specs.declared.bil.Bil.{Bil}
 use Rattle.notices.specs.declared.cxl.Cxl.{Cxl}
-use Rattle.notices.specs.Notices.{spaces, zeros, ending, alikeFields, header, detailToKey, bilAlike, bilHeader, bilToTiers, productFill, bilToOwed, bilDetail, bil, cxlAlike, cxlHeader, cxlDetail, cxl}
+use Rattle.notices.specs.Notices.{spaces, zeros, spacesFrom, alikeFields, header, detailToKey, bilAlike, bilHeader, bilToTiers, productFill, bilToOwed, bilDetail, bil, cxlAlike, cxlHeader, cxlDetail, cxl}
 use Rattle.notices.specs.Positions.{AlikeAt, HeaderAt, BilDetailAt, BilAt, CxlDetailAt, CxlAt}
-use Rattle.notices.proofs.NoticeLaws.{length-ending, length-bil-header, length-bil-detail, length-bil, length-cxl-header, length-cxl-detail, length-cxl}
+use Rattle.notices.proofs.NoticeLaws.{length-spaces-from, length-bil-header, length-bil-detail, length-bil, length-cxl-header, length-cxl-detail, length-cxl}
 
 -- ---- the spaces that end a record, and its byte 13
-pub ending-blank : (n : ℕ) → part (ending n) 0 n ≡ spaces n
-unfolding ending
-ending-blank n = part-left (spaces n) (13 ∷ []) 0 n (omega (arith, length-filled n 32)) ∙ part-whole (spaces n) n (length-filled n 32)
+pub from-blank : (a : ℕ) → part (spacesFrom a) 0 (321 - a) ≡ spaces (321 - a)
+unfolding spacesFrom
+from-blank a =
+    let n = length-filled (321 - a) 32 in
+    part-left (spaces (321 - a)) (13 ∷ []) 0 (321 - a) (omega arith) ∙ part-whole (spaces (321 - a)) (321 - a) n
 
-pub ending-end : (n : ℕ) → part (ending n) n 1 ≡ 13 ∷ []
-unfolding ending
-ending-end n = part-at (spaces n) (13 ∷ []) n 1 (length-filled n 32) refl
+pub from-end : (a : ℕ) → part (spacesFrom a) (321 - a) 1 ≡ 13 ∷ []
+unfolding spacesFrom
+from-end a = part-at (spaces (321 - a)) (13 ∷ []) (321 - a) 1 (length-filled (321 - a) 32) refl
 
 -- ---- our own records: positions 1 to 41, and then the fields of rest, whose widths are ws
 abbrev alikeThen : Alike → List ℕ → List ℕ → List (List ℕ) → List (List ℕ)
@@ -64,13 +66,13 @@ module _ (l : Alike) (kind name : List ℕ) (two : length kind ≡ 2) (three : l
 
 module _ (l : Alike) (name : List ℕ) (three : length name ≡ 3) (number date : ℕ) where
   abbrev headerRest : List (List ℕ)
-  headerRest = digits 9 number ∷ digits 8 date ∷ text "01" ∷ ending 260 ∷ []
+  headerRest = digits 9 number ∷ digits 8 date ∷ text "01" ∷ spacesFrom 61 ∷ []
 
   abbrev headerWidths : List ℕ
   headerWidths = 9 ∷ 8 ∷ 2 ∷ 261 ∷ []
 
   header-wide : Widths headerRest headerWidths
-  header-wide = (length-digits 9 _, (length-digits 8 _, (refl, (length-ending 260, tt))))
+  header-wide = (length-digits 9 _, (length-digits 8 _, (refl, (length-spaces-from 61, tt))))
 
   pub header-at : HeaderAt l name number date (header l name number date)
   unfolding header alikeFields
@@ -82,8 +84,8 @@ module _ (l : Alike) (name : List ℕ) (three : length name ≡ 3) (number date 
         confirmation = field 7 (omega arith);
         scheduled = field 8 (omega arith);
         recordCount = field 9 (omega arith);
-        blank = within 10 0 260 (omega arith) (omega arith) ∙ ending-blank 260;
-        end = within 10 260 1 (omega arith) (omega arith) ∙ ending-end 260;
+        blank = within 10 0 260 (omega arith) (omega arith) ∙ from-blank 61;
+        end = within 10 260 1 (omega arith) (omega arith) ∙ from-end 61;
       }
 
 -- ---- BIL
@@ -101,7 +103,7 @@ module _ (b : Bil) where
       ∷ digits 10 (b .previous .0)
       ∷ digits 13 (chargeOf (b .bill .posted) .0)
       ∷ filled 26 (productFill (isPrepay (b .bill .terms .product)))
-      ∷ ending 61
+      ∷ spacesFrom 260
       ∷ []
 
   abbrev bilWidths : List ℕ
@@ -122,7 +124,7 @@ module _ (b : Bil) where
               length-digits 8 _,
               (
                 length-filled 120 48,
-                (length-digits 3 _, (length-digits 10 _, (length-digits 13 _, (length-filled 26 _, (length-ending 61, tt))))),
+                (length-digits 3 _, (length-digits 10 _, (length-digits 13 _, (length-filled 26 _, (length-spaces-from 260, tt))))),
               ),
             ),
           ),
@@ -149,8 +151,8 @@ module _ (b : Bil) where
         previousConsumption = field 15 (omega arith);
         previousCharge = field 16 (omega arith);
         appliedAndOwed = field 17 (omega arith);
-        blank = within 18 0 61 (omega arith) (omega arith) ∙ ending-blank 61;
-        end = within 18 61 1 (omega arith) (omega arith) ∙ ending-end 61;
+        blank = within 18 0 61 (omega arith) (omega arith) ∙ from-blank 260;
+        end = within 18 61 1 (omega arith) (omega arith) ∙ from-end 260;
       }
 
   pub bil-header-at : HeaderAt (bilAlike b) (text "BIL") (b .confirmation) (b .bill .terms .latest .scheduled .0) (bilHeader b)
@@ -172,7 +174,7 @@ module _ (b : Bil) where
 -- ---- CXL
 module _ (x : Cxl) where
   abbrev cxlRest : List (List ℕ)
-  cxlRest = digits 4 (x .terms .identity .key) ∷ ending 275 ∷ []
+  cxlRest = digits 4 (x .terms .identity .key) ∷ spacesFrom 46 ∷ []
 
   abbrev cxlWidths : List ℕ
   cxlWidths = 4 ∷ 276 ∷ []
@@ -180,13 +182,13 @@ module _ (x : Cxl) where
   pub cxl-detail-at : CxlDetailAt x (cxlDetail x)
   unfolding cxlDetail detailToKey alikeFields
   cxl-detail-at =
-      let wide : Widths cxlRest cxlWidths = (length-digits 4 _, (length-ending 275, tt)) in
+      let wide : Widths cxlRest cxlWidths = (length-digits 4 _, (length-spaces-from 46, tt)) in
       let within = own-part (cxlAlike x) (text "02") (text "CXL") refl refl cxlRest cxlWidths wide in
       record {
         alike = alike-at (cxlAlike x) (text "02") (text "CXL") refl refl cxlRest cxlWidths wide;
         key = own-field (cxlAlike x) (text "02") (text "CXL") refl refl cxlRest cxlWidths wide 7 (omega arith);
-        blank = within 8 0 275 (omega arith) (omega arith) ∙ ending-blank 275;
-        end = within 8 275 1 (omega arith) (omega arith) ∙ ending-end 275;
+        blank = within 8 0 275 (omega arith) (omega arith) ∙ from-blank 46;
+        end = within 8 275 1 (omega arith) (omega arith) ∙ from-end 46;
       }
 
   pub cxl-header-at : HeaderAt (cxlAlike x) (text "CXL") (x .confirmation) 0 (cxlHeader x)

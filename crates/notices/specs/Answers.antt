@@ -7,7 +7,7 @@ use Rattle.fields.specs.Digits.{digits}
 use Rattle.fields.specs.Put.{positions, sameList}
 use Rattle.ledger.specs.Bills.{isPrepay}
 use Rattle.records.specs.Layout.{trackingIn, typeIn, balanceIn, fromIn, isSup}
-use Rattle.notices.specs.Notices.{spaces, zeros, ending}
+use Rattle.notices.specs.Notices.{spaces, zeros, spacesFrom}
 use Rattle.notices.specs.declared.acf.Acf.{Acf}
 use Rattle.notices.specs.declared.rej.Rej.{Rej}
 
@@ -30,7 +30,7 @@ acfAlike h a = positions h 1 19 ++ acfTracking h a ++ typeIn h ++ text "ACF" ++ 
 
 -- "Confirmation Number .. replaced, Record Count 00, .. spaces from 74"
 unfoldable pub acf : List ℕ → Acf → List ℕ
-acf h a = acfAlike h a ++ digits 9 (a .confirmation) ++ digits 8 (acfScheduled h a) ++ text "00" ++ acfBalance h a ++ ending 247
+acf h a = acfAlike h a ++ digits 9 (a .confirmation) ++ digits 8 (acfScheduled h a) ++ text "00" ++ acfBalance h a ++ spacesFrom 74
 
 -- ---- REJ
 -- positions 1 to 41 of the sender's record: Notification Code and Transmission Date replaced
@@ -58,7 +58,7 @@ rejDetail sup d x =
     ++ positions d 88 259
     ++ text "BR"
     ++ digits 2 (x .code)
-    ++ ending 57
+    ++ spacesFrom 264
 
 unfoldable pub rejDetails : Bool → List (List ℕ) → Rej → List ℕ
 rejDetails sup [] x = []

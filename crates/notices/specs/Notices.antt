@@ -1,11 +1,12 @@
 -- "Notices": BIL and CXL, field by field in the order of positions. Assumes nothing.
-use Prim.Native.Nat.{ℕ}
+use Prim.Native.Nat.{ℕ, _-_}
 use mathlib.Core.Bool.{Bool, cond}
 use mathlib.Core.List.{List, [], _∷_, _++_}
 use Rattle.fields.specs.Text.{text}
 use Rattle.fields.specs.Digits.{digits}
 use Rattle.fields.specs.Put.{filled}
 use Rattle.ledger.specs.Bills.{codeBytes, chargeOf, isPrepay}
+use Rattle.records.specs.Limits.{recordSize}
 use Rattle.notices.specs.declared.Alike.{Alike}
 use Rattle.notices.specs.declared.bil.Bil.{Bil}
 use Rattle.notices.specs.declared.cxl.Cxl.{Cxl}
@@ -17,9 +18,9 @@ spaces n = filled n 32
 abbrev pub zeros : ℕ → List ℕ
 zeros n = filled n 48
 
--- "Each record ends in byte 13": n spaces before it
-unfoldable pub ending : ℕ → List ℕ
-ending n = spaces n ++ (13 ∷ [])
+-- "spaces from 61", and "Each record ends in byte 13": what stands from position a of a record to its end
+unfoldable pub spacesFrom : ℕ → List ℕ
+spacesFrom a = spaces (recordSize - a) ++ (13 ∷ [])
 
 -- ---- our own records
 -- "1-41 alike": Company, rate code, account, Tracking ID, type, Notification Code, and "Transmission Date is today"
@@ -36,7 +37,7 @@ alikeFields l type notice =
 -- a header: Confirmation Number, Scheduled Date, "Record Count 01, spaces from 61"
 unfoldable pub header : Alike → List ℕ → ℕ → ℕ → List ℕ
 header l notice confirmation scheduled =
-    alikeFields l (text "01") notice ++ digits 9 confirmation ++ digits 8 scheduled ++ text "01" ++ ending 260
+    alikeFields l (text "01") notice ++ digits 9 confirmation ++ digits 8 scheduled ++ text "01" ++ spacesFrom 61
 
 -- "detail to position 45": the Bill Key
 unfoldable pub detailToKey : Alike → List ℕ → ℕ → List ℕ
@@ -82,7 +83,7 @@ bilToOwed b =
 
 -- "spaces from 260"
 unfoldable pub bilDetail : Bil → List ℕ
-bilDetail b = bilToOwed b ++ ending 61
+bilDetail b = bilToOwed b ++ spacesFrom 260
 
 unfoldable pub bil : Bil → List ℕ
 bil b = bilHeader b ++ bilDetail b
@@ -96,7 +97,7 @@ unfoldable pub cxlHeader : Cxl → List ℕ
 cxlHeader x = header (cxlAlike x) (text "CXL") (x .confirmation) 0
 
 unfoldable pub cxlDetail : Cxl → List ℕ
-cxlDetail x = detailToKey (cxlAlike x) (text "CXL") (x .terms .identity .key) ++ ending 275
+cxlDetail x = detailToKey (cxlAlike x) (text "CXL") (x .terms .identity .key) ++ spacesFrom 46
 
 unfoldable pub cxl : Cxl → List ℕ
 cxl x = cxlHeader x ++ cxlDetail x

@@ -113,7 +113,7 @@ fn put_detail(out: &mut [u8], at: usize, b: Bil)
     ensures { λ _. ⌜ now (out .exit) ≡ put (now (out .entry)) at (bilDetail b) ⌝ }
 {
     put_to_owed(out, at, b);
-    crate::put_end(out, at + layout::DETAIL_FILLER, layout::DETAIL_FILLER_WIDTH);
+    crate::put_end(out, at, layout::DETAIL_FILLER);
 }
 
 // Writes a BIL.

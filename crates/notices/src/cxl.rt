@@ -37,7 +37,7 @@ fn put_detail(out: &mut [u8], at: usize, x: Cxl)
 {
     let alike = alike_of(x);
     crate::put_detail_to_key(out, at, alike, b"CXL", x.terms.identity.key);
-    crate::put_end(out, at + layout::BILLING, 275);
+    crate::put_end(out, at, layout::BILLING);
 }
 
 // Writes a CXL.

@@ -5,11 +5,11 @@ pub mod cxl;
 pub mod rej;
 
 ghost use mathlib.Core.Path.{_≡_};
-ghost use Prim.Native.Nat.{_+_, _≤_};
+ghost use Prim.Native.Nat.{_+_, _≤_, _<_};
 ghost use lib.ListN.{length};
 ghost use Rattle.fields.specs.Put.{put};
 ghost use Rattle.records.specs.Limits.{recordSize};
-ghost use Rattle.notices.specs.Notices.{ending, alikeFields, header, detailToKey};
+ghost use Rattle.notices.specs.Notices.{spacesFrom, alikeFields, header, detailToKey};
 use ledger::RateCode;
 use records::layout;
 use units::Date;
@@ -22,13 +22,13 @@ pub struct Alike {
     pub today: Date,
 }
 
-// Writes n spaces and byte 13.
-pub fn put_end(out: &mut [u8], at: usize, n: usize)
-    requires { ⌜ at + n + 1 ≤ length (now out) ⌝ }
-    ensures { λ _. ⌜ now (out .exit) ≡ put (now (out .entry)) at (ending n) ⌝ }
+// Writes the end of the record that starts at `at`: spaces from its index `from` on, and byte 13.
+pub fn put_end(out: &mut [u8], at: usize, from: usize)
+    requires { ⌜ (at + recordSize ≤ length (now out)) × (from < recordSize) ⌝ }
+    ensures { λ _. ⌜ now (out .exit) ≡ put (now (out .entry)) (at + from) (spacesFrom (from + 1)) ⌝ }
 {
-    fields::put_fill(out, at, n, 32);
-    fields::put_fill(out, at + n, 1, 13);
+    fields::put_fill(out, at + from, layout::END - from, 32);
+    fields::put_fill(out, at + layout::END, 1, 13);
 }
 
 // Writes positions 1 to 41 of a record.
@@ -83,7 +83,7 @@ pub fn put_header(
         scheduled,
     );
     fields::put_bytes(out, at + layout::RECORD_COUNT, b"01");
-    put_end(out, at + layout::BALANCE, 260);
+    put_end(out, at, layout::BALANCE);
 }
 
 // Writes a detail to position 45.

@@ -48,8 +48,6 @@ pub const BALANCE_WIDTH: usize = 13;
 
 pub const HEADER_FILLER: usize = 73;
 
-pub const HEADER_FILLER_WIDTH: usize = 247;
-
 // ---- detail
 pub const KEY: usize = 41;
 
@@ -121,8 +119,6 @@ pub const OWED_WIDTH: usize = 13;
 
 pub const DETAIL_FILLER: usize = 259;
 
-pub const DETAIL_FILLER_WIDTH: usize = 61;
-
 // ---- the error code of a REJ, its number behind BR, and what follows it
 pub const ERROR_CODE: usize = 259;
 
@@ -133,8 +129,6 @@ pub const ERROR_NUMBER: usize = 261;
 pub const ERROR_NUMBER_WIDTH: usize = 2;
 
 pub const REJ_FILLER: usize = 263;
-
-pub const REJ_FILLER_WIDTH: usize = 57;
 
 // ---- what a REJ gives back in one part: of a header from the Scheduled Date to the end; of a detail from Bill Key to charge, and from the tiers to what is owed
 pub const SCHEDULED_TO_END_WIDTH: usize = 271;

@@ -7,7 +7,7 @@ use Rattle.units.specs.Calendar.{isLeap, monthDays, isDate}
 use Rattle.ledger.specs.Bills.{isRateCode}
 use Rattle.ledger.specs.Sound.{termsTests, balanced, soundAmounts, soundBill, distinct, bookTests}
 use Rattle.records.specs.Layout.{recordsFrom}
-use Rattle.notices.specs.Notices.{alikeFields, ending}
+use Rattle.notices.specs.Notices.{alikeFields, spacesFrom}
 use Rattle.file.specs.File.{records, printable, isHeader, isDetail, goodRecord, headed, goodFile, leading, groups, fileGroups, unfit, line1, line2, passes, alike, line3}
 use Rattle.records.specs.Tiers.{tierConsumptions, tierCharges}
 use Rattle.verdict.specs.Lines.{line4, line5, line6, line7, line8, line9, line10, amountsOf}
@@ -23,13 +23,13 @@ use Rattle.trace_lines.specs.Trace.{entryAnswer, linesUnder, entryLines,
 use Rattle.trace_lines.specs.Example.{Example, Mixed, Empty}
 
 pub example-holds : Example
-unfolding digits number isDigit numeric part filled sameList fieldOf isLeap monthDays isDate isRateCode termsTests balanced soundAmounts soundBill distinct bookTests recordsFrom alikeFields ending records printable isHeader isDetail goodRecord headed goodFile leading groups fileGroups unfit line1 line2 passes alike line3 line4 line5 line6 line7 line8 tierConsumptions tierCharges line9 line10 amountsOf linesBy verdictOn verdictBy settled taken verdicts startTests requestTests freshCauses billCauses requestCauses fileCauses cancelCauses closeCauses causes cause next nextVerdicts nextClosed outcome step after answerBy sentHeader sentDetail sent cell ended stopLine freshBody requestBody cancelBody closeBody bodyOf goodLength headBy headOf parseUpTo parse endsBad isBad callName changeText figureCells callLine groupLine groupLines entryAnswer linesUnder entryLines traceLines traceOf
+unfolding digits number isDigit numeric part filled sameList fieldOf isLeap monthDays isDate isRateCode termsTests balanced soundAmounts soundBill distinct bookTests recordsFrom alikeFields spacesFrom records printable isHeader isDetail goodRecord headed goodFile leading groups fileGroups unfit line1 line2 passes alike line3 line4 line5 line6 line7 line8 tierConsumptions tierCharges line9 line10 amountsOf linesBy verdictOn verdictBy settled taken verdicts startTests requestTests freshCauses billCauses requestCauses fileCauses cancelCauses closeCauses causes cause next nextVerdicts nextClosed outcome step after answerBy sentHeader sentDetail sent cell ended stopLine freshBody requestBody cancelBody closeBody bodyOf goodLength headBy headOf parseUpTo parse endsBad isBad callName changeText figureCells callLine groupLine groupLines entryAnswer linesUnder entryLines traceLines traceOf
 example-holds = refl
 
 pub mixed-holds : Mixed
-unfolding digits number isDigit numeric part filled sameList fieldOf isLeap monthDays isDate isRateCode termsTests balanced soundAmounts soundBill distinct bookTests recordsFrom alikeFields ending records printable isHeader isDetail goodRecord headed goodFile leading groups fileGroups unfit line1 line2 passes alike line3 line4 line5 line6 line7 line8 tierConsumptions tierCharges line9 line10 amountsOf linesBy verdictOn verdictBy settled taken verdicts startTests requestTests freshCauses billCauses requestCauses fileCauses cancelCauses closeCauses causes cause next nextVerdicts nextClosed outcome step after answerBy sentHeader sentDetail sent cell ended stopLine freshBody requestBody cancelBody closeBody bodyOf goodLength headBy headOf parseUpTo parse endsBad isBad callName changeText figureCells callLine groupLine groupLines entryAnswer linesUnder entryLines traceLines traceOf
+unfolding digits number isDigit numeric part filled sameList fieldOf isLeap monthDays isDate isRateCode termsTests balanced soundAmounts soundBill distinct bookTests recordsFrom alikeFields spacesFrom records printable isHeader isDetail goodRecord headed goodFile leading groups fileGroups unfit line1 line2 passes alike line3 line4 line5 line6 line7 line8 tierConsumptions tierCharges line9 line10 amountsOf linesBy verdictOn verdictBy settled taken verdicts startTests requestTests freshCauses billCauses requestCauses fileCauses cancelCauses closeCauses causes cause next nextVerdicts nextClosed outcome step after answerBy sentHeader sentDetail sent cell ended stopLine freshBody requestBody cancelBody closeBody bodyOf goodLength headBy headOf parseUpTo parse endsBad isBad callName changeText figureCells callLine groupLine groupLines entryAnswer linesUnder entryLines traceLines traceOf
 mixed-holds = refl
 
 pub empty-holds : Empty
-unfolding digits number isDigit numeric part filled sameList fieldOf isLeap monthDays isDate isRateCode termsTests balanced soundAmounts soundBill distinct bookTests recordsFrom alikeFields ending records printable isHeader isDetail goodRecord headed goodFile leading groups fileGroups unfit line1 line2 passes alike line3 line4 line5 line6 line7 line8 tierConsumptions tierCharges line9 line10 amountsOf linesBy verdictOn verdictBy settled taken verdicts startTests requestTests freshCauses billCauses requestCauses fileCauses cancelCauses closeCauses causes cause next nextVerdicts nextClosed outcome step after answerBy sentHeader sentDetail sent cell ended stopLine freshBody requestBody cancelBody closeBody bodyOf goodLength headBy headOf parseUpTo parse endsBad isBad callName changeText figureCells callLine groupLine groupLines entryAnswer linesUnder entryLines traceLines traceOf
+unfolding digits number isDigit numeric part filled sameList fieldOf isLeap monthDays isDate isRateCode termsTests balanced soundAmounts soundBill distinct bookTests recordsFrom alikeFields spacesFrom records printable isHeader isDetail goodRecord headed goodFile leading groups fileGroups unfit line1 line2 passes alike line3 line4 line5 line6 line7 line8 tierConsumptions tierCharges line9 line10 amountsOf linesBy verdictOn verdictBy settled taken verdicts startTests requestTests freshCauses billCauses requestCauses fileCauses cancelCauses closeCauses causes cause next nextVerdicts nextClosed outcome step after answerBy sentHeader sentDetail sent cell ended stopLine freshBody requestBody cancelBody closeBody bodyOf goodLength headBy headOf parseUpTo parse endsBad isBad callName changeText figureCells callLine groupLine groupLines entryAnswer linesUnder entryLines traceLines traceOf
 empty-holds = (refl, refl)

@@ -5,7 +5,7 @@ use Rattle.fields.proofs.PutLaws.{first, next}
 use mathlib.Core.Path.{refl}
 use Rattle.fields.proofs.DigitLaws.{length-digits}
 use Rattle.notices.specs.Notices.{header}
-use Rattle.notices.proofs.NoticeLaws.{length-alike, length-ending}
+use Rattle.notices.proofs.NoticeLaws.{length-alike, length-spaces-from}
 use Rattle.notices.proofs.put_header.Statement.{statement}
 use Rattle.notices.proofs.put_header.Tie as tie
 
@@ -36,9 +36,6 @@ slice-aggregate-put-bytes c = search needs
 put-bytes-requires : tie.Need-put-bytes-requires
 put-bytes-requires c κs = search needs
 
-add-put-end : tie.Need-add-put-end
-add-put-end c = search needs
-
 put-end-requires : tie.Need-put-end-requires
 put-end-requires c κs = search needs
 
@@ -53,7 +50,7 @@ returns c =
     let w2 = next w1 _ (c .before .before .before .before .before .before .before .before .before .before .before .before .before .before .before .put-digits .ensures) (length-digits 9 _) in
     let w3 = next w2 _ (c .before .before .before .before .before .before .before .before .before .before .before .put-digits2 .ensures) (length-digits 8 _) in
     let w4 = next w3 _ (c .before .before .before .before .before .before .put-bytes .ensures) refl in
-    next w4 _ (c .before .before .put-end .ensures) (length-ending 260) .same
+    next w4 _ (c .before .before .put-end .ensures) (length-spaces-from 61) .same
 
 pub put-header-spec : {M : Type 1} → statement M
 put-header-spec =
@@ -68,7 +65,6 @@ put-header-spec =
     add-put-bytes
     slice-aggregate-put-bytes
     put-bytes-requires
-    add-put-end
     put-end-requires
     same-length
     returns)

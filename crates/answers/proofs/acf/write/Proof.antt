@@ -5,7 +5,7 @@ use Rattle.fields.proofs.PutLaws.{first, next}
 use mathlib.Core.Path.{refl}
 use Rattle.fields.proofs.DigitLaws.{length-digits}
 use Rattle.notices.specs.Answers.{acf}
-use Rattle.notices.proofs.NoticeLaws.{length-ending}
+use Rattle.notices.proofs.NoticeLaws.{length-spaces-from}
 use Rattle.notices.proofs.AnswerLaws.{length-acf-alike, length-balance}
 use Rattle.answers.proofs.acf.write.Statement.{statement}
 use Rattle.answers.proofs.acf.write.Tie as tie
@@ -49,9 +49,6 @@ add-put-balance c = search needs
 put-balance-requires : tie.Need-put-balance-requires
 put-balance-requires c κs = search needs
 
-add-put-end : tie.Need-add-put-end
-add-put-end c = search needs
-
 put-end-requires : tie.Need-put-end-requires
 put-end-requires c κs = search needs
 
@@ -67,7 +64,7 @@ returns c =
     let w3 = next w2 _ (rw (c .before .before .before .before .before .before .before .before .before .before .before .before .before .before .before .before .before .before .before .before .before .before .before .before .before .scheduled-of .ensures, c .before .before .before .before .before .before .before .before .before .before .before .before .before .before .before .before .before .before .before .before .before .before .before .before .before .before .is-sup .ensures) at (c .before .before .before .before .before .before .before .before .before .before .before .before .before .before .before .put-digits2 .ensures)) (length-digits 8 _) in
     let w4 = next w3 _ (c .before .before .before .before .before .before .before .before .before .before .put-bytes .ensures) refl in
     let w5 = next w4 _ (rw (c .before .before .before .before .before .before .before .before .before .before .before .before .before .before .before .before .before .before .before .before .before .before .before .before .before .before .before .before .is-prepay .ensures) at (c .before .before .before .before .before .before .put-balance .ensures)) (length-balance (a .h .now) (c .before .before .before .before .before .before .before .before .before .before .before .before .before .before .before .before .before .before .before .before .before .before .before .before .before .before .before .before .before .before .before .before .pre .1) (a .a)) in
-    next w5 _ (c .before .before .put-end .ensures) (length-ending 247) .same
+    next w5 _ (c .before .before .put-end .ensures) (length-spaces-from 74) .same
 
 pub write-spec : {M : Type 1} → statement M
 write-spec =
@@ -86,7 +83,6 @@ write-spec =
     put-bytes-requires
     add-put-balance
     put-balance-requires
-    add-put-end
     put-end-requires
     same-length
     returns)

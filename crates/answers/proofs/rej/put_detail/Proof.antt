@@ -5,7 +5,7 @@ use Rattle.fields.proofs.PutLaws.{first, next}
 use mathlib.Core.Path.{refl}
 use Rattle.fields.proofs.DigitLaws.{length-digits}
 use Rattle.notices.specs.Answers.{rejDetail}
-use Rattle.notices.proofs.NoticeLaws.{length-ending}
+use Rattle.notices.proofs.NoticeLaws.{length-spaces-from}
 use Rattle.notices.proofs.AnswerLaws.{length-within, length-rej-alike, length-from}
 use Rattle.answers.proofs.rej.put_detail.Statement.{statement}
 use Rattle.answers.proofs.rej.put_detail.Tie as tie
@@ -46,9 +46,6 @@ add-put-digits c = search needs
 put-digits-requires : tie.Need-put-digits-requires
 put-digits-requires c κs = search needs
 
-add-put-end : tie.Need-add-put-end
-add-put-end c = omega (arith, c .before .before .before .before .before .before .before .before .before .before .before .before .before .before .before .before .before .before .before .before .before .before .before .before .before .before .before .before .pre, c .before .before .before .before .before .before .before .before .before .before .before .before .before .before .before .before .before .before .before .before .before .before .before .before .before .before .before .before .good)
-
 put-end-requires : tie.Need-put-end-requires
 put-end-requires c κs = search needs
 
@@ -65,7 +62,7 @@ returns c =
     let w4 = next w3 _ (c .before .before .before .before .before .before .before .before .before .before .before .before .before .before .before .put-part2 .ensures) (length-within (a .d .now) (c .before .before .before .before .before .before .before .before .before .before .before .before .before .before .before .before .before .before .before .before .before .before .before .before .before .before .before .before .before .before .before .pre .1) 87 172 (omega arith)) in
     let w5 = next w4 _ (c .before .before .before .before .before .before .before .before .before .before .put-bytes .ensures) refl in
     let w6 = next w5 _ (c .before .before .before .before .before .before .put-digits .ensures) (length-digits 2 _) in
-    next w6 _ (c .before .before .put-end .ensures) (length-ending 57) .same
+    next w6 _ (c .before .before .put-end .ensures) (length-spaces-from 264) .same
 
 pub put-detail-spec : {M : Type 1} → statement M
 put-detail-spec =
@@ -83,7 +80,6 @@ put-detail-spec =
     put-bytes-requires
     add-put-digits
     put-digits-requires
-    add-put-end
     put-end-requires
     same-length
     returns)

@@ -3,15 +3,12 @@ use borrow.Author.Needs.{needs}
 use native.Mathlib.Omega.{arith}
 use Rattle.fields.proofs.PutLaws.{first, next}
 use Rattle.notices.specs.Notices.{bilDetail}
-use Rattle.notices.proofs.NoticeLaws.{length-bil-to-owed, length-ending}
+use Rattle.notices.proofs.NoticeLaws.{length-bil-to-owed, length-spaces-from}
 use Rattle.notices.proofs.bil.put_detail.Statement.{statement}
 use Rattle.notices.proofs.bil.put_detail.Tie as tie
 
 put-to-owed-requires : tie.Need-put-to-owed-requires
 put-to-owed-requires c κs = search needs
-
-add-put-end : tie.Need-add-put-end
-add-put-end c = search needs
 
 put-end-requires : tie.Need-put-end-requires
 put-end-requires c κs = search needs
@@ -24,14 +21,13 @@ unfolding bilDetail
 returns c =
     let a = c .before .before .before .before .before .before .before .before .before .args in
     let w1 = first (a .out .now) (a .at) _ (omega (arith, c .before .before .before .before .before .before .before .before .before .pre)) (c .before .before .before .before .before .before .put-to-owed .ensures) (length-bil-to-owed _) in
-    next w1 _ (c .before .before .put-end .ensures) (length-ending 61) .same
+    next w1 _ (c .before .before .put-end .ensures) (length-spaces-from 260) .same
 
 pub put-detail-spec : {M : Type 1} → statement M
 put-detail-spec =
     tie.close
     (tie.spec
     put-to-owed-requires
-    add-put-end
     put-end-requires
     same-length
     returns)

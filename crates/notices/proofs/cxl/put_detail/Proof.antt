@@ -4,7 +4,7 @@ use native.Mathlib.Omega.{arith}
 use Rattle.fields.proofs.PutLaws.{first, next}
 use mathlib.Core.Path.{refl}
 use Rattle.notices.specs.Notices.{cxlDetail}
-use Rattle.notices.proofs.NoticeLaws.{length-detail-to-key, length-ending}
+use Rattle.notices.proofs.NoticeLaws.{length-detail-to-key, length-spaces-from}
 use Rattle.notices.proofs.cxl.put_detail.Statement.{statement}
 use Rattle.notices.proofs.cxl.put_detail.Tie as tie
 
@@ -17,9 +17,6 @@ slice-aggregate-put-detail-to-key c = search needs
 put-detail-to-key-requires : tie.Need-put-detail-to-key-requires
 put-detail-to-key-requires c κs = search needs
 
-add-put-end : tie.Need-add-put-end
-add-put-end c = search needs
-
 put-end-requires : tie.Need-put-end-requires
 put-end-requires c κs = search needs
 
@@ -31,7 +28,7 @@ unfolding cxlDetail
 returns c =
     let a = c .before .before .before .before .before .before .before .before .before .before .before .args in
     let w1 = first (a .out .now) (a .at) _ (omega (arith, c .before .before .before .before .before .before .before .before .before .before .before .pre)) (rw (c .before .before .before .before .before .before .before .before .before .alike-of .ensures) at (c .before .before .before .before .before .before .put-detail-to-key .ensures)) (length-detail-to-key _ _ refl _) in
-    next w1 _ (c .before .before .put-end .ensures) (length-ending 275) .same
+    next w1 _ (c .before .before .put-end .ensures) (length-spaces-from 46) .same
 
 pub put-detail-spec : {M : Type 1} → statement M
 put-detail-spec =
@@ -40,7 +37,6 @@ put-detail-spec =
     alike-of-requires
     slice-aggregate-put-detail-to-key
     put-detail-to-key-requires
-    add-put-end
     put-end-requires
     same-length
     returns)
