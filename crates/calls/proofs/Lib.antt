@@ -6,3 +6,4 @@ pub mod PlaceOfLaws
 pub mod BillLaws
 pub mod DayLaws
 pub mod FileCallLaws
+pub mod CountLaws

@@ -1,9 +1,10 @@
 -- The proof of demand 3. Assumes nothing.
-use Prim.Native.Nat.{ℕ, _+_}
+use Prim.Native.Nat.{ℕ, suc, _+_}
 use mathlib.Core.Path.{_≡_, refl, sym, ap, _∙_}
 use mathlib.Core.Bool.{Bool, true, false, false≢true}
 use mathlib.Core.List.{List, [], _∷_, _++_, map}
 use lib.IntN.{+ℤ-idl}
+use lib.ListN.{length}
 use Rattle.ledger.specs.Lists.{count}
 use Rattle.ledger.specs.Books.{Book, View, view}
 use Rattle.ledger.proofs.SoundLaws.{book-facts, facts-sound, ledger-book}
@@ -18,6 +19,7 @@ use Rattle.causes.specs.declared.Start.{Start}
 use Rattle.causes.specs.Causes.{Call, request, file, cancel, close, freshCauses}
 use Rattle.calls.specs.Machine.{cause, nextWritten, nextVerdicts, Outcome, outcome, step, fresh, after, outcomes}
 use Rattle.calls.specs.Days.{freshLedger, freshBy, freshCalled}
+use Rattle.calls.proofs.CountLaws.{both-counted}
 use Rattle.calls.proofs.DayLaws.{fresh-sound}
 use Rattle.calls.proofs.RunLaws.{runs}
 use Rattle.history.specs.History.{History, begun, decided, Decided, verdictOn, decisions, hCause, hStep, hAfter, callDecisions, hDecisions}
@@ -73,6 +75,22 @@ step-accepted : (l : Book) (h : History) (c : Call) → Follows l h → step l c
 unfolding step
 step-accepted l h c f =
     outcome-accepted l c (cause l c) ∙ ap (count isAccepted) (step-verdicts l h c f) ∙ count-verdicts (callDecisions h c (hCause h c))
+
+-- accepted and rejected are together the groups that are decided
+outcome-counted : (l : Book) (c : Call) (v : Check) → outcome l c v .accepted + outcome l c v .rejected ≡ length (outcome l c v .verdicts)
+unfolding outcome
+outcome-counted l c Clear = both-counted (nextVerdicts l c)
+outcome-counted l c (Stop n) = refl
+
+length-verdicts : (ds : List Decided) → length (verdictsOf ds) ≡ length ds
+unfolding verdictsOf
+length-verdicts [] = refl
+length-verdicts (d ∷ ds) = ap suc (length-verdicts ds)
+
+step-counted : (l : Book) (h : History) (c : Call) → Follows l h → step l c .accepted + step l c .rejected ≡ length (callDecisions h c (hCause h c))
+unfolding step
+step-counted l h c f =
+    outcome-counted l c (cause l c) ∙ ap length (step-verdicts l h c f) ∙ length-verdicts (callDecisions h c (hCause h c))
 
 -- ---- the ACFs
 acf-more : (d : Decided) (ds : List Decided) → acfsOf (d ∷ ds) ≡ acfFor (d .now) (d .group) (d .verdict) ++ acfsOf ds
@@ -171,6 +189,7 @@ claim s ok cs =
       results = all-results cs l h f₀;
       verdicts = each-call (λ (o : Outcome). o .verdicts) verdictsOf step-verdicts cs l h f₀;
       accepted = each-call (λ (o : Outcome). o .accepted) (count accepts) step-accepted cs l h f₀;
+      counted = each-call (λ (o : Outcome). o .accepted + o .rejected) length step-counted cs l h f₀;
       acfs = each-call (λ (o : Outcome). acfsIn (o .written)) acfsOf step-acfs cs l h f₀;
       lawful = all-lawful cs h;
       once = row-once (s .tracking) (after l cs .tracking) (assigned (outcomes l cs)) (row-all cs l h f₀);

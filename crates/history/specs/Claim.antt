@@ -1,5 +1,5 @@
 -- Demand 3: "a single claim about a whole list" of calls that follow a fresh that succeeded, refused ones too. Assumes nothing.
-use Prim.Native.Nat.{ℕ, _≤_, _<_}
+use Prim.Native.Nat.{ℕ, _+_, _≤_, _<_}
 use mathlib.Core.Path.{_≡_}
 use mathlib.Core.Bool.{Bool, true, false}
 use mathlib.Core.List.{List, [], _∷_, map, _++_}
@@ -67,6 +67,8 @@ pub record Claims (l : Book) (h : History) (cs : List Call) : Type 0 where
   -- "A file accepts, by its count and its ACFs, exactly the groups that the history accepts."
   pub verdicts : map (λ (o : Outcome). o .verdicts) (outcomes l cs) ≡ map (map (λ (d : Decided). d .verdict)) (hDecisions h cs)
   pub accepted : map (λ (o : Outcome). o .accepted) (outcomes l cs) ≡ map (count accepts) (hDecisions h cs)
+  -- "accepted, rejected (together the number of groups)"
+  pub counted : map (λ (o : Outcome). o .accepted + o .rejected) (outcomes l cs) ≡ map length (hDecisions h cs)
   pub acfs : map (λ (o : Outcome). acfsIn (o .written)) (outcomes l cs) ≡ map acfsOf (hDecisions h cs)
   pub lawful : All (All Lawful) (hDecisions h cs)
   -- no Tracking ID twice
