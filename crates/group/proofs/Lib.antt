@@ -8,3 +8,5 @@ pub mod TurnParts
 pub mod TurnLaws
 pub mod GroupWalk
 pub mod ReadyLaws
+pub mod FormCodes
+pub mod ReadLaws
