@@ -27,6 +27,7 @@ use Rattle.journal.specs.declared.Body.{Body}
 use Rattle.journal.specs.declared.Body.the-variants as body
 use Rattle.journal.specs.declared.Head.{Head}
 use Rattle.journal.specs.declared.Head.the-variants.{Cut, Bad, Whole}
+use Rattle.journal.specs.Entries.{headNumber}
 use Rattle.journal.specs.Made.{madeIn, writtenIn}
 use Rattle.engine.specs.InWords.{wordsLeft}
 use Rattle.table.specs.declared.Printed.{Printed}
@@ -113,8 +114,8 @@ pub record Leaves (c : Called) (ys ws out₀ ws₁ out : List ℕ) (a : Answer) 
 -- ---- the entry at the start of a journal
 -- its call; no whole good entry stands there: 13
 abbrev pub headCalled : ℕ → List ℕ → List ℕ → Head → Called
-headCalled room ws src Cut = record { ledger = ledgerOf ws; answer = answer.Refused 13 }
-headCalled room ws src Bad = record { ledger = ledgerOf ws; answer = answer.Refused 13 }
+headCalled room ws src Cut = record { ledger = ledgerOf ws; answer = answer.Refused (headNumber Cut) }
+headCalled room ws src Bad = record { ledger = ledgerOf ws; answer = answer.Refused (headNumber Bad) }
 headCalled room ws src (Whole b n) = entryIn room ws b (part src 3 (n - 3))
 
 -- the bytes that it writes

@@ -1,11 +1,11 @@
 -- What the functions for C and Rust programs answer for a whole journal. Assumes nothing.
 use Prim.Native.Nat.{ℕ}
 use mathlib.Core.Path.{_≡_}
-use mathlib.Core.Bool.{Bool, cond}
+use mathlib.Core.Bool.{Bool}
 use mathlib.Core.List.{List, [], _∷_}
 use lib.ListN.{length}
 use Rattle.fields.specs.Put.{put}
-use Rattle.journal.specs.Journal.{isBad}
+use Rattle.journal.specs.Journal.{isBad, endNumber}
 use Rattle.report.specs.declared.Report.{Report}
 use Rattle.report.specs.declared.Report.the-variants as report
 use Rattle.report.specs.Report.{Claimed, reportOf, reported}
@@ -18,7 +18,7 @@ reportNumber report.TooSmall = 1
 
 -- the bytes written, and 13 if the journal ended bad (its table says `stopped,13`)
 abbrev pub toldLeft : List ℕ → Bool → Report → List ℕ
-toldLeft ts bad (report.Written n) = n ∷ cond bad 13 0 ∷ []
+toldLeft ts bad (report.Written n) = n ∷ endNumber bad ∷ []
 toldLeft ts bad report.TooSmall = ts
 
 -- the number answered, the output and what is told of the table of the journal s, with the claim for its calls

@@ -17,7 +17,7 @@ use Rattle.journal.specs.Entries.{headOf}
 use Rattle.journal.specs.Journal.{Entry, Parsed, more, onHead, parseUpTo, parse}
 use Rattle.journal.proofs.HeadLaws.{whole-fits, head-stays}
 
-short-cut : (seen : ℕ) (s : List ℕ) → length s < 3 → headOf seen s ≡ Cut
+pub short-cut : (seen : ℕ) (s : List ℕ) → length s < 3 → headOf seen s ≡ Cut
 unfolding headOf
 short-cut seen s h = rw (lt-ltb (length s) 3 h)
 

@@ -7,3 +7,4 @@ pub mod JournalLaws
 pub mod BeginLaws
 pub mod ShortLaws
 pub mod NoticeLaws
+pub mod StopLaws

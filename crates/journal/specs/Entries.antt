@@ -128,3 +128,9 @@ frameOf s =
     let tag = getD s 0 0 in
     let n = getD s 1 0 * 256 + getD s 2 0 in
     cond (goodLength tag n && leb (n + 3) (length s)) (Sized tag n) Nothing
+
+-- "journal entry bad | 13": document 01's number for each case of what stands there; for a whole entry its call answers
+abbrev pub headNumber : Head → ℕ
+headNumber Cut = 13
+headNumber Bad = 13
+headNumber (Whole b n) = 0

@@ -1,6 +1,7 @@
 -- A journal: the entries that it holds, the calls that they make, and how it ends. Assumes nothing.
 use Prim.Native.Nat.{ℕ, zero, suc, _+_, _-_}
-use mathlib.Core.Bool.{Bool, true, false, _||_}
+use mathlib.Core.Path.{_≡_}
+use mathlib.Core.Bool.{Bool, true, false, cond, not, _&&_, _||_}
 use mathlib.Core.List.{List, [], _∷_, _++_}
 use lib.Dec.{eqb, ltb}
 use lib.ListN.{length, drop}
@@ -12,7 +13,7 @@ use Rattle.journal.specs.declared.Body.{Body}
 use Rattle.journal.specs.declared.Body.the-variants as body
 use Rattle.journal.specs.declared.Head.{Head}
 use Rattle.journal.specs.declared.Head.the-variants.{Cut, Bad, Whole}
-use Rattle.journal.specs.Entries.{headOf}
+use Rattle.journal.specs.Entries.{headOf, headNumber}
 
 -- an entry: what its body holds, and the body's bytes
 pub record Entry : Type 0 where
@@ -84,3 +85,12 @@ ledgerOf s = makes noBook (parse 0 s .entries)
 
 unfoldable pub isBad : List ℕ → Bool
 isBad s = endsBad (parse 0 s .stopped) (length (parse 0 s .rest)) (length (parse 0 s .entries))
+
+-- document 01's number for how a journal ended: 13 where it ended bad
+abbrev pub endNumber : Bool → ℕ
+endNumber bad = cond bad 13 0
+
+-- where the reading of a journal stops no whole entry stands (13), and it ended bad but where no byte is left after one entry at least
+pub record Stops (s : List ℕ) : Type 0 where
+  pub left : headNumber (headOf (length (parse 0 s .entries)) (parse 0 s .rest)) ≡ 13
+  pub bad : isBad s ≡ not (eqb (length (parse 0 s .rest)) 0 && ltb 0 (length (parse 0 s .entries)))
