@@ -1,10 +1,9 @@
 -- "accepted, rejected (together the number of groups)". Assumes nothing.
 use Prim.Native.Nat.{ℕ, suc, _+_}
-use mathlib.Core.Path.{_≡_, refl, sym, ap, _∙_}
+use mathlib.Core.Path.{_≡_, refl, ap, _∙_}
 use mathlib.Core.List.{List, [], _∷_, _++_}
 use native.Mathlib.Omega.{arith}
 use lib.ListN.{length}
-use Rattle.ledger.specs.declared.Ledger.{Ledger}
 use Rattle.ledger.specs.Lists.{count}
 use Rattle.ledger.specs.Books.{Book, book}
 use Rattle.file.specs.File.{Group, fileGroups}
@@ -14,7 +13,6 @@ use Rattle.verdict.specs.declared.Verdict.{Verdict}
 use Rattle.verdict.specs.declared.Verdict.the-variants.{Accepted, Rejected}
 use Rattle.group.specs.Groups.{settled, verdictHere, verdicts, isAccepted, isRejected}
 use Rattle.causes.specs.Causes.{file}
-use Rattle.calls.specs.declared.Returned.{Returned}
 use Rattle.calls.specs.declared.Answer.the-variants.{Done}
 use Rattle.calls.specs.Machine.{cause, nextVerdicts, outcome, step, causeIn, stepIn, answerBy, called}
 use Rattle.calls.specs.Counts.{GroupsCounted, GroupsReturned}

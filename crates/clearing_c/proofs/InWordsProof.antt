@@ -2,13 +2,13 @@
 use Prim.Native.Nat.{ℕ}
 use mathlib.Core.Path.{_≡_, refl, sym, ap, _∙_, subst}
 use mathlib.Core.Bool.{true, false}
-use mathlib.Core.List.{List, [], _∷_, _++_, map, map-map}
+use mathlib.Core.List.{List, [], _∷_, map, map-map}
 use native.Mathlib.Omega.{arith}
 use lib.Dec.{eqb}
 use lib.ListN.{length, getD}
-use lib.IntN.{ℤ, pos, _+ℤ_}
+use lib.IntN.{pos}
 use borrow.Author.Tests.{ne-eqb}
-use Rattle.fields.specs.Put.{part, put}
+use Rattle.fields.specs.Put.{put}
 use Rattle.fields.proofs.PutLaws.{part-put}
 use Rattle.ledger.specs.declared.Ledger.{Ledger}
 use Rattle.ledger.specs.Books.{Book, book}
@@ -18,16 +18,13 @@ use Rattle.verdict.specs.declared.Check.{Check}
 use Rattle.verdict.specs.declared.Check.the-variants.{Clear, Stop}
 use Rattle.verdict.specs.Rules.{first}
 use Rattle.calls.specs.declared.Called.{Called}
-use Rattle.calls.specs.declared.Answer.{Answer}
-use Rattle.calls.specs.declared.Answer.the-variants.{Done, Refused}
 use Rattle.causes.specs.declared.Start.{Start}
 use Rattle.causes.specs.Causes.{Call, freshCauses}
-use Rattle.calls.specs.Machine.{nextWritten, total, Outcome, outcome, step, after, outcomes, causeIn, stepIn, answerBy, called, ran, Runs}
+use Rattle.calls.specs.Machine.{nextWritten, total, Outcome, outcome, step, after, outcomes, causeIn, stepIn, answerBy, called, ran}
 use Rattle.calls.specs.Days.{freshCalled}
-use Rattle.calls.proofs.RunLaws.{cause-in, step-in, runs}
+use Rattle.calls.proofs.RunLaws.{step-in, runs}
 use Rattle.history.specs.History.{begun}
-use Rattle.history.specs.Written.{assignedIn}
-use Rattle.history.specs.Claim.{changes, assigned, Once, ByValue}
+use Rattle.history.specs.Claim.{changes, assigned, ByValue}
 use Rattle.history.proofs.ClaimProof.{claim-by-value}
 use Rattle.boundary.specs.Boundary.{numberOf, changeLeft, countsLeft}
 use Rattle.boundary.proofs.GiveLaws.{fresh-long}

@@ -28,6 +28,7 @@ pub record Held : Type 0 where
   pub output : List ℕ
 
 -- the call c on the words ws left the words ws₁ and these, as the contract of its function says; `change`, `counts` and the output held anything before
+-- (for a close, which is lent no output, take an empty one)
 pub record MadeBy (ws : List ℕ) (c : Call) (a : Held) (ws₁ : List ℕ) : Type 0 where
   pub change : ℤ
   pub counts : List ℕ

@@ -2,16 +2,15 @@
 use Prim.Native.Nat.{ℕ}
 use mathlib.Core.Path.{_≡_, refl}
 use mathlib.Core.Bool.{Bool, true, false, cond}
-use mathlib.Core.List.{List, [], _∷_, _++_}
+use mathlib.Core.List.{List, [], _∷_}
 use native.Mathlib.Omega.{arith}
 use Rattle.ledger.specs.declared.Posted.{Posted}
 use Rattle.ledger.specs.Bills.{isPrepay}
-use Rattle.ledger.specs.Books.{View}
-use Rattle.notices.specs.Layout.{isRsp}
+use Rattle.records.specs.Layout.{isRsp}
 use Rattle.file.specs.declared.Form.{Form}
 use Rattle.file.specs.declared.Form.the-variants.{Broken, Unknown, Response, Supplement}
 use Rattle.file.specs.File.{Group, detailOf, line1, line2, formOf}
-use Rattle.verdict.specs.declared.Check.the-variants.{Clear, Stop}
+use Rattle.verdict.specs.declared.Check.the-variants.{Stop}
 use Rattle.verdict.specs.declared.Verdict.the-variants.{Rejected}
 use Rattle.verdict.specs.Rules.{Rule, rule, first}
 use Rattle.verdict.specs.Lines.{termsOf, lines4to10, amountsOf, settle}

@@ -1,7 +1,7 @@
 -- What lines 1 to 10 read of a group: two groups that agree there have one verdict, and do one thing. Assumes nothing.
 use Prim.Native.Nat.{ℕ, _+_, _≤_}
 use mathlib.Core.Path.{_≡_, refl, sym, ap, _∙_}
-use mathlib.Core.Bool.{Bool, true, false}
+use mathlib.Core.Bool.{Bool, true}
 use mathlib.Core.List.{List, [], _∷_, _++_}
 use native.Mathlib.Omega.{arith}
 use lib.ListN.{length}
@@ -11,14 +11,13 @@ use Rattle.fields.proofs.PutLaws.{part-part}
 use Rattle.units.specs.declared.Date.{Date}
 use Rattle.ledger.specs.declared.Identity.{Identity}
 use Rattle.ledger.specs.Books.{Book, View, view}
-use Rattle.notices.specs.Layout.{companyIn, accountIn, trackingIn, noticeIn, recordCountIn, keyIn, isRsp}
+use Rattle.records.specs.Layout.{companyIn, accountIn, trackingIn, noticeIn, recordCountIn, keyIn, isRsp}
 use Rattle.file.specs.File.{Group, detailOf, asksId, unfit, line1, line2, passes, alike, line3}
-use Rattle.verdict.specs.declared.Kind.{Kind}
-use Rattle.verdict.specs.declared.Kind.the-variants.{Response, Supplement}
 use Rattle.verdict.specs.declared.Sought.{Sought}
 use Rattle.verdict.specs.declared.Verdict.{Verdict}
 use Rattle.verdict.specs.declared.Verdict.the-variants.{Accepted, Rejected}
-use Rattle.verdict.specs.Lines.{tierConsumptions, tierCharges, verdictOf}
+use Rattle.records.specs.Tiers.{tierConsumptions, tierCharges}
+use Rattle.verdict.specs.Lines.{verdictOf}
 use Rattle.verdict.proofs.ReadLaws.{Agree, reads-rsp, reads-sup}
 use Rattle.group.specs.Groups.{identityOf, kindOf, sought, soughtIn, verdictOn, verdictBy, verdict, settled, verdictHere, taken, verdicts}
 use Rattle.group.specs.Reads.{SameHeader, SameDetail, SameGroup, Pairwise, NoLineReads}
@@ -118,7 +117,8 @@ reads-all l before before′ (g ∷ gs) (g′ ∷ gs′) p q =
     let a = q .0 in
     let v = reads (view l) (before ++ gs) (before′ ++ gs′) g g′ a (both SameRead before before′ gs gs′ p (q .1)) in
     let k = same-settled l g g′ (verdictHere before l g gs) a ∙ ap (settled l g′) v in
-    let more = reads-all (settled l g (verdictHere before l g gs)) (before ++ (g ∷ [])) (before′ ++ (g′ ∷ [])) gs gs′ (both SameRead before before′ (g ∷ []) (g′ ∷ []) p (a, tt)) (q .1) in
+    let here = both SameRead before before′ (g ∷ []) (g′ ∷ []) p (a, tt) in
+    let more = reads-all (settled l g (verdictHere before l g gs)) (before ++ (g ∷ [])) (before′ ++ (g′ ∷ [])) gs gs′ here (q .1) in
     let rest = settled l g′ (verdictHere before′ l g′ gs′) in (
       ap (λ (vs : List Verdict). verdictHere before l g gs ∷ vs) (more .0 ∙ ap (λ (m : Book). verdicts (before′ ++ (g′ ∷ [])) m gs′) k)
           ∙ ap (λ (x : Verdict). x ∷ verdicts (before′ ++ (g′ ∷ [])) rest gs′) v,

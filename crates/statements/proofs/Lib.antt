@@ -1,0 +1,5 @@
+-- What fills the statements in.
+pub mod ExampleProof
+pub mod NoticeCalls
+pub mod NoticeIds
+pub mod DemandsHold

@@ -1,0 +1,3 @@
+-- The three demands side by side, and document 01's example.
+pub mod Example
+pub mod Statements
