@@ -1,2 +1,2 @@
 -- What the contracts of request and cancel cite, beside the definitions of calls.
-pub mod Standing
+pub mod parts

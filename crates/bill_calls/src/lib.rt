@@ -8,7 +8,7 @@ ghost use Rattle.ledger.specs.Sound.{soundLedger};
 ghost use Rattle.causes.specs.Causes.{request, cancel};
 ghost use Rattle.calls.specs.declared.Answer.the-variants.{Refused};
 ghost use Rattle.calls.specs.Machine.{stepIn, called};
-ghost use Rattle.bill_calls.specs.Standing.{StandsIn};
+ghost use Rattle.bill_calls.specs.parts.Standing.{StandsIn};
 use calls::Answer;
 use calls::Called;
 use calls::carried_out;

@@ -17,7 +17,8 @@ use Rattle.ledger.specs.declared.Found.{Found}
 use Rattle.ledger.specs.declared.Found.the-variants.{At, Nothing}
 use Rattle.ledger.specs.Lists.{update}
 use Rattle.ledger.specs.Bills.{renewed, cancelledBill, blankBill}
-use Rattle.ledger.specs.Books.{Book, book, live, stored, ofId, placeOf, billAt, headerOf, updated, slotOf, termsIn, billCharge, totalOf}
+use Rattle.ledger.specs.Books.{Book, book, live, stored, ofId, placeOf, termsIn, billCharge, totalOf}
+use Rattle.ledger.specs.parts.Places.{billAt, headerOf, updated, slotOf}
 use Rattle.ledger.specs.Sound.{holdsId, soundBill, soundLedger}
 use Rattle.ledger.proofs.BookLaws.{live-appended, live-replaced, length-live, difference}
 use Rattle.ledger.proofs.ListLaws.{sum-append}
@@ -30,15 +31,17 @@ use Rattle.verdict.specs.Rules.{first}
 use Rattle.verdict.specs.Lines.{isNothing}
 use Rattle.notices.proofs.NoticeLaws.{length-bil, length-cxl}
 use Rattle.group.specs.Groups.{soughtIn}
-use Rattle.group.specs.Turns.{soughtBy}
+use Rattle.group.specs.parts.Turns.{soughtBy}
 use Rattle.group.proofs.PlaceLaws.{Held, nowhere, somewhere, held, sought-is, every-held}
 use Rattle.causes.specs.declared.Request.{Request}
 use Rattle.causes.specs.declared.Decision.{Decision}
 use Rattle.causes.specs.Causes.{Call, request, cancel, requestCauses, cancelCauses, causes}
-use Rattle.causes.specs.Requests.{latestOf, newBill, SoundAt, askedBy, requestBy, cancelBy, bilBy, cxlBy}
+use Rattle.causes.specs.Requests.{latestOf, newBill}
+use Rattle.causes.specs.parts.Decisions.{SoundAt, askedBy, requestBy, cancelBy, bilBy, cxlBy}
 use Rattle.causes.proofs.CauseLaws.{asks, cancels}
 use Rattle.calls.specs.declared.Answer.the-variants.{Refused}
-use Rattle.calls.specs.Machine.{billOf, asked, numbered, next, nextWritten, nextVerdicts, nextClosed, total, outcome, answerBy, causeIn, stepIn, called, noticed}
+use Rattle.calls.specs.Machine.{billOf, asked, numbered, next, nextWritten, nextVerdicts, nextClosed, total, outcome, answerBy, causeIn, stepIn, called}
+use Rattle.calls.specs.parts.Answers.{noticed}
 use Rattle.calls.proofs.PlaceOfLaws.{first-of, spot, spot-none}
 use Rattle.calls.proofs.CallLaws.{Carried, Stopped, carried, stopped, cause-sound, written-clear}
 

@@ -34,13 +34,14 @@ use Rattle.verdict.specs.declared.Verdict.the-variants.{Accepted, Rejected}
 use Rattle.verdict.specs.Rules.{first}
 use Rattle.group.specs.declared.Tally.{Tally}
 use Rattle.group.specs.Groups.{verdictHere, settled, answer, taken, answers}
-use Rattle.group.specs.Turns.{TookBy}
+use Rattle.group.specs.parts.Turns.{TookBy}
 use Rattle.group.proofs.GroupWalk.{book-stored}
 use Rattle.causes.proofs.CheckLaws.{good-short}
 use Rattle.calls.proofs.CallLaws.{Carried, Stopped, carried, stopped}
 use Rattle.causes.specs.Causes.{Call, request, file, cancel, close, lacks, fileCauses, causes}
 use Rattle.causes.proofs.CauseLaws.{asks, sends, cancels}
-use Rattle.calls.specs.Machine.{cause, roomOf, causeIn, outcome, stepIn, leftBy, answerBy, called, cleared, next, nextWritten, nextVerdicts, nextClosed}
+use Rattle.calls.specs.Machine.{cause, roomOf, causeIn, outcome, stepIn, leftBy, answerBy, called, next, nextWritten, nextVerdicts, nextClosed}
+use Rattle.calls.specs.parts.Answers.{cleared}
 
 -- ---- the call
 pub cause-file : (l : Ledger) (s : List ℕ) (room : ℕ) (v : Check) → soundLedger l ≡ true

@@ -14,7 +14,7 @@ use Rattle.ledger.specs.declared.Found.the-variants.{At, Nothing}
 use Rattle.ledger.specs.Lists.{find, has}
 use Rattle.ledger.specs.Bills.{blankBill}
 use Rattle.ledger.specs.Books.{live, ofId}
-use Rattle.ledger.specs.Books.{billAt}
+use Rattle.ledger.specs.parts.Places.{billAt}
 use Rattle.calls.specs.Machine.{billOf}
 
 -- the first bill that passes the test

@@ -2,3 +2,4 @@
 pub mod Machine
 pub mod Days
 pub mod Counts
+pub mod parts

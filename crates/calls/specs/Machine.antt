@@ -1,11 +1,10 @@
 -- "The ledger and its calls": what each call returns, writes and leaves. Assumes nothing.
 use Prim.Native.Nat.{ℕ, _+_}
 use mathlib.Core.Path.{_≡_}
-use mathlib.Core.Bool.{Bool, true, cond, not, _&&_}
+use mathlib.Core.Bool.{true, cond}
 use mathlib.Core.List.{List, [], _∷_, _++_, map}
 use lib.ListN.{length}
 use lib.IntN.{ℤ, pos, _-ℤ_}
-use Rattle.units.specs.declared.Date.{Date}
 use Rattle.ledger.specs.declared.Identity.{Identity}
 use Rattle.ledger.specs.declared.Bill.{Bill}
 use Rattle.ledger.specs.declared.Ledger.{Ledger}
@@ -19,7 +18,6 @@ use Rattle.verdict.specs.declared.Check.{Check}
 use Rattle.verdict.specs.declared.Check.the-variants.{Clear, Stop}
 use Rattle.verdict.specs.declared.Verdict.{Verdict}
 use Rattle.verdict.specs.Rules.{first}
-use Rattle.group.specs.declared.Tally.{Tally}
 use Rattle.group.specs.Groups.{taken, answers, verdicts, isAccepted, isRejected}
 use Rattle.causes.specs.declared.Start.{Start}
 use Rattle.causes.specs.declared.Request.{Request}
@@ -198,20 +196,3 @@ pub record Runs (l : Ledger) (cs : List Call) : Type 0 where
   pub answers : eachCalled (λ k c. called k c .answer) l cs ≡ map (λ (o : Outcome). answerBy o (o .result)) (outcomes (book l) cs)
   pub written : eachCalled (λ k c. stepIn k c .written) l cs ≡ map (λ (o : Outcome). o .written) (outcomes (book l) cs)
   pub kept : soundLedger (ran l cs) ≡ true
-
--- ---- answers in the struct
--- of a call that wrote one notice of two records
-abbrev pub noticed : ℤ → Answer
-noticed change = Done (record { change = change; written = 642; accepted = 0; rejected = 0; closed = 0 })
-
--- of a file whose groups come to these counts
-abbrev pub cleared : Tally → Answer
-cleared c =
-    Done
-    (record {
-      change = pos (c .came) -ℤ pos (c .went);
-      written = c .written;
-      accepted = c .accepted;
-      rejected = c .rejected;
-      closed = 0;
-    })

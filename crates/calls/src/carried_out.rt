@@ -1,7 +1,7 @@
 // What a call that was carried out answers.
 ghost use mathlib.Core.Path.{_≡_};
 ghost use Prim.Native.Nat.{_<_, _^_};
-ghost use Rattle.calls.specs.Machine.{noticed, cleared};
+ghost use Rattle.calls.specs.parts.Answers.{noticed, cleared};
 ghost use Rattle.calls.specs.Days.{quietAnswer};
 use crate::Answer;
 use crate::Returned;

@@ -14,8 +14,8 @@ use Rattle.ledger.specs.declared.Terms.{Terms}
 use Rattle.ledger.specs.declared.Bill as bill
 use Rattle.ledger.specs.declared.Found.{Found}
 use Rattle.ledger.specs.declared.Found.the-variants as found
-use Rattle.group.specs.Turns.{soughtBy}
-use Rattle.causes.specs.Requests.{SoundAt, CanRenew}
+use Rattle.group.specs.parts.Turns.{soughtBy}
+use Rattle.causes.specs.parts.Decisions.{SoundAt, CanRenew}
 use Rattle.ledger.specs.Lists.{all, count}
 use Rattle.file.specs.File.{goodFile, fileGroups, asksId}
 use Rattle.verdict.specs.declared.Sought.{Sought}

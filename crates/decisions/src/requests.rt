@@ -2,9 +2,10 @@
 ghost use mathlib.Core.Path.{_≡_};
 ghost use Prim.Native.Nat.{_≤_};
 ghost use Rattle.verdict.specs.Rules.{first};
-ghost use Rattle.group.specs.Turns.{soughtBy};
+ghost use Rattle.group.specs.parts.Turns.{soughtBy};
 ghost use Rattle.causes.specs.Causes.{requestCauses, cancelCauses};
-ghost use Rattle.causes.specs.Requests.{productOf, latestOf, newBill, SoundAt, CanRenew, askedBy, grown, usedBy, requestBy, cancelBy};
+ghost use Rattle.causes.specs.Requests.{productOf, latestOf, newBill};
+ghost use Rattle.causes.specs.parts.Decisions.{SoundAt, CanRenew, askedBy, grown, usedBy, requestBy, cancelBy};
 use causes::Decision;
 use causes::Request;
 use causes::checks;

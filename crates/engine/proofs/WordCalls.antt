@@ -14,7 +14,8 @@ use Rattle.ledger.specs.declared.Ledger.{Ledger}
 use Rattle.ledger.specs.declared.LedgerHeader.{LedgerHeader}
 use Rattle.ledger.specs.declared.Found.{Found}
 use Rattle.ledger.specs.Lists.{find, count}
-use Rattle.ledger.specs.Books.{live, ofId, placeOf, headerOf, withHeader, slotOf}
+use Rattle.ledger.specs.Books.{live, ofId, placeOf}
+use Rattle.ledger.specs.parts.Places.{headerOf, withHeader, slotOf}
 use Rattle.ledger.specs.Sound.{soundLedger}
 use Rattle.ledger.proofs.SoundLaws.{ledger-count}
 use Rattle.words.specs.Layout.{holdsLedger, ledgerOf}
@@ -27,7 +28,7 @@ use Rattle.file.specs.File.{Group}
 use Rattle.group.specs.declared.Tally.{Tally}
 use Rattle.group.specs.declared.Turned.{Turned}
 use Rattle.group.specs.Groups.{verdictOn}
-use Rattle.group.specs.Turns.{soughtBy, said, TurnedBy}
+use Rattle.group.specs.parts.Turns.{soughtBy, said, TurnedBy}
 use Rattle.causes.specs.Causes.{Call, close, closeCauses, causes}
 use Rattle.causes.specs.Requests.{closes}
 use Rattle.calls.specs.declared.Answer.{Answer}
@@ -37,7 +38,7 @@ use Rattle.calls.specs.Machine.{called, stepIn, causeIn}
 use Rattle.calls.specs.Days.{quietAnswer}
 use Rattle.calls.proofs.CallLaws.{Stopped, Carried, cause-sound, called-stop}
 use Rattle.calls.proofs.DayLaws.{close-done}
-use Rattle.engine.specs.InWords.{CalledIn}
+use Rattle.engine.specs.parts.Calls.{CalledIn}
 
 -- nothing is said, whether notices are written or not
 pub said-none : (writes : Bool) (out : List ℕ) → out ≡ put out 0 (said writes [])

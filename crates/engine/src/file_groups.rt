@@ -6,7 +6,7 @@ ghost use lib.ListN.{length};
 ghost use Rattle.words.specs.Layout.{holdsLedger, ledgerOf};
 ghost use Rattle.records.specs.Layout.{recordsFrom};
 ghost use Rattle.file.specs.File.{groups};
-ghost use Rattle.group.specs.Turns.{Ready, Fine, TurnedOn, TookBy};
+ghost use Rattle.group.specs.parts.Turns.{Ready, Fine, TurnedOn, TookBy};
 use group::Tally;
 use places::place;
 

@@ -21,7 +21,7 @@ use Rattle.journal.proofs.HeadLaws.{whole-fits}
 use Rattle.journal.proofs.JournalLaws.{parse-whole}
 use Rattle.journal.proofs.BeginLaws.{whole-taken, makes-append}
 use Rattle.journal.proofs.MadeLaws.{made-book}
-use Rattle.entries.specs.Running.{behind, entryAt, ranTo, FirstMade, NoneLeft}
+use Rattle.entries.specs.parts.Running.{behind, entryAt, ranTo, FirstMade, NoneLeft}
 
 pub made-append : (l : Ledger) (es fs : List Entry) → madeAll l (es ++ fs) ≡ madeAll (madeAll l es) fs
 unfolding madeAll

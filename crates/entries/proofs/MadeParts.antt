@@ -8,7 +8,7 @@ use Rattle.fields.specs.Put.{put, part}
 use Rattle.ledger.specs.declared.Ledger.{Ledger}
 use Rattle.ledger.specs.Sound.{soundLedger}
 use Rattle.words.specs.Layout.{ledgerOf}
-use Rattle.group.specs.Turns.{said}
+use Rattle.group.specs.parts.Turns.{said}
 use Rattle.calls.specs.declared.Answer.{Answer}
 use Rattle.calls.specs.declared.Answer.the-variants.{Refused}
 use Rattle.journal.specs.declared.Body.{Body}
@@ -18,7 +18,7 @@ use Rattle.journal.specs.Entries.{headOf}
 use Rattle.journal.specs.Made.{madeIn, writtenIn}
 use Rattle.journal.proofs.MadeLaws.{Taken, made-sound}
 use Rattle.entries.specs.declared.entry.Stepped.the-variants as step
-use Rattle.entries.specs.Stepping.{MadeIn, SteppedIn}
+use Rattle.entries.specs.parts.Stepping.{MadeIn, SteppedIn}
 use Rattle.engine.proofs.WordCalls.{said-none}
 
 module _ (writes : Bool) (room : ℕ) (ws out : List ℕ) (sure : soundLedger (ledgerOf ws) ≡ true) (s : List ℕ) where

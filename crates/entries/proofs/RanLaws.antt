@@ -10,7 +10,7 @@ use Rattle.words.specs.Layout as layout
 use Rattle.journal.specs.Journal.{Entry, Parsed, parse, makes, noBook, endsBad, ledgerOf, isBad}
 use Rattle.journal.specs.Made.{noticesOf, brnOf}
 use Rattle.entries.specs.declared.run.Ran.{Ran}
-use Rattle.entries.specs.Running.{behind, RanIn}
+use Rattle.entries.specs.parts.Running.{behind, RanIn}
 use Rattle.entries.proofs.RunNotices.{notices-append}
 
 module _ (seen : ℕ) (writes : Bool) (src ws₀ out₀ ws out : List ℕ) (r : Ran) (w : RanIn seen writes src ws₀ out₀ ws out r) where

@@ -14,7 +14,7 @@ use Rattle.fields.proofs.PutLaws.{put-lent, put-nil, length-part}
 use Rattle.ledger.specs.Books.{Book, book}
 use Rattle.ledger.specs.Sound.{soundLedger}
 use Rattle.words.specs.Layout.{ledgerOf}
-use Rattle.group.specs.Turns.{said}
+use Rattle.group.specs.parts.Turns.{said}
 use Rattle.group.proofs.OutputLaws.{Out, out-start, out-more}
 use Rattle.calls.specs.declared.Answer.{Answer}
 use Rattle.calls.specs.Machine.{outcomes}
@@ -28,8 +28,8 @@ use Rattle.journal.proofs.MadeLaws.{made-written}
 use Rattle.journal.proofs.ShortLaws.{made-short, made-length}
 use Rattle.entries.specs.declared.entry.Stepped.{Stepped}
 use Rattle.entries.specs.declared.entry.Stepped.the-variants as step
-use Rattle.entries.specs.Stepping.{StepOn, SteppedIn}
-use Rattle.entries.specs.Running.{entryAt, ranTo, FirstMade, NoneLeft, RanIn}
+use Rattle.entries.specs.parts.Stepping.{StepOn, SteppedIn}
+use Rattle.entries.specs.parts.Running.{entryAt, ranTo, FirstMade, NoneLeft, RanIn}
 use Rattle.entries.proofs.StoodLaws.{Stood, stood-whole, stood-cut, stood-bad}
 use Rattle.entries.proofs.FirstMadeLaws.{first-none, left-full, left-none, next-fits, first-more}
 

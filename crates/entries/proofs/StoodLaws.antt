@@ -12,7 +12,7 @@ use Rattle.journal.specs.declared.Head.the-variants.{Cut, Bad, Whole}
 use Rattle.journal.specs.Entries.{headOf}
 use Rattle.entries.specs.declared.entry.Stepped.{Stepped}
 use Rattle.entries.specs.declared.entry.Stepped.the-variants as step
-use Rattle.entries.specs.Stepping.{MadeIn, StepOn, SteppedIn}
+use Rattle.entries.specs.parts.Stepping.{MadeIn, StepOn, SteppedIn}
 
 module _ (writes : Bool) (n seen : ℕ) (src ws₀ out₀ ws out : List ℕ) (r : Stepped) (x : SteppedIn writes n seen src ws₀ out₀ ws out r) where
   -- a whole entry, with what its call left

@@ -1,3 +1,2 @@
 -- An entry of a journal made on a ledger that is lent as words, and the entries of some bytes.
-pub mod Running
-pub mod Stepping
+pub mod parts

@@ -6,7 +6,7 @@ ghost use lib.ListN.{length};
 ghost use Rattle.ledger.specs.Sound.{soundLedger};
 ghost use Rattle.words.specs.Layout.{ledgerOf};
 ghost use Rattle.journal.proofs.MadeLaws.{Taken};
-ghost use Rattle.entries.specs.Stepping.{MadeIn, SteppedIn};
+ghost use Rattle.entries.specs.parts.Stepping.{MadeIn, SteppedIn};
 use calls::Answer;
 use engine::call;
 use journal::Body;

@@ -16,7 +16,7 @@ use Rattle.records.specs.Layout.{recordAt, recordsFrom, isRsp, isSup}
 use Rattle.records.proofs.LayoutLaws.{records-step, records-end, length-records}
 use Rattle.file.specs.declared.Form.the-variants.{Broken, Unknown, Response, Supplement}
 use Rattle.file.specs.File.{printable, isHeader, goodRecord, headed, Group, leading, groups, asksId, detailOf, unfit, line1, line2, formOf}
-use Rattle.file.specs.Walk.{after, groupAt, pairForm}
+use Rattle.file.specs.parts.Walk.{after, groupAt, pairForm}
 
 -- ---- the check
 -- one byte more

@@ -13,7 +13,7 @@ use Rattle.records.specs.Layout.{recordAt, companyIn, accountIn, recordCountIn,
 use Rattle.file.specs.declared.Form.{Form}
 use Rattle.file.specs.declared.Form.the-variants.{Broken, Unknown, Response, Supplement}
 use Rattle.file.specs.File.{Group, leading, unfit, line1, line2, formOf}
-use Rattle.file.specs.Walk.{after, groupAt}
+use Rattle.file.specs.parts.Walk.{after, groupAt}
 use Rattle.file.proofs.FileLaws.{line1-many, line1-one, leading-within}
 
 -- what the form says of lines 1 and 2

@@ -13,7 +13,7 @@ use Rattle.ledger.specs.Lists.{has}
 use Rattle.records.specs.Layout.{recordAt, recordsFrom}
 use Rattle.records.proofs.LayoutLaws.{lent-record}
 use Rattle.file.specs.File.{isHeader, Group, groups}
-use Rattle.file.specs.Walk.{groupAt, before, later}
+use Rattle.file.specs.parts.Walk.{groupAt, before, later}
 use Rattle.file.proofs.FileLaws.{groups-header, groups-detail, groups-end}
 
 -- the part that is lent for a header, and for the detail after it

@@ -1,3 +1,3 @@
 -- "Supplier file": records, the check, groups, and lines 1 to 3.
 pub mod File
-pub mod Walk
+pub mod parts

@@ -6,7 +6,7 @@ ghost use Rattle.ledger.specs.Lists.{every, count};
 ghost use Rattle.records.specs.Limits.{recordSize};
 ghost use Rattle.records.specs.Layout.{recordAt, recordsFrom, isSup};
 ghost use Rattle.file.specs.File.{printable, isHeader, goodRecord, goodFile, leading, groups, asksId, unfit, formOf};
-ghost use Rattle.file.specs.Walk.{after, groupAt, pairForm};
+ghost use Rattle.file.specs.parts.Walk.{after, groupAt, pairForm};
 use records::FILE_SIZE;
 use records::RECORD_SIZE;
 use records::layout;

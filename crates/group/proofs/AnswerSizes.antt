@@ -12,10 +12,10 @@ use Rattle.notices.proofs.AnswerLaws.{length-acf}
 use Rattle.notices.proofs.RecordLaws.{length-rej}
 use Rattle.verdict.specs.declared.Verdict.{Verdict}
 use Rattle.verdict.specs.declared.Verdict.the-variants.{Accepted, Rejected}
-use Rattle.group.specs.Turns.{answerAt, recordsBy}
+use Rattle.group.specs.parts.Turns.{answerAt, recordsBy}
 use Rattle.records.specs.Layout.{recordAt, recordsFrom}
 use Rattle.file.specs.File.{leading}
-use Rattle.file.specs.Walk.{after, groupAt}
+use Rattle.file.specs.parts.Walk.{after, groupAt}
 use Rattle.file.proofs.FileLaws.{header-is, leading-within, length-details}
 
 -- the first k of m records

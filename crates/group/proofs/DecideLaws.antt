@@ -8,14 +8,14 @@ use Rattle.fields.proofs.BoolLaws.{cases}
 use Rattle.units.specs.declared.Date.{Date}
 use Rattle.ledger.specs.Books.{View}
 use Rattle.file.specs.File.{Group, detailOf, line1, line2, passes}
-use Rattle.file.specs.Walk.{groupAt}
+use Rattle.file.specs.parts.Walk.{groupAt}
 use Rattle.file.proofs.FileLaws.{header-is, only-detail}
 use Rattle.file.proofs.FormLaws.{one-detail, one-within}
 use Rattle.verdict.specs.declared.Sought.{Sought}
 use Rattle.verdict.specs.declared.Verdict.the-variants.{Rejected}
 use Rattle.verdict.specs.Lines.{verdictOf}
 use Rattle.group.specs.Groups.{identityOf, kindOf, verdictOn, verdictBy}
-use Rattle.group.specs.Turns.{identityAt}
+use Rattle.group.specs.parts.Turns.{identityAt}
 
 -- ---- each return of the code is a line of the list
 module _ (duplicate : Bool) (today : Date) (b : Sought) (g : Group) where

@@ -16,10 +16,11 @@ use Rattle.ledger.specs.declared.Found.{Found}
 use Rattle.ledger.specs.declared.Identity.{Identity}
 use Rattle.ledger.specs.Lists.{every, count, update}
 use Rattle.ledger.specs.Bills.{posting}
-use Rattle.ledger.specs.Books.{Book, book, live, view, ofId, placeOf, totalOf, stored, billAt, headerOf, updated, slotOf}
+use Rattle.ledger.specs.Books.{Book, book, live, view, ofId, placeOf, totalOf, stored}
+use Rattle.ledger.specs.parts.Places.{billAt, headerOf, updated, slotOf}
 use Rattle.records.specs.Layout.{recordAt, recordsFrom}
 use Rattle.file.specs.File.{isHeader, Group, leading, groups, asksId, line3}
-use Rattle.file.specs.Walk.{after, groupAt, before, markAt}
+use Rattle.file.specs.parts.Walk.{after, groupAt, before, markAt}
 use Rattle.file.proofs.FileLaws.{groups-header, groups-detail, groups-end, leading-header, leading-detail, leading-within, from-start}
 use Rattle.file.proofs.WalkLaws.{before-header, before-detail}
 use Rattle.verdict.specs.declared.Verdict.{Verdict}
@@ -27,7 +28,7 @@ use Rattle.verdict.specs.declared.Verdict.the-variants.{Accepted, Rejected}
 use Rattle.group.specs.declared.Tally.{Tally}
 use Rattle.group.specs.declared.Turned.{Turned}
 use Rattle.group.specs.Groups.{identityOf, verdictOn, verdictBy, verdictHere, settled, answer, taken, answers, verdicts, isAccepted, isRejected}
-use Rattle.group.specs.Turns.{identityAt, soughtBy, calm, CalmAt, Ready, cameBy, wentBy, noTally, tallied, said, answerAt, Few, TurnedBy, Fine, TurnedOn, TookBy}
+use Rattle.group.specs.parts.Turns.{identityAt, soughtBy, calm, CalmAt, Ready, cameBy, wentBy, noTally, tallied, said, answerAt, Few, TurnedBy, Fine, TurnedOn, TookBy}
 use Rattle.group.proofs.OutputLaws.{Out, out-start, out-more}
 use Rattle.group.proofs.PlaceLaws.{every-held, spots, spot-calm}
 use Rattle.group.proofs.DecideLaws.{by-duplicate}

@@ -8,7 +8,7 @@ use native.Mathlib.Nat.{add-zero}
 use lib.ListN.{length, length-append}
 use Rattle.fields.specs.Put.{put}
 use Rattle.fields.proofs.PutLaws.{length-put, put-nil, put-put}
-use Rattle.group.specs.Turns.{said}
+use Rattle.group.specs.parts.Turns.{said}
 
 -- out is out₀ with ys put at a, where notices are written, and n is where they end
 pub record Out (writes : Bool) (a : ℕ) (out₀ out ys : List ℕ) (n : ℕ) : Type 0 where

@@ -15,11 +15,12 @@ use Rattle.ledger.specs.declared.Found.{Found}
 use Rattle.ledger.specs.declared.Found.the-variants.{At, Nothing}
 use Rattle.ledger.specs.Lists.{every, find, update}
 use Rattle.ledger.specs.Bills.{blankBill}
-use Rattle.ledger.specs.Books.{live, ofId, placeOf, termsIn, billAt, within, slotOf}
+use Rattle.ledger.specs.Books.{live, ofId, placeOf, termsIn}
+use Rattle.ledger.specs.parts.Places.{billAt, within, slotOf}
 use Rattle.ledger.proofs.ListLaws.{every-at}
 use Rattle.verdict.specs.declared.Sought.the-variants as sought
 use Rattle.group.specs.Groups.{soughtIn}
-use Rattle.group.specs.Turns.{soughtBy, calm, CalmAt}
+use Rattle.group.specs.parts.Turns.{soughtBy, calm, CalmAt}
 
 -- where the bill of an identity stands among bs, counted from n, if it does
 pub data Stands (id : Identity) (n : ℕ) (bs : List Bill) : Type 0 where

@@ -10,7 +10,7 @@ use Rattle.ledger.specs.Books.{book, live}
 use Rattle.ledger.specs.Sound.{soundBill, soundLedger}
 use Rattle.ledger.proofs.ListLaws.{every-map}
 use Rattle.ledger.proofs.SoundLaws.{terms-facts, bill-terms, bill-small, book-facts, ledger-book, ledger-count}
-use Rattle.group.specs.Turns.{calm, Ready}
+use Rattle.group.specs.parts.Turns.{calm, Ready}
 
 pub sound-calm : (b : Bill) → soundBill b ≡ true → calm b ≡ true
 unfolding calm

@@ -16,16 +16,17 @@ use Rattle.ledger.specs.declared.Found.{Found}
 use Rattle.ledger.specs.declared.Found.the-variants as found
 use Rattle.ledger.specs.Lists.{update}
 use Rattle.ledger.specs.Bills.{posting, blankBill}
-use Rattle.ledger.specs.Books.{book, live, view, ofId, placeOf, stored, billAt, headerOf, updated, slotOf, billCharge, totalOf}
+use Rattle.ledger.specs.Books.{book, live, view, ofId, placeOf, stored, billCharge, totalOf}
+use Rattle.ledger.specs.parts.Places.{billAt, headerOf, updated, slotOf}
 use Rattle.ledger.proofs.ListLaws.{sum-set}
 use Rattle.file.specs.File.{Group, asksId, line1}
-use Rattle.file.specs.Walk.{groupAt}
+use Rattle.file.specs.parts.Walk.{groupAt}
 use Rattle.verdict.specs.declared.Sought.{Sought}
 use Rattle.verdict.specs.declared.Sought.the-variants as sought
 use Rattle.verdict.specs.declared.Verdict.{Verdict}
 use Rattle.verdict.specs.declared.Verdict.the-variants.{Accepted, Rejected}
 use Rattle.group.specs.Groups.{identityOf, sought, linesBy, verdictOn, verdictBy, settled, answer}
-use Rattle.group.specs.Turns.{identityAt, soughtBy, billBy, headerBy, answerAt, cameBy, wentBy}
+use Rattle.group.specs.parts.Turns.{identityAt, soughtBy, billBy, headerBy, answerAt, cameBy, wentBy}
 use Rattle.group.proofs.PlaceLaws.{Held, nowhere, somewhere, held, sought-is}
 use Rattle.group.proofs.DecideLaws.{by-bill, same-name}
 use Rattle.group.proofs.VerdictLaws.{nothing-rejects, clear-off, accepted-clear}

@@ -11,13 +11,13 @@ use Rattle.ledger.specs.declared.LedgerHeader.{LedgerHeader}
 use Rattle.ledger.specs.declared.Found.{Found}
 use Rattle.records.specs.Layout.{recordAt, isSup}
 use Rattle.file.specs.File.{Group, asksId}
-use Rattle.file.specs.Walk.{groupAt}
+use Rattle.file.specs.parts.Walk.{groupAt}
 use Rattle.file.proofs.FileLaws.{header-is}
 use Rattle.verdict.specs.declared.Sought.{Sought}
 use Rattle.verdict.specs.declared.Verdict.{Verdict}
 use Rattle.group.specs.declared.Tally.{Tally}
 use Rattle.group.specs.Groups.{verdictOn}
-use Rattle.group.specs.Turns.{soughtBy, idsBy, billBy, said, answerAt, tallied, TurnedBy}
+use Rattle.group.specs.parts.Turns.{soughtBy, idsBy, billBy, said, answerAt, tallied, TurnedBy}
 
 -- the verdict that the code came to
 pub verdict-now : (t : Bool) (today : Date) (f : Found) (b : Bill) (g : Group) (x : Sought) (v : Verdict) → x ≡ soughtBy f b → v ≡ verdictOn t today x g

@@ -32,7 +32,7 @@ use Rattle.verdict.specs.declared.Verdict.the-variants.{Accepted, Rejected}
 use Rattle.verdict.specs.Rules.{Rule, rule, first}
 use Rattle.verdict.specs.Lines.{termsOf, line4, line5, line6, line7, lines8to10, sentConsumption, sentCharge, amountsOf, settle}
 use Rattle.group.specs.Groups.{sought, kindOf, linesBy, linesOn, verdictOn, verdictBy}
-use Rattle.group.specs.Turns.{soughtBy, calm, CalmAt, CanPost, cameBy, wentBy}
+use Rattle.group.specs.parts.Turns.{soughtBy, calm, CalmAt, CanPost, cameBy, wentBy}
 
 -- ---- no verdict accepts where there is no bill
 pub nothing-rejects : (t : Bool) (today : Date) (g : Group) → (n : ℕ) × (verdictOn t today sought.Nothing g ≡ Rejected n)

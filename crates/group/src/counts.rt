@@ -4,7 +4,7 @@ ghost use mathlib.Core.Bool.{cond};
 ghost use Prim.Native.Nat.{_+_, _*_, _^_, _≤_};
 ghost use Rattle.records.specs.Limits.{fileSize};
 ghost use Rattle.group.specs.Groups.{isAccepted, isRejected};
-ghost use Rattle.group.specs.Turns.{cameBy, wentBy, noTally, tallied, Few};
+ghost use Rattle.group.specs.parts.Turns.{cameBy, wentBy, noTally, tallied, Few};
 use crate::Tally;
 use ledger::Bill;
 use verdict::Verdict;

@@ -5,7 +5,7 @@ ghost use lib.ListN.{length};
 ghost use Rattle.records.specs.Limits.{recordSize, fileRecords};
 ghost use Rattle.records.specs.Layout.{recordsFrom};
 ghost use Rattle.file.specs.File.{groups};
-ghost use Rattle.group.specs.Turns.{Ready, Fine, TurnedOn, TookBy};
+ghost use Rattle.group.specs.parts.Turns.{Ready, Fine, TurnedOn, TookBy};
 use group::Tally;
 use ledger::Ledger;
 use ledger::LedgerHeader;

@@ -2,7 +2,7 @@
 use Prim.Native.Nat.{ℕ}
 use mathlib.Core.List.{List, [], _∷_, _++_}
 use Rattle.ledger.specs.declared.Ledger.{Ledger}
-use Rattle.ledger.specs.Books.{Book}
+use Rattle.ledger.specs.Books.{Book, emptyLedger}
 use Rattle.calls.specs.declared.Called.{Called}
 use Rattle.calls.specs.declared.Answer.{Answer}
 use Rattle.calls.specs.declared.Answer.the-variants.{Done, Refused}
@@ -54,3 +54,7 @@ noticesOf k (e ∷ es) = writtenBy (outcomes k (callOf (e .body) (e .bytes))) ++
 -- the bytes of the BRN file of a journal
 unfoldable pub brnOf : List ℕ → List ℕ
 brnOf s = noticesOf noBook (parse 0 s .entries)
+
+-- the ledger before the first entry
+abbrev pub firstLedger : Ledger
+firstLedger = emptyLedger (record { 0 = 19000101 }) 1 1

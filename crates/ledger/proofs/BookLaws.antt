@@ -14,7 +14,8 @@ use mir.Val.{Val}
 use denote.Laws.{Is}
 use Rattle.ledger.specs.declared.Bill.{Bill}
 use Rattle.ledger.specs.declared.Ledger.{Ledger}
-use Rattle.ledger.specs.Books.{live, replaced, appended, billCharge, smallCharge, totalOf}
+use Rattle.ledger.specs.Books.{live, billCharge, smallCharge, totalOf}
+use Rattle.ledger.specs.parts.Places.{replaced, appended}
 use Rattle.ledger.specs.Lists.{every}
 use Rattle.ledger.proofs.Ledger.{the-row}
 use Rattle.ledger.proofs.ListLaws.{sum-set}

@@ -1,10 +1,9 @@
 -- The ledger as a book: "today, the next Tracking ID, the next Confirmation Number .. and up to 128 bills in order of first request".
 -- Assumes nothing.
 use Prim.Native.Nat.{ℕ, _+_}
-use mathlib.Core.Bool.{Bool, cond}
+use mathlib.Core.Bool.{Bool}
 use mathlib.Core.List.{List, map, _++_}
-use lib.Dec.{ltb}
-use lib.ListN.{length, getD, take, drop, set, replicate}
+use lib.ListN.{length, take, drop, replicate}
 use Rattle.units.specs.declared.Date.{Date}
 use Rattle.units.specs.Units.{fitsCents}
 use Rattle.ledger.specs.declared.Identity.{Identity}
@@ -12,9 +11,7 @@ use Rattle.ledger.specs.declared.Terms.{Terms}
 use Rattle.ledger.specs.declared.Bill.{Bill}
 use Rattle.ledger.specs.declared.Ledger.{Ledger}
 use Rattle.ledger.specs.declared.LedgerHeader.{LedgerHeader}
-use Rattle.ledger.specs.declared.Update.{Update}
 use Rattle.ledger.specs.declared.Found.{Found}
-use Rattle.ledger.specs.declared.Found.the-variants.{At, Nothing}
 use Rattle.ledger.specs.Lists.{sum, find}
 use Rattle.ledger.specs.Bills.{isOf, chargeOf, blankBill}
 
@@ -32,14 +29,6 @@ live l = take (l .count) (l .bills)
 -- the book that the struct holds
 abbrev pub book : Ledger → Book
 book l = record { today = l .today; tracking = l .«next_tracking»; confirmation = l .«next_confirmation»; bills = live l }
-
--- the bill at a place of the struct
-abbrev pub billAt : Ledger → ℕ → Bill
-billAt l p = getD (l .bills) p blankBill
-
--- what the struct holds besides its bills
-abbrev pub headerOf : Ledger → LedgerHeader
-headerOf l = record { today = l .today; tracking = l .«next_tracking»; confirmation = l .«next_confirmation»; count = l .count }
 
 -- the struct with this header and these bills
 abbrev pub withBills : LedgerHeader → List Bill → Ledger
@@ -95,29 +84,3 @@ totalOf bs = sum billCharge bs
 abbrev pub emptyLedger : Date → ℕ → ℕ → Ledger
 emptyLedger today tracking confirmation =
     withBills (record { today = today; tracking = tracking; confirmation = confirmation; count = 0 }) (replicate 128 blankBill)
-
--- with this header, and its bills as they were
-abbrev pub withHeader : Ledger → LedgerHeader → Ledger
-withHeader l h = withBills h (l .bills)
-
--- with the bill at place i replaced
-abbrev pub replaced : Ledger → ℕ → Bill → Ledger
-replaced l i b = withBills (headerOf l) (set (l .bills) i b)
-
--- with one bill more
-abbrev pub appended : Ledger → Bill → Ledger
-appended l b =
-    withBills (record { today = l .today; tracking = l .«next_tracking»; confirmation = l .«next_confirmation»; count = l .count + 1 })
-    (set (l .bills) (l .count) b)
-
--- with this header, and this bill at place p
-abbrev pub updated : Ledger → ℕ → Update → Ledger
-updated l p u = withHeader (replaced l p (u .bill)) (u .header)
-
--- the place that was found or, where none was, the next free one; the last one stands where all are taken
-abbrev pub within : ℕ → ℕ
-within i = cond (ltb i 128) i 127
-
-abbrev pub slotOf : Found → ℕ → ℕ
-slotOf (At p) count = within p
-slotOf Nothing count = within count

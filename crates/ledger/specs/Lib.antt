@@ -3,3 +3,4 @@ pub mod Lists
 pub mod Bills
 pub mod Books
 pub mod Sound
+pub mod parts

@@ -10,7 +10,8 @@ use Rattle.ledger.specs.declared.LedgerHeader.{LedgerHeader}
 use Rattle.ledger.specs.declared.Found.{Found}
 use Rattle.ledger.specs.declared.Found.the-variants as found
 use Rattle.ledger.specs.Lists.{find}
-use Rattle.ledger.specs.Books.{billAt, headerOf, live, ofId}
+use Rattle.ledger.specs.Books.{live, ofId}
+use Rattle.ledger.specs.parts.Places.{billAt, headerOf}
 use Rattle.ledger.specs.Sound.{soundLedger}
 use Rattle.lookups.specs.declared.Place.the-variants as place
 use Rattle.lookups.specs.declared.Amounts.the-variants as amounts

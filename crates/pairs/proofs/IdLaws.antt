@@ -19,10 +19,10 @@ use Rattle.records.specs.Layout.{recordAt, accountIn, keyIn, noticeIn, isRsp, i
 use Rattle.records.proofs.LayoutLaws.{long-record}
 use Rattle.file.specs.declared.Form.the-variants.{Response, Supplement}
 use Rattle.file.specs.File.{isHeader, Group, detailOf, line1, line2, formOf, passes, alike}
-use Rattle.file.specs.Walk.{groupAt}
+use Rattle.file.specs.parts.Walk.{groupAt}
 use Rattle.file.proofs.FileLaws.{header-is, only-detail}
 use Rattle.file.proofs.FormLaws.{one-detail, one-within, one-fit, fit-numeric}
-use Rattle.pairs.specs.Pairs.{codeNumber, namedBy, idOf, idAt}
+use Rattle.pairs.specs.parts.GroupNumbers.{codeNumber, namedBy, idOf, idAt}
 
 -- ---- three numbers as one
 abbrev whole : ℕ → ℕ → ℕ → ℕ

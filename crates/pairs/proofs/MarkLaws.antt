@@ -11,9 +11,9 @@ use borrow.Author.Tests.{eqb-true, eqb-false, eq-eqb, ne-eqb, not-true}
 use Rattle.fields.proofs.BoolLaws.{and-left, and-right}
 use Rattle.records.specs.Layout.{recordAt}
 use Rattle.file.specs.File.{isHeader, alike, passes, line3}
-use Rattle.file.specs.Walk.{groupAt, before, later, markAt}
+use Rattle.file.specs.parts.Walk.{groupAt, before, later, markAt}
 use Rattle.file.proofs.WalkLaws.{others-none, others-hit}
-use Rattle.pairs.specs.Pairs.{idAt}
+use Rattle.pairs.specs.parts.GroupNumbers.{idAt}
 use Rattle.pairs.proofs.IdLaws.{id-passes, id-not-zero, alike-id}
 
 -- record j matches record i

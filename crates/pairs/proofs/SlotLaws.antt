@@ -9,7 +9,7 @@ use lib.Seq.{getD-set-same, getD-set-other}
 use lib.Dec.{eqb, ltb}
 use borrow.Author.Tests.{eqb-true, eqb-false, ltb-true, ltb-false, not-true}
 use Rattle.fields.proofs.BoolLaws.{and-left, and-right}
-use Rattle.pairs.specs.Pairs.{slotOf}
+use Rattle.pairs.specs.parts.GroupNumbers.{slotOf}
 
 -- the slot of record k
 abbrev pub slotAt : List ℕ → ℕ → ℕ

@@ -1,2 +1,2 @@
 -- Line 3 by numbers.
-pub mod Pairs
+pub mod parts

@@ -10,7 +10,8 @@ use Rattle.fields.proofs.BoolLaws.{and-right}
 use Rattle.units.specs.Calendar.{isDate}
 use Rattle.ledger.specs.declared.LedgerHeader.{LedgerHeader}
 use Rattle.ledger.specs.Lists.{every}
-use Rattle.ledger.specs.Books.{live, headerOf}
+use Rattle.ledger.specs.Books.{live}
+use Rattle.ledger.specs.parts.Places.{headerOf}
 use Rattle.ledger.specs.Sound.{isNext, soundBill, distinct, soundLedger}
 use Rattle.ledger.proofs.SoundLaws.{walked, split}
 use Rattle.words.specs.Layout.{ledgerPlaces, holdsLedger, ledgerOf}

@@ -18,7 +18,7 @@ use Rattle.ledger.specs.Bills.{blankBill}
 use Rattle.ledger.specs.Books.{ofId}
 use Rattle.ledger.specs.Sound.{holdsId, distinct}
 use Rattle.ledger.proofs.ListLaws.{every-append}
-use Rattle.places.specs.Slots.{slots, slotOf}
+use Rattle.places.specs.parts.Slots.{slots, slotOf}
 
 -- ---- lists
 module _ {A : Type 0} (p : A → Bool) where

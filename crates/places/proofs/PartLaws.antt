@@ -19,7 +19,8 @@ use Rattle.ledger.specs.declared.Ledger.{Ledger}
 use Rattle.ledger.specs.declared.LedgerHeader.{LedgerHeader}
 use Rattle.ledger.specs.Lists.{every}
 use Rattle.ledger.specs.Bills.{blankBill}
-use Rattle.ledger.specs.Books.{billAt, headerOf, ofId, replaced, withHeader}
+use Rattle.ledger.specs.Books.{ofId}
+use Rattle.ledger.specs.parts.Places.{billAt, headerOf, replaced, withHeader}
 use Rattle.ledger.proofs.Bill.{the-row}
 use Rattle.words.specs.Layout.{billWords, billsWords, headWords, ledgerWords, holdsCode, holdsBill, holdsBills, holdsLedger, date, codeIn, termsIn, billIn, billsIn, ledgerIn, ledgerOf, byteCode}
 use Rattle.words.proofs.WordLaws.{length-bill, words-long, words-bills, of-words, words-ledger, holds-words, ledger-words}

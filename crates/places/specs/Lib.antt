@@ -1,2 +1,2 @@
 -- For the test of equal identities.
-pub mod Slots
+pub mod parts

@@ -9,13 +9,13 @@ use lib.Seq.{length-take-le, take-add, drop-at}
 use Rattle.fields.specs.Put.{part, put}
 use Rattle.fields.proofs.PutLaws.{length-part, front-put}
 use Rattle.entries.specs.declared.run.Ran.{Ran}
-use Rattle.entries.specs.Running.{ranTo, RanIn}
+use Rattle.entries.specs.parts.Running.{ranTo, RanIn}
 use Rattle.input.specs.declared.Filled as filled
 use Rattle.input.specs.declared.Filled.the-variants as filled-as
 use Rattle.input.specs.Filled.{Holds, Fills}
 use Rattle.replay.specs.declared.Tells.{Tells}
 use Rattle.replay.specs.declared.Tells.the-variants.{Nothing, Notices}
-use Rattle.replay.specs.Reading.{HoldsMore, FillsMore, Runs, Made}
+use Rattle.replay.specs.parts.Pieces.{HoldsMore, FillsMore, Runs, Made}
 
 -- ---- a read: no fewer bytes are held
 holds-more : (have : ℕ) (full : Bool) (room : ℕ) (r : filled.Filled) → full ≡ false → Holds have room r → HoldsMore have full room r

@@ -15,10 +15,10 @@ use Rattle.words.specs.Layout as layout
 use Rattle.causes.specs.Causes.{startTests, freshCauses}
 use Rattle.calls.proofs.DayLaws.{fresh-sound}
 use Rattle.journal.specs.Journal.{Entry, Parsed, parse, parseUpTo, makes, noBook, ledgerOf, isBad}
-use Rattle.journal.specs.Made.{madeAll, noticesOf}
+use Rattle.journal.specs.Made.{madeAll, noticesOf, firstLedger}
 use Rattle.journal.proofs.JournalLaws.{fed, parse-fed}
 use Rattle.journal.proofs.BeginLaws.{makes-append}
-use Rattle.entries.specs.Running.{behind, firstLedger}
+use Rattle.entries.specs.parts.Running.{behind}
 use Rattle.entries.proofs.FirstMadeLaws.{made-append}
 use Rattle.entries.proofs.RunNotices.{notices-append}
 use Rattle.trace_lines.specs.Trace.{traceLines}
@@ -31,7 +31,8 @@ use Rattle.replay.specs.declared.Tells.{Tells}
 use Rattle.replay.specs.declared.Tells.the-variants.{Nothing, Notices, Lines}
 use Rattle.streams.specs.declared.pieces.End.{End}
 use Rattle.streams.specs.declared.pieces.Piece.{Piece}
-use Rattle.replay.specs.Reading.{toldOf, Waits, Made, Reads}
+use Rattle.replay.specs.Reading.{toldOf, Reads}
+use Rattle.replay.specs.parts.Pieces.{Waits, Made}
 use Rattle.streams.specs.Ends.{endOfInput, endOfPiece}
 
 -- ---- entries behind entries

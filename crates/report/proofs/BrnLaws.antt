@@ -16,12 +16,13 @@ use Rattle.words.specs.Layout as layout
 use Rattle.journal.specs.Journal.{Parsed, parse, noBook, endsBad, isBad}
 use Rattle.journal.specs.Made.{noticesOf, brnOf}
 use Rattle.entries.specs.declared.run.Ran.{Ran}
-use Rattle.entries.specs.Running.{RanIn}
+use Rattle.entries.specs.parts.Running.{RanIn}
 use Rattle.entries.proofs.RanLaws.{ran-split, ran-within, all-notices, all-stopped, all-rest, all-count, journal-notices, journal-written, journal-bad}
 use Rattle.report.specs.declared.Report.the-variants.{Written, TooSmall}
 use Rattle.report.specs.declared.brn_file.Fit.{Fit}
 use Rattle.report.specs.declared.brn_file.Fit.the-variants.{Fits, Short}
-use Rattle.report.specs.NoticesOf.{noticesReport, noticed, fitOf, ReportsNotices}
+use Rattle.report.specs.NoticesOf.{noticesReport, noticed, ReportsNotices}
+use Rattle.report.specs.parts.Fits.{fitOf}
 use Rattle.room.specs.Room.{mostIn}
 use Rattle.room.proofs.RoomLaws.{brn-within}
 

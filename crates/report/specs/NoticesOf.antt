@@ -11,8 +11,6 @@ use Rattle.journal.specs.Made.{brnOf}
 use Rattle.report.specs.declared.Report.{Report}
 use Rattle.report.specs.declared.Report.the-variants.{Written, TooSmall}
 use Rattle.report.specs.declared.Reported.{Reported}
-use Rattle.report.specs.declared.brn_file.Fit.{Fit}
-use Rattle.report.specs.declared.brn_file.Fit.the-variants.{Fits, Short}
 
 -- an output under the length of the journal's BRN file is refused and left as it was
 unfoldable pub noticesReport : ℕ → List ℕ → Report
@@ -20,10 +18,6 @@ noticesReport room s = cond (ltb room (length (brnOf s))) TooSmall (Written (len
 
 unfoldable pub noticed : ℕ → List ℕ → List ℕ
 noticed room s = cond (ltb room (length (brnOf s))) [] (brnOf s)
-
--- whether an output of so many bytes has room for them, and where it has none, whether the journal ends bad: what `fit_in` answers inside the crate
-unfoldable pub fitOf : ℕ → List ℕ → Fit
-fitOf room s = cond (ltb room (length (brnOf s))) (Short (isBad s)) Fits
 
 -- what is answered and left of an output out₀; `stopped` says what `stopped,13` says in the table
 pub record ReportsNotices (s out₀ out : List ℕ) (r : Reported) : Type 0 where

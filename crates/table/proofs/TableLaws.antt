@@ -20,7 +20,8 @@ use Rattle.ledger.specs.declared.Ledger.{Ledger}
 use Rattle.ledger.specs.declared.LedgerHeader.{LedgerHeader}
 use Rattle.ledger.specs.Lists.{every}
 use Rattle.ledger.specs.Bills.{blankBill}
-use Rattle.ledger.specs.Books.{Book, book, live, headerOf, smallCharge, totalOf}
+use Rattle.ledger.specs.Books.{Book, book, live, smallCharge, totalOf}
+use Rattle.ledger.specs.parts.Places.{headerOf}
 use Rattle.ledger.specs.Sound.{soundLedger}
 use Rattle.ledger.proofs.BookLaws.{total-small, length-live}
 use Rattle.table.specs.declared.Printed.{Printed}

@@ -29,7 +29,7 @@ use Rattle.history.specs.Written.{isAcf}
 use Rattle.history.proofs.RecordLaws.{Whole, Formed, formed-file}
 use Rattle.history.proofs.NoticeReads.{acf-is-acf, rej-header-notice, rej-not-acf}
 use Rattle.trace_lines.specs.Lines.{groupLine, groupLines}
-use Rattle.trace_lines.specs.Read.{readVerdict, answerLong, readLine, readLines, Lined}
+use Rattle.trace_lines.specs.parts.ReadAnswers.{readVerdict, answerLong, readLine, readLines, Lined}
 
 -- ---- an ACF, and more bytes
 module _ (h : List ℕ) (x : Acf) (ys : List ℕ) (whole : length h ≡ 321) where

@@ -10,9 +10,9 @@ use Rattle.fields.specs.Put.{put}
 use Rattle.fields.proofs.PutLaws.{first, next, put-nil}
 use Rattle.records.specs.Layout.{recordAt, recordsFrom}
 use Rattle.file.specs.File.{isHeader, Group, leading, groups}
-use Rattle.file.specs.Walk.{groupAt}
+use Rattle.file.specs.parts.Walk.{groupAt}
 use Rattle.file.proofs.FileLaws.{groups-header, groups-detail, groups-end, leading-header, leading-detail, length-details, from-start}
-use Rattle.trace_lines.specs.Read.{answerLong, readLine, readLines}
+use Rattle.trace_lines.specs.parts.ReadAnswers.{answerLong, readLine, readLines}
 use Rattle.trace_lines.proofs.ReadLaws.{short-line, answer-short}
 
 -- the groups of a file of n records, and those from record i on

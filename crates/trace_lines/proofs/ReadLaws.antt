@@ -15,14 +15,14 @@ use Rattle.fields.proofs.HoldLaws.{length-part-le}
 use Rattle.records.specs.Layout.{recordAt, recordsFrom}
 use Rattle.records.proofs.LayoutLaws.{length-records}
 use Rattle.file.specs.File.{Group, leading}
-use Rattle.file.specs.Walk.{after, groupAt}
+use Rattle.file.specs.parts.Walk.{after, groupAt}
 use Rattle.file.proofs.FileLaws.{length-details}
 use Rattle.group.proofs.AnswerSizes.{details-are}
 use Rattle.table.specs.Table.{cell, ended}
 use Rattle.table.proofs.TableLaws.{length-cell}
 use Rattle.history.specs.Written.{isAcf}
 use Rattle.trace_lines.specs.Lines.{firstKey}
-use Rattle.trace_lines.specs.Read.{groupFrom, readVerdict, answerLong, readLine}
+use Rattle.trace_lines.specs.parts.ReadAnswers.{groupFrom, readVerdict, answerLong, readLine}
 
 -- a part of what is left of a list
 part-drop : (xs : List ℕ) (a i n : ℕ) → part (drop a xs) i n ≡ part xs (a + i) n

@@ -1,5 +1,5 @@
 -- The lines of program `trace`: what became of each entry of a journal.
 pub mod Lines
 pub mod Trace
-pub mod Read
 pub mod Example
+pub mod parts

@@ -6,10 +6,10 @@ ghost use Rattle.fields.specs.Put.{put, part};
 ghost use Rattle.records.specs.Limits.{recordSize};
 ghost use Rattle.records.specs.Layout.{recordsFrom};
 ghost use Rattle.file.specs.File.{groups};
-ghost use Rattle.file.specs.Walk.{groupAt};
+ghost use Rattle.file.specs.parts.Walk.{groupAt};
 ghost use Rattle.table.specs.Table.{cell, ended};
 ghost use Rattle.trace_lines.specs.Lines.{firstKey};
-ghost use Rattle.trace_lines.specs.Read.{groupFrom, readVerdict, answerLong, readLine, readLines, Lined};
+ghost use Rattle.trace_lines.specs.parts.ReadAnswers.{groupFrom, readVerdict, answerLong, readLine, readLines, Lined};
 use records::RECORD_SIZE;
 use records::layout;
 

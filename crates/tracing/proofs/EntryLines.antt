@@ -31,15 +31,15 @@ use Rattle.journal.proofs.HeadLaws.{tagIn, whole-fits, whole-small, whole-holds
 use Rattle.journal.proofs.BeginLaws.{whole-taken}
 use Rattle.entries.specs.declared.entry.Stepped.{Stepped}
 use Rattle.entries.specs.declared.entry.Stepped.the-variants as step
-use Rattle.entries.specs.Stepping.{SteppedIn}
-use Rattle.entries.specs.Running.{entryAt}
+use Rattle.entries.specs.parts.Stepping.{SteppedIn}
+use Rattle.entries.specs.parts.Running.{entryAt}
 use Rattle.entries.proofs.StoodLaws.{stood-whole, stood-cut, stood-bad}
 use Rattle.trace_lines.specs.Lines.{tagOf, callLine, groupLines}
-use Rattle.trace_lines.specs.Read.{Lined}
+use Rattle.trace_lines.specs.parts.ReadAnswers.{Lined}
 use Rattle.trace_lines.specs.Trace.{answerTo, entryAnswer, linesUnder, entryLines}
 use Rattle.trace_lines.proofs.TraceLaws.{answer-in, Carried, file-done, file-refused, tag-is, put-begins}
 use Rattle.tracing.specs.declared.Traced.the-variants as traced
-use Rattle.tracing.specs.Tracing.{isDone, LinesOf, EntryIn}
+use Rattle.tracing.specs.parts.Tracing.{isDone, LinesOf, EntryIn}
 
 -- ---- the lines under an entry's line
 module _ (k : Book) (bytes : List ℕ) where

@@ -19,12 +19,12 @@ use Rattle.journal.specs.declared.Head.the-variants.{Cut, Bad, Whole}
 use Rattle.journal.specs.Entries.{headOf}
 use Rattle.journal.specs.Journal.{Entry, parse, made, makes}
 use Rattle.journal.proofs.JournalLaws.{parse-cut, parse-bad}
-use Rattle.entries.specs.Running.{entryAt, ranTo}
+use Rattle.entries.specs.parts.Running.{entryAt, ranTo}
 use Rattle.entries.proofs.FirstMadeLaws.{first-none, left-full, left-none, next-fits, first-more}
 use Rattle.trace_lines.specs.Trace.{entryLines, traceLines}
 use Rattle.tracing.specs.declared.Traced.{Traced}
 use Rattle.tracing.specs.declared.Traced.the-variants as traced
-use Rattle.tracing.specs.Tracing.{EntryMade, EntryOn, EntryIn, Traces, TracesIn}
+use Rattle.tracing.specs.parts.Tracing.{EntryMade, EntryOn, EntryIn, Traces, TracesIn}
 
 -- ---- entries one after another
 pub lines-append : (number : ℕ) (k : Book) (es fs : List Entry)

@@ -1,2 +1,2 @@
 -- What a run over the entries at the start of some bytes leaves, and the lines that it writes.
-pub mod Tracing
+pub mod parts

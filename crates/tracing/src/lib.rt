@@ -5,7 +5,7 @@ ghost use Prim.Native.Nat.{_+_, _-_, _≤_};
 ghost use lib.ListN.{length};
 ghost use Rattle.ledger.specs.Sound.{soundLedger};
 ghost use Rattle.words.specs.Layout.{ledgerOf};
-ghost use Rattle.tracing.specs.Tracing.{isDone, LinesOf, EntryIn, TracesIn};
+ghost use Rattle.tracing.specs.parts.Tracing.{isDone, LinesOf, EntryIn, TracesIn};
 use calls::Answer;
 use entries::entry::Stepped;
 use entries::run::Ran;

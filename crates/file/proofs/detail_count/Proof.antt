@@ -5,7 +5,7 @@ use native.Mathlib.Omega.{arith}
 use borrow.Author.Needs.{needs}
 use Rattle.records.specs.Layout.{recordsFrom}
 use Rattle.file.specs.File.{leading}
-use Rattle.file.specs.Walk.{after}
+use Rattle.file.specs.parts.Walk.{after}
 use Rattle.file.proofs.FileLaws.{leading-header, leading-detail, leading-end}
 use Rattle.file.proofs.detail_count.Statement.{statement}
 use Rattle.file.proofs.detail_count.Tie as tie

@@ -2,7 +2,7 @@
 use borrow.Author.Needs.{needs}
 use mathlib.Core.Path.{sym, ap₂, _∙_}
 use native.Mathlib.Omega.{arith}
-use Rattle.file.specs.Walk.{pairForm}
+use Rattle.file.specs.parts.Walk.{pairForm}
 use Rattle.file.proofs.FileLaws.{leading-within, form-many, form-one}
 use Rattle.file.proofs.WalkLaws.{lent-head, lent-next}
 use Rattle.file.proofs.form_at.Statement.{statement}

@@ -1,7 +1,7 @@
 -- `file::pair_form` meets its contract: each return rewrites with the tests that led there.
 use borrow.Author.Needs.{needs}
 use mathlib.Core.Path.{sym, _∙_}
-use Rattle.file.specs.Walk.{pairForm}
+use Rattle.file.specs.parts.Walk.{pairForm}
 use Rattle.file.proofs.pair_form.Statement.{statement}
 use Rattle.file.proofs.pair_form.Tie as tie
 

@@ -1,7 +1,7 @@
 -- `group::identity_at` meets its contract.
 use borrow.Author.Tests.{le-leb, lt-leb}
 use Rattle.file.proofs.WalkLaws.{lent-head, lent-next}
-use Rattle.group.specs.Turns.{identityAt}
+use Rattle.group.specs.parts.Turns.{identityAt}
 use borrow.Author.Needs.{needs}
 use Rattle.group.proofs.identity_at.Statement.{statement}
 use Rattle.group.proofs.identity_at.Tie as tie

@@ -3,11 +3,11 @@ use mathlib.Core.Path.{_≡_, refl, sym, ap, _∙_}
 use native.Mathlib.Omega.{arith}
 use Rattle.records.specs.Layout.{isSup}
 use Rattle.file.specs.File.{asksId}
-use Rattle.file.specs.Walk.{groupAt}
+use Rattle.file.specs.parts.Walk.{groupAt}
 use Rattle.file.proofs.FileLaws.{header-is}
 use Rattle.verdict.specs.declared.Verdict.{Verdict}
 use Rattle.group.specs.Groups.{verdictOn}
-use Rattle.group.specs.Turns.{soughtBy}
+use Rattle.group.specs.parts.Turns.{soughtBy}
 use Rattle.group.proofs.VerdictLaws.{can-post, came-small, went-small}
 use Rattle.group.proofs.TurnParts.{verdict-now, turn-done}
 use borrow.Author.Needs.{needs}

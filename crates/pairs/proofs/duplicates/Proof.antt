@@ -8,8 +8,8 @@ use native.Mathlib.Omega.{arith}
 use borrow.Author.Needs.{needs}
 use lib.ListN.{length, getD, set, length-set}
 use lib.Dec.{eqb}
-use Rattle.file.specs.Walk.{markAt}
-use Rattle.pairs.specs.Pairs.{idAt, slotOf}
+use Rattle.file.specs.parts.Walk.{markAt}
+use Rattle.pairs.specs.parts.GroupNumbers.{idAt, slotOf}
 use Rattle.pairs.proofs.MarkLaws.{matches, mark-hit, mark-miss, mark-none, Marked, marked-stay, marked-set, unmarked, fails-more}
 use Rattle.pairs.proofs.SlotLaws.{meets, unmet, guard-on, guard-off}
 use Rattle.pairs.proofs.duplicates.Statement.{statement}

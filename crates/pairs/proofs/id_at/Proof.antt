@@ -1,7 +1,7 @@
 -- `pairs::id_at` meets its contract.
 use borrow.Author.Needs.{needs}
 use mathlib.Core.Path.{sym, _∙_}
-use Rattle.pairs.specs.Pairs.{idAt}
+use Rattle.pairs.specs.parts.GroupNumbers.{idAt}
 use Rattle.pairs.proofs.id_at.Statement.{statement}
 use Rattle.pairs.proofs.id_at.Tie as tie
 

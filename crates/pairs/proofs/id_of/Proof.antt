@@ -6,11 +6,11 @@ use native.Mathlib.Omega.{arith}
 use borrow.Author.Tests.{ne-eqb}
 use lib.ListN.{take, drop}
 use Rattle.file.specs.File.{detailOf, formOf}
-use Rattle.file.specs.Walk.{groupAt}
+use Rattle.file.specs.parts.Walk.{groupAt}
 use Rattle.file.proofs.FileLaws.{header-is, only-detail}
 use Rattle.file.proofs.WalkLaws.{lent-head, lent-next}
 use Rattle.file.proofs.FormLaws.{one-detail, one-within}
-use Rattle.pairs.specs.Pairs.{codeNumber, namedBy, idOf}
+use Rattle.pairs.specs.parts.GroupNumbers.{codeNumber, namedBy, idOf}
 use Rattle.pairs.proofs.IdLaws.{code-line1}
 use Rattle.pairs.proofs.id_of.Statement.{statement}
 use Rattle.pairs.proofs.id_of.Tie as tie

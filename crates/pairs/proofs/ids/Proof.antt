@@ -4,7 +4,7 @@ use mathlib.Core.Path.{_≡_, refl, _∙_}
 use native.Mathlib.Omega.{arith}
 use borrow.Author.Needs.{needs}
 use lib.ListN.{length, getD, length-set}
-use Rattle.pairs.specs.Pairs.{idAt}
+use Rattle.pairs.specs.parts.GroupNumbers.{idAt}
 use Rattle.pairs.proofs.IdLaws.{ids-more}
 use Rattle.pairs.proofs.ids.Statement.{statement}
 use Rattle.pairs.proofs.ids.Tie as tie

@@ -1,6 +1,6 @@
 -- `pairs::named` meets its contract.
 use borrow.Author.Needs.{needs}
-use Rattle.pairs.specs.Pairs.{namedBy}
+use Rattle.pairs.specs.parts.GroupNumbers.{namedBy}
 use Rattle.pairs.proofs.named.Statement.{statement}
 use Rattle.pairs.proofs.named.Tie as tie
 

@@ -1,6 +1,6 @@
 -- `pairs::slot` meets its contract.
 use borrow.Author.Needs.{needs}
-use Rattle.pairs.specs.Pairs.{slotOf}
+use Rattle.pairs.specs.parts.GroupNumbers.{slotOf}
 use Rattle.pairs.proofs.slot.Statement.{statement}
 use Rattle.pairs.proofs.slot.Tie as tie
 

@@ -9,7 +9,7 @@ use lib.ListN.{length, take}
 use Rattle.fields.proofs.BoolLaws.{or-both}
 use Rattle.streams.specs.declared.output.Output.{Output}
 use Rattle.replay.specs.declared.Tells.{Tells}
-use Rattle.replay.specs.Reading.{Waits}
+use Rattle.replay.specs.parts.Pieces.{Waits}
 use Rattle.replay.proofs.ReadingLaws.{Reading, reading-start, waits-start, reading-kept, reading-more, input-ended, piece-ended}
 use Rattle.replay.proofs.read_all.Statement.{statement}
 use Rattle.replay.proofs.read_all.Tie as tie

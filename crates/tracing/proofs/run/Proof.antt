@@ -5,7 +5,7 @@ use Prim.Native.Nat.{ℕ, _-_, _≤_}
 use mathlib.Core.Path.{_≡_, refl, _∙_}
 use mathlib.Core.List.{List}
 use lib.ListN.{length}
-use Rattle.tracing.specs.Tracing.{Traces}
+use Rattle.tracing.specs.parts.Tracing.{Traces}
 use Rattle.tracing.proofs.RunLines.{traces-start, traces-left, traces-full, traces-fits, traces-on}
 use Rattle.tracing.proofs.run.Statement.{statement}
 use Rattle.tracing.proofs.run.Tie as tie

@@ -1,9 +1,9 @@
 -- `engine::file_groups::turn` meets its contract.
 use mathlib.Core.Path.{refl, sym, ap, _∙_}
 use native.Mathlib.Omega.{arith}
-use Rattle.ledger.specs.Books.{headerOf}
+use Rattle.ledger.specs.parts.Places.{headerOf}
 use Rattle.words.specs.Layout.{ledgerOf}
-use Rattle.file.specs.Walk.{groupAt}
+use Rattle.file.specs.parts.Walk.{groupAt}
 use Rattle.group.proofs.GroupWalk.{turn-calm, turn-on}
 use Rattle.engine.proofs.WordCalls.{found-is, slot-is, turned-here}
 use borrow.Author.Needs.{needs}

@@ -5,9 +5,9 @@ use mathlib.Core.List.{List}
 use native.Mathlib.Omega.{arith}
 use Rattle.fields.specs.Put.{put}
 use Rattle.file.specs.File.{leading}
-use Rattle.file.specs.Walk.{after, groupAt}
+use Rattle.file.specs.parts.Walk.{after, groupAt}
 use Rattle.file.proofs.FileLaws.{header-is, length-details}
-use Rattle.group.specs.Turns.{answerAt, recordsBy}
+use Rattle.group.specs.parts.Turns.{answerAt, recordsBy}
 use Rattle.group.proofs.AnswerSizes.{details-are}
 use borrow.Author.Needs.{needs}
 use Rattle.group.proofs.answer.write_answer.Statement.{statement}

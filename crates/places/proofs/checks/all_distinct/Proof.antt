@@ -10,7 +10,7 @@ use Rattle.fields.proofs.BoolLaws.{and-right}
 use Rattle.ledger.specs.declared.Identity.{Identity}
 use Rattle.ledger.specs.Sound.{holdsId, distinct}
 use Rattle.words.specs.Layout.{ledgerOf}
-use Rattle.places.specs.Slots.{slots, slotOf}
+use Rattle.places.specs.parts.Slots.{slots, slotOf}
 use Rattle.places.proofs.PartLaws.{places-of}
 use Rattle.places.proofs.DistinctLaws.{Noted, noted-more, none-before, distinct-good, distinct-bad}
 use Rattle.places.proofs.checks.all_distinct.Statement.{statement}

@@ -1,5 +1,5 @@
 -- `places::checks::slot` meets its contract.
-use Rattle.places.specs.Slots.{slotOf}
+use Rattle.places.specs.parts.Slots.{slotOf}
 use borrow.Author.Needs.{needs}
 use Rattle.places.proofs.checks.slot.Statement.{statement}
 use Rattle.places.proofs.checks.slot.Tie as tie

@@ -1,7 +1,7 @@
 -- `places::place::update` meets its contract.
 use mathlib.Core.Path.{_≡_, ap, _∙_}
 use Rattle.ledger.specs.declared.Ledger.{Ledger}
-use Rattle.ledger.specs.Books.{withHeader}
+use Rattle.ledger.specs.parts.Places.{withHeader}
 use borrow.Author.Needs.{needs}
 use Rattle.places.proofs.place.update.Statement.{statement}
 use Rattle.places.proofs.place.update.Tie as tie

@@ -6,11 +6,10 @@ use mathlib.Core.List.{List, [], _++_}
 use lib.Dec.{ltb}
 use lib.ListN.{length, drop}
 use Rattle.fields.specs.Put.{put, part}
-use Rattle.ledger.specs.declared.Ledger.{Ledger}
-use Rattle.ledger.specs.Books.{book, emptyLedger}
+use Rattle.ledger.specs.Books.{book}
 use Rattle.ledger.specs.Sound.{soundLedger}
 use Rattle.words.specs.Layout.{ledgerOf}
-use Rattle.group.specs.Turns.{said}
+use Rattle.group.specs.parts.Turns.{said}
 use Rattle.journal.specs.Journal.{Entry, Parsed, parse, makes}
 use Rattle.journal.specs.Made.{madeAll, noticesOf}
 use Rattle.journal.specs.declared.Body.{Body}
@@ -53,7 +52,3 @@ pub record RanIn (seen : ℕ) (writes : Bool) (src ws₀ out₀ ws out : List �
   pub within : writes ≡ true → r .written ≤ length out₀
   pub full : r .full ≡ (writes && ltb (length out₀ - r .written) 64200)
   pub rest : NoneLeft src r
-
--- the ledger before the first entry
-abbrev pub firstLedger : Ledger
-firstLedger = emptyLedger (record { 0 = 19000101 }) 1 1

@@ -15,11 +15,12 @@ use Rattle.ledger.specs.declared.Found.{Found}
 use Rattle.ledger.specs.declared.Found.the-variants as found
 use Rattle.ledger.specs.Bills.{chargeOf, posting}
 use Rattle.ledger.specs.Lists.{every, count}
-use Rattle.ledger.specs.Books.{book, live, stored, placeOf, billAt, headerOf, updated, slotOf, totalOf, billCharge, smallCharge}
+use Rattle.ledger.specs.Books.{book, live, stored, placeOf, totalOf, billCharge, smallCharge}
+use Rattle.ledger.specs.parts.Places.{billAt, headerOf, updated, slotOf}
 use Rattle.records.specs.Limits.{fileRecords, fileSize}
 use Rattle.records.specs.Layout.{accountIn, keyIn, recordAt}
 use Rattle.file.specs.File.{Group, asksId}
-use Rattle.file.specs.Walk.{groupAt}
+use Rattle.file.specs.parts.Walk.{groupAt}
 use Rattle.verdict.specs.declared.Sought.{Sought}
 use Rattle.verdict.specs.declared.Sought.the-variants as sought
 use Rattle.verdict.specs.declared.Verdict.{Verdict}

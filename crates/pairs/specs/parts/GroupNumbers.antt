@@ -8,7 +8,7 @@ use Rattle.records.specs.Layout.{recordAt, accountIn, keyIn}
 use Rattle.file.specs.declared.Form.{Form}
 use Rattle.file.specs.declared.Form.the-variants.{Broken, Unknown, Response, Supplement}
 use Rattle.file.specs.File.{isHeader, Group, detailOf, formOf}
-use Rattle.file.specs.Walk.{groupAt}
+use Rattle.file.specs.parts.Walk.{groupAt}
 
 -- 0 for a group that fails line 1 or 2
 abbrev pub codeNumber : Form → ℕ

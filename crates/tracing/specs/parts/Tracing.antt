@@ -19,7 +19,7 @@ use Rattle.journal.specs.Entries.{headOf}
 use Rattle.journal.specs.Journal.{Entry}
 use Rattle.journal.specs.Made.{madeIn, writtenIn}
 use Rattle.entries.specs.declared.run.Ran.{Ran}
-use Rattle.entries.specs.Running.{entryAt, FirstMade, NoneLeft}
+use Rattle.entries.specs.parts.Running.{entryAt, FirstMade, NoneLeft}
 use Rattle.trace_lines.specs.Trace.{entryLines, traceLines}
 use Rattle.tracing.specs.declared.Traced.{Traced}
 use Rattle.tracing.specs.declared.Traced.the-variants as traced

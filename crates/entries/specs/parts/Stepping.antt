@@ -6,7 +6,7 @@ use mathlib.Core.List.{List}
 use Rattle.fields.specs.Put.{put, part}
 use Rattle.ledger.specs.Sound.{soundLedger}
 use Rattle.words.specs.Layout.{ledgerOf}
-use Rattle.group.specs.Turns.{said}
+use Rattle.group.specs.parts.Turns.{said}
 use Rattle.calls.specs.declared.Answer.{Answer}
 use Rattle.journal.specs.declared.Body.{Body}
 use Rattle.journal.specs.declared.Head.{Head}

@@ -3,7 +3,8 @@ use Prim.Native.Nat.{_<_}
 use mathlib.Core.Path.{_≡_}
 use Rattle.ledger.specs.declared.Identity.{Identity}
 use Rattle.ledger.specs.declared.Ledger.{Ledger}
-use Rattle.ledger.specs.Books.{live, placeOf, headerOf, billAt, slotOf}
+use Rattle.ledger.specs.Books.{live, placeOf}
+use Rattle.ledger.specs.parts.Places.{headerOf, billAt, slotOf}
 use Rattle.bill_calls.specs.declared.Standing.{Standing}
 
 -- the ledger but for its bills, the place of the bill with this identity if it has one, the place that this bill has or gets, and what stands there
