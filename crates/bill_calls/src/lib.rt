@@ -14,12 +14,12 @@ use calls::Called;
 use calls::carried_out;
 use causes::Request;
 use ledger::Bill;
-use ledger::Found;
 use ledger::Identity;
 use ledger::Ledger;
 use ledger::LedgerHeader;
+use rules::Check;
+use rules::Found;
 use units::Cents;
-use verdict::Check;
 
 // What a call reads of a ledger: the ledger but for its bills, the place of its bill if it has one, the place that its bill has or gets, and what stands there.
 struct Standing {

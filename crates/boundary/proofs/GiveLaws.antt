@@ -15,8 +15,8 @@ use Rattle.fields.proofs.PutLaws.{put-nil}
 use Rattle.ledger.specs.Sound.{soundLedger}
 use Rattle.words.specs.Layout.{holdsLedger, ledgerWords, ledgerOf}
 use Rattle.words.proofs.WordLaws.{words-ledger, sound-holds}
-use Rattle.verdict.specs.declared.Check.{Check}
-use Rattle.verdict.specs.declared.Check.the-variants.{Clear, Stop}
+use Rattle.rules.specs.declared.Check.{Check}
+use Rattle.rules.specs.declared.Check.the-variants.{Clear, Stop}
 use Rattle.units.specs.declared.Date.{Date}
 use Rattle.ledger.specs.declared.Identity.{Identity}
 use Rattle.causes.specs.declared.Request.{Request}

@@ -13,21 +13,21 @@ use Rattle.ledger.specs.declared.Identity.{Identity}
 use Rattle.ledger.specs.declared.Bill.{Bill}
 use Rattle.ledger.specs.declared.Ledger.{Ledger}
 use Rattle.ledger.specs.declared.LedgerHeader.{LedgerHeader}
-use Rattle.ledger.specs.declared.Found.{Found}
-use Rattle.ledger.specs.declared.Found.the-variants.{At, Nothing}
-use Rattle.ledger.specs.Lists.{update}
+use Rattle.rules.specs.declared.Found.{Found}
+use Rattle.rules.specs.declared.Found.the-variants.{At, Nothing}
+use Rattle.rules.specs.Lists.{update}
 use Rattle.ledger.specs.Bills.{renewed, cancelledBill, blankBill}
 use Rattle.ledger.specs.Books.{Book, book, live, stored, ofId, placeOf, termsIn, billCharge, totalOf}
 use Rattle.ledger.specs.parts.Places.{billAt, headerOf, updated, slotOf}
 use Rattle.ledger.specs.Sound.{holdsId, soundBill, soundLedger}
 use Rattle.ledger.proofs.BookLaws.{live-appended, live-replaced, length-live, difference}
-use Rattle.ledger.proofs.ListLaws.{sum-append}
+use Rattle.rules.proofs.ListLaws.{sum-append}
 use Rattle.ledger.proofs.SoundLaws.{TermsFacts, terms-facts, bill-terms, bill-small, book-facts, ledger-book, ledger-count}
-use Rattle.verdict.specs.declared.Check.{Check}
-use Rattle.verdict.specs.declared.Check.the-variants.{Clear, Stop}
+use Rattle.rules.specs.declared.Check.{Check}
+use Rattle.rules.specs.declared.Check.the-variants.{Clear, Stop}
 use Rattle.verdict.specs.declared.Sought.{Sought}
 use Rattle.verdict.specs.declared.Sought.the-variants as sought
-use Rattle.verdict.specs.Rules.{first}
+use Rattle.rules.specs.Rules.{first}
 use Rattle.verdict.specs.Lines.{isNothing}
 use Rattle.notices.proofs.NoticeLaws.{length-bil, length-cxl}
 use Rattle.group.specs.Groups.{soughtIn}

@@ -13,13 +13,13 @@ use Rattle.fields.proofs.BoolLaws.{and-left, and-right}
 use Rattle.units.specs.declared.Date.{Date}
 use Rattle.units.specs.Calendar.{isDate}
 use Rattle.ledger.specs.declared.Ledger.{Ledger}
-use Rattle.ledger.specs.Lists.{count}
+use Rattle.rules.specs.Lists.{count}
 use Rattle.ledger.specs.Books.{book, live, totalOf}
 use Rattle.ledger.specs.Sound.{isNext, distinct, soundLedger}
-use Rattle.ledger.proofs.ListLaws.{all-on, all-joined, slice-step}
+use Rattle.rules.proofs.ListLaws.{all-on, all-joined, slice-step}
 use Rattle.ledger.proofs.SoundLaws.{facts-sound}
-use Rattle.verdict.specs.declared.Check.the-variants.{Clear, Stop}
-use Rattle.verdict.specs.Rules.{first}
+use Rattle.rules.specs.declared.Check.the-variants.{Clear, Stop}
+use Rattle.rules.specs.Rules.{first}
 use Rattle.group.proofs.VerdictLaws.{clear-off}
 use Rattle.groups.proofs.FileSound.{count-step}
 use Rattle.causes.specs.declared.Start.{Start}

@@ -11,7 +11,7 @@ use borrow.Author.Tests.{leb-true}
 use Rattle.fields.specs.Put.{put}
 use Rattle.fields.proofs.BoolLaws.{and-left, and-right}
 use Rattle.ledger.specs.declared.Ledger.{Ledger}
-use Rattle.ledger.specs.Lists.{every, count}
+use Rattle.rules.specs.Lists.{every, count}
 use Rattle.ledger.specs.Books.{Book, View, view, book, live, totalOf}
 use Rattle.ledger.specs.declared.Bill.{Bill}
 use Rattle.ledger.proofs.BookLaws.{difference}
@@ -27,11 +27,11 @@ use Rattle.notices.specs.declared.rej.Rej.{Rej}
 use Rattle.notices.specs.Answers.{acf, rejHeader, rejDetail, rejDetails, rej}
 use Rattle.notices.proofs.AnswerLaws.{length-acf, length-rej-header, length-rej-detail}
 use Rattle.file.specs.File.{records, goodRecord, headed, goodFile, isHeader, Group, leading, groups, fileGroups, asksId}
-use Rattle.verdict.specs.declared.Check.{Check}
-use Rattle.verdict.specs.declared.Check.the-variants.{Clear, Stop}
+use Rattle.rules.specs.declared.Check.{Check}
+use Rattle.rules.specs.declared.Check.the-variants.{Clear, Stop}
 use Rattle.verdict.specs.declared.Verdict.{Verdict}
 use Rattle.verdict.specs.declared.Verdict.the-variants.{Accepted, Rejected}
-use Rattle.verdict.specs.Rules.{first}
+use Rattle.rules.specs.Rules.{first}
 use Rattle.group.specs.declared.Tally.{Tally}
 use Rattle.group.specs.Groups.{verdictHere, settled, answer, taken, answers}
 use Rattle.group.specs.parts.Turns.{TookBy}

@@ -14,17 +14,17 @@ use Rattle.ledger.specs.declared.Terms.{Terms}
 use Rattle.ledger.specs.declared.Bill as bill
 use Rattle.ledger.specs.declared.Posted.{Posted}
 use Rattle.ledger.specs.declared.Posted.the-variants as posted
-use Rattle.ledger.specs.Lists.{all, has, every}
+use Rattle.rules.specs.Lists.{all, has, every}
 use Rattle.ledger.specs.Bills.{isOf, isRateCode, codeBytes, renewed, cancelledBill}
 use Rattle.ledger.specs.Books.{Book, view, termsIn, ofId}
 use Rattle.ledger.specs.Sound.{soundTerms, soundAmounts, soundBill, holdsId, distinct, sound}
-use Rattle.ledger.proofs.ListLaws.{all-on, every-append}
+use Rattle.rules.proofs.ListLaws.{all-on, every-append}
 use Rattle.ledger.proofs.SoundLaws.{moved-facts, BookFacts, book-facts, facts-sound, terms-facts, facts-terms, bill-terms}
 use Rattle.file.specs.File.{fileGroups}
 use Rattle.file.proofs.WalkLaws.{has-append}
 use Rattle.verdict.specs.declared.Sought.the-variants.{Bill, Nothing}
-use Rattle.verdict.specs.declared.Check.the-variants.{Clear}
-use Rattle.verdict.specs.Rules.{first}
+use Rattle.rules.specs.declared.Check.the-variants.{Clear}
+use Rattle.rules.specs.Rules.{first}
 use Rattle.group.specs.Groups.{soughtIn}
 use Rattle.group.proofs.GroupWalk.{length-update}
 use Rattle.groups.proofs.FileSound.{bills-kept, distinct-kept, next-up, file-sound}

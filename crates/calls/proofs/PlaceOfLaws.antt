@@ -10,8 +10,8 @@ use Rattle.fields.proofs.BoolLaws.{cases}
 use Rattle.ledger.specs.declared.Identity.{Identity}
 use Rattle.ledger.specs.declared.Bill.{Bill}
 use Rattle.ledger.specs.declared.Ledger.{Ledger}
-use Rattle.ledger.specs.declared.Found.the-variants.{At, Nothing}
-use Rattle.ledger.specs.Lists.{find, has}
+use Rattle.rules.specs.declared.Found.the-variants.{At, Nothing}
+use Rattle.rules.specs.Lists.{find, has}
 use Rattle.ledger.specs.Bills.{blankBill}
 use Rattle.ledger.specs.Books.{live, ofId}
 use Rattle.ledger.specs.parts.Places.{billAt}

@@ -7,9 +7,9 @@ use Rattle.ledger.specs.declared.Ledger.{Ledger}
 use Rattle.ledger.specs.Books.{Book, book, view, stored}
 use Rattle.ledger.specs.Sound.{sound, soundLedger}
 use Rattle.ledger.proofs.SoundLaws.{book-facts, facts-sound, ledger-book}
-use Rattle.verdict.specs.declared.Check.{Check}
-use Rattle.verdict.specs.declared.Check.the-variants.{Clear, Stop}
-use Rattle.verdict.specs.Rules.{first}
+use Rattle.rules.specs.declared.Check.{Check}
+use Rattle.rules.specs.declared.Check.the-variants.{Clear, Stop}
+use Rattle.rules.specs.Rules.{first}
 use Rattle.group.proofs.GroupWalk.{book-stored}
 use Rattle.causes.specs.Causes.{Call, causes}
 use Rattle.calls.specs.Machine.{cause, next, Outcome, outcome, step, after, outcomes, causeIn, stepIn, leftBy, answerBy, called, ran, eachCalled, Runs}

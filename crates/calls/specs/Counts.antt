@@ -6,7 +6,7 @@ use lib.ListN.{length}
 use Rattle.ledger.specs.declared.Ledger.{Ledger}
 use Rattle.ledger.specs.Books.{Book}
 use Rattle.file.specs.File.{fileGroups}
-use Rattle.verdict.specs.declared.Check.the-variants.{Clear}
+use Rattle.rules.specs.declared.Check.the-variants.{Clear}
 use Rattle.causes.specs.Causes.{file}
 use Rattle.calls.specs.declared.Returned.{Returned}
 use Rattle.calls.specs.declared.Answer.the-variants.{Done}

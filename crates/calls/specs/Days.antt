@@ -3,9 +3,9 @@ use Prim.Native.Nat.{ℕ}
 use lib.IntN.{pos}
 use Rattle.ledger.specs.declared.Ledger.{Ledger}
 use Rattle.ledger.specs.Books.{emptyLedger}
-use Rattle.verdict.specs.declared.Check.{Check}
-use Rattle.verdict.specs.declared.Check.the-variants.{Clear, Stop}
-use Rattle.verdict.specs.Rules.{first}
+use Rattle.rules.specs.declared.Check.{Check}
+use Rattle.rules.specs.declared.Check.the-variants.{Clear, Stop}
+use Rattle.rules.specs.Rules.{first}
 use Rattle.causes.specs.declared.Start.{Start}
 use Rattle.calls.specs.declared.Called.{Called}
 use Rattle.calls.specs.declared.Answer.{Answer}

@@ -8,16 +8,16 @@ use lib.IntN.{ℤ, pos, _-ℤ_}
 use Rattle.ledger.specs.declared.Identity.{Identity}
 use Rattle.ledger.specs.declared.Bill.{Bill}
 use Rattle.ledger.specs.declared.Ledger.{Ledger}
-use Rattle.ledger.specs.Lists.{count, update}
+use Rattle.rules.specs.Lists.{count, update}
 use Rattle.ledger.specs.Bills.{renewed, cancelledBill, blankBill}
 use Rattle.ledger.specs.Books.{Book, book, view, stored, ofId, totalOf}
 use Rattle.ledger.specs.Sound.{holdsId, sound, soundLedger}
 use Rattle.notices.specs.Notices.{bil, cxl}
 use Rattle.file.specs.File.{fileGroups}
-use Rattle.verdict.specs.declared.Check.{Check}
-use Rattle.verdict.specs.declared.Check.the-variants.{Clear, Stop}
+use Rattle.rules.specs.declared.Check.{Check}
+use Rattle.rules.specs.declared.Check.the-variants.{Clear, Stop}
 use Rattle.verdict.specs.declared.Verdict.{Verdict}
-use Rattle.verdict.specs.Rules.{first}
+use Rattle.rules.specs.Rules.{first}
 use Rattle.group.specs.Groups.{taken, answers, verdicts, isAccepted, isRejected}
 use Rattle.causes.specs.declared.Start.{Start}
 use Rattle.causes.specs.declared.Request.{Request}

@@ -2,7 +2,7 @@
 ghost use mathlib.Core.Path.{_≡_};
 ghost use mathlib.Core.Bool.{true, cond};
 ghost use Prim.Native.Nat.{_≤_};
-ghost use Rattle.ledger.specs.Lists.{count};
+ghost use Rattle.rules.specs.Lists.{count};
 ghost use Rattle.ledger.specs.Books.{live};
 ghost use Rattle.ledger.specs.Sound.{soundLedger};
 ghost use Rattle.causes.specs.Causes.{close};
@@ -15,8 +15,8 @@ use crate::carried_out;
 use causes::Start;
 use causes::checks;
 use ledger::Ledger;
+use rules::Check;
 use units::Date;
-use verdict::Check;
 
 // Begins a history: whatever the ledger held is gone.
 pub fn fresh(l: Ledger, s: Start) -> Called

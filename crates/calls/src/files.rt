@@ -10,7 +10,7 @@ use crate::Answer;
 use crate::Called;
 use crate::carried_out;
 use ledger::Ledger;
-use verdict::Check;
+use rules::Check;
 
 // Takes a supplier file on a ledger that is known to be sound.
 fn file_on_sound(l: Ledger, out: &mut [u8], s: &[u8]) -> Called

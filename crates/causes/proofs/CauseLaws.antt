@@ -12,16 +12,16 @@ use Rattle.units.specs.Calendar.{isDate}
 use Rattle.ledger.specs.declared.Identity.{Identity}
 use Rattle.ledger.specs.declared.Terms.{Terms}
 use Rattle.ledger.specs.declared.Bill as bill
-use Rattle.ledger.specs.declared.Found.{Found}
-use Rattle.ledger.specs.declared.Found.the-variants as found
+use Rattle.rules.specs.declared.Found.{Found}
+use Rattle.rules.specs.declared.Found.the-variants as found
 use Rattle.group.specs.parts.Turns.{soughtBy}
 use Rattle.causes.specs.parts.Decisions.{SoundAt, CanRenew}
-use Rattle.ledger.specs.Lists.{all, count}
+use Rattle.rules.specs.Lists.{all, count}
 use Rattle.file.specs.File.{goodFile, fileGroups, asksId}
 use Rattle.verdict.specs.declared.Sought.{Sought}
 use Rattle.verdict.specs.declared.Sought.the-variants.{Bill, Nothing}
-use Rattle.verdict.specs.declared.Check.the-variants.{Clear}
-use Rattle.verdict.specs.Rules.{first}
+use Rattle.rules.specs.declared.Check.the-variants.{Clear}
+use Rattle.rules.specs.Rules.{first}
 use Rattle.verdict.specs.Lines.{isNothing, termsOf}
 use Rattle.group.proofs.VerdictLaws.{clear-off}
 use Rattle.causes.specs.declared.Request.{Request}

@@ -9,14 +9,14 @@ use lib.ListN.{length, take}
 use borrow.Author.Tests.{leb-true}
 use Rattle.fields.proofs.BoolLaws.{and-left, and-right}
 use Rattle.units.specs.Calendar.{isDate}
-use Rattle.ledger.specs.Lists.{every, count}
-use Rattle.ledger.proofs.ListLaws.{all-joined}
+use Rattle.rules.specs.Lists.{every, count}
+use Rattle.rules.proofs.ListLaws.{all-joined}
 use Rattle.records.specs.Layout.{recordsFrom}
 use Rattle.records.proofs.LayoutLaws.{length-records}
 use Rattle.file.specs.File.{records, goodRecord, headed, goodFile, isHeader, Group, leading, groups, fileGroups, asksId}
-use Rattle.verdict.specs.declared.Check.{Check}
-use Rattle.verdict.specs.declared.Check.the-variants.{Clear, Stop}
-use Rattle.verdict.specs.Rules.{first}
+use Rattle.rules.specs.declared.Check.{Check}
+use Rattle.rules.specs.declared.Check.the-variants.{Clear, Stop}
+use Rattle.rules.specs.Rules.{first}
 use Rattle.causes.specs.declared.Start.{Start}
 use Rattle.causes.specs.Causes.{isNumber, startTests, lacks, freshCauses, fileCauses}
 

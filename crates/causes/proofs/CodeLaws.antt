@@ -7,7 +7,7 @@ use Rattle.fields.specs.Digits.{isDigit}
 use Rattle.fields.specs.Put.{sameList}
 use Rattle.ledger.specs.declared.RateCode.{RateCode}
 use Rattle.ledger.specs.Bills.{isLetter, isRateCode, codeBytes}
-use Rattle.ledger.proofs.ListLaws.{all-joined}
+use Rattle.rules.proofs.ListLaws.{all-joined}
 use Rattle.causes.specs.declared.CodeField.{CodeField}
 use Rattle.causes.specs.Causes.{fiveOf}
 use Rattle.causes.specs.Requests.{codeOf}

@@ -11,13 +11,13 @@ use Rattle.units.specs.Units.{fitsCcf}
 use Rattle.units.specs.Calendar.{isDate}
 use Rattle.ledger.specs.declared.Identity.{Identity}
 use Rattle.ledger.specs.declared.Product.the-variants as product
-use Rattle.ledger.specs.Lists.{count, all}
+use Rattle.rules.specs.Lists.{count, all}
 use Rattle.ledger.specs.Bills.{isRateCode, codeBytes, productByte}
 use Rattle.ledger.specs.Books.{View}
 use Rattle.file.specs.File.{goodFile, fileGroups, asksId}
 use Rattle.verdict.specs.declared.Sought.{Sought}
 use Rattle.verdict.specs.declared.Sought.the-variants.{Bill, Nothing}
-use Rattle.verdict.specs.Rules.{Rule, rule}
+use Rattle.rules.specs.Rules.{Rule, rule}
 use Rattle.verdict.specs.Lines.{isNothing, termsOf}
 use Rattle.group.specs.Groups.{soughtIn}
 use Rattle.causes.specs.declared.Start.{Start}

@@ -3,9 +3,9 @@ ghost use mathlib.Core.Path.{_≡_};
 ghost use mathlib.Core.Bool.{cond};
 ghost use Prim.Native.Nat.{_≤_};
 ghost use Rattle.fields.specs.Put.{sameList};
-ghost use Rattle.ledger.specs.Lists.{all};
+ghost use Rattle.rules.specs.Lists.{all};
 ghost use Rattle.ledger.specs.Bills.{isRateCode, codeBytes};
-ghost use Rattle.verdict.specs.Rules.{first};
+ghost use Rattle.rules.specs.Rules.{first};
 ghost use Rattle.causes.specs.Causes.{isNumber, goodIdentity, fiveOf, isProduct, requestTests, lacks, freshCauses, billCauses, requestCauses, fileCauses, cancelCauses, closeCauses};
 ghost use Rattle.causes.specs.Requests.{codeOf, closes};
 use crate::CodeField;
@@ -14,8 +14,8 @@ use crate::Start;
 use ledger::Bill;
 use ledger::Identity;
 use ledger::RateCode;
+use rules::Check;
 use units::Date;
-use verdict::Check;
 use verdict::Sought;
 
 // Whether t Tracking IDs and c Confirmation Numbers are more than are left.

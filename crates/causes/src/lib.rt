@@ -4,9 +4,9 @@ pub mod checks;
 
 use ledger::Identity;
 use ledger::Update;
+use rules::Check;
 use units::Ccf;
 use units::Date;
-use verdict::Check;
 
 // What fresh takes.
 pub struct Start {

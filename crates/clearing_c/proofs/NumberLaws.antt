@@ -9,14 +9,14 @@ use lib.ListN.{length}
 use borrow.Author.Tests.{leb-true}
 use Rattle.fields.proofs.BoolLaws.{and-both}
 use Rattle.ledger.specs.declared.Ledger.{Ledger}
-use Rattle.ledger.specs.Lists.{every}
+use Rattle.rules.specs.Lists.{every}
 use Rattle.ledger.specs.Books.{View, book, view}
 use Rattle.ledger.specs.Sound.{soundLedger}
-use Rattle.verdict.specs.declared.Check.{Check}
-use Rattle.verdict.specs.declared.Check.the-variants.{Clear, Stop}
+use Rattle.rules.specs.declared.Check.{Check}
+use Rattle.rules.specs.declared.Check.the-variants.{Clear, Stop}
 use Rattle.verdict.specs.declared.Sought.{Sought}
 use Rattle.verdict.specs.declared.Sought.the-variants.{Bill, Nothing}
-use Rattle.verdict.specs.Rules.{Rule, rule, first}
+use Rattle.rules.specs.Rules.{Rule, rule, first}
 use Rattle.group.specs.Groups.{soughtIn}
 use Rattle.calls.specs.declared.Answer.the-variants.{Refused}
 use Rattle.causes.specs.declared.Request.{Request}

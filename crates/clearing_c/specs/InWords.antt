@@ -9,9 +9,9 @@ use lib.IntN.{ℤ, pos, _+ℤ_}
 use Rattle.fields.specs.Put.{part, put}
 use Rattle.ledger.specs.Books.{book}
 use Rattle.words.specs.Layout.{ledgerOf}
-use Rattle.verdict.specs.declared.Check.{Check}
-use Rattle.verdict.specs.declared.Check.the-variants.{Clear, Stop}
-use Rattle.verdict.specs.Rules.{first}
+use Rattle.rules.specs.declared.Check.{Check}
+use Rattle.rules.specs.declared.Check.the-variants.{Clear, Stop}
+use Rattle.rules.specs.Rules.{first}
 use Rattle.causes.specs.declared.Start.{Start}
 use Rattle.causes.specs.Causes.{Call, freshCauses}
 use Rattle.calls.specs.Machine.{Outcome, total, outcomes, called, stepIn, ran}

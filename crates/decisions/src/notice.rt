@@ -7,10 +7,10 @@ ghost use Rattle.fields.specs.Put.{put};
 ghost use Rattle.group.specs.parts.Turns.{said};
 ghost use Rattle.causes.specs.parts.Decisions.{previousBy, bilBy, cxlBy};
 use ledger::Bill;
-use ledger::Found;
 use ledger::LedgerHeader;
 use notices::bil::Bil;
 use notices::cxl::Cxl;
+use rules::Found;
 use units::Ccf;
 
 // The consumption before a request.

@@ -1,7 +1,7 @@
 // What a request and a cancel leave of the bill at their place.
 ghost use mathlib.Core.Path.{_≡_};
 ghost use Prim.Native.Nat.{_≤_};
-ghost use Rattle.verdict.specs.Rules.{first};
+ghost use Rattle.rules.specs.Rules.{first};
 ghost use Rattle.group.specs.parts.Turns.{soughtBy};
 ghost use Rattle.causes.specs.Causes.{requestCauses, cancelCauses};
 ghost use Rattle.causes.specs.Requests.{productOf, latestOf, newBill};
@@ -10,13 +10,13 @@ use causes::Decision;
 use causes::Request;
 use causes::checks;
 use ledger::Bill;
-use ledger::Found;
 use ledger::Identity;
 use ledger::Latest;
 use ledger::LedgerHeader;
 use ledger::Product;
 use ledger::Update;
-use verdict::Check;
+use rules::Check;
+use rules::Found;
 
 // The product that a byte holds.
 fn product_of(x: u8) -> Product

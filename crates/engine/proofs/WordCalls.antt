@@ -12,8 +12,8 @@ use Rattle.ledger.specs.declared.Bill.{Bill}
 use Rattle.ledger.specs.declared.Identity.{Identity}
 use Rattle.ledger.specs.declared.Ledger.{Ledger}
 use Rattle.ledger.specs.declared.LedgerHeader.{LedgerHeader}
-use Rattle.ledger.specs.declared.Found.{Found}
-use Rattle.ledger.specs.Lists.{find, count}
+use Rattle.rules.specs.declared.Found.{Found}
+use Rattle.rules.specs.Lists.{find, count}
 use Rattle.ledger.specs.Books.{live, ofId, placeOf}
 use Rattle.ledger.specs.parts.Places.{headerOf, withHeader, slotOf}
 use Rattle.ledger.specs.Sound.{soundLedger}
@@ -21,9 +21,9 @@ use Rattle.ledger.proofs.SoundLaws.{ledger-count}
 use Rattle.words.specs.Layout.{holdsLedger, ledgerOf}
 use Rattle.places.proofs.PartLaws.{places-of}
 use Rattle.words.proofs.WordLaws.{sound-holds}
-use Rattle.verdict.specs.declared.Check.{Check}
-use Rattle.verdict.specs.declared.Check.the-variants.{Clear, Stop}
-use Rattle.verdict.specs.Rules.{first}
+use Rattle.rules.specs.declared.Check.{Check}
+use Rattle.rules.specs.declared.Check.the-variants.{Clear, Stop}
+use Rattle.rules.specs.Rules.{first}
 use Rattle.file.specs.File.{Group}
 use Rattle.group.specs.declared.Tally.{Tally}
 use Rattle.group.specs.declared.Turned.{Turned}

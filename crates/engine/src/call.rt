@@ -3,7 +3,7 @@ ghost use mathlib.Core.Path.{_≡_};
 ghost use mathlib.Core.Bool.{true};
 ghost use Prim.Native.Nat.{_+_, _≤_};
 ghost use lib.ListN.{length, take};
-ghost use Rattle.ledger.specs.Lists.{count};
+ghost use Rattle.rules.specs.Lists.{count};
 ghost use Rattle.ledger.specs.Sound.{soundLedger};
 ghost use Rattle.words.specs.Layout.{holdsLedger, ledgerOf};
 ghost use Rattle.causes.specs.Causes.{request, cancel, close, file};
@@ -22,9 +22,9 @@ use decisions::requests;
 use ledger::Identity;
 use ledger::LedgerHeader;
 use places::place;
+use rules::Check;
 use units::Cents;
 use units::Date;
-use verdict::Check;
 
 // The call request.
 pub fn request_in(ws: &mut [u64], out: &mut [u8], writes: bool, room: usize, r: Request) -> Answer

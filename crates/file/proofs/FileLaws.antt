@@ -10,8 +10,8 @@ use lib.ListN.{length, getD, take}
 use lib.Dec.{leb}
 use lib.Seq.{length-take-le, take-suc}
 use borrow.Author.Tests.{eq-eqb, ne-eqb}
-use Rattle.ledger.specs.Lists.{every, count}
-use Rattle.ledger.proofs.ListLaws.{every-append}
+use Rattle.rules.specs.Lists.{every, count}
+use Rattle.rules.proofs.ListLaws.{every-append}
 use Rattle.records.specs.Layout.{recordAt, recordsFrom, isRsp, isSup}
 use Rattle.records.proofs.LayoutLaws.{records-step, records-end, length-records}
 use Rattle.file.specs.declared.Form.the-variants.{Broken, Unknown, Response, Supplement}

@@ -9,7 +9,7 @@ use native.Mathlib.Nat.{not-suc-le-zero}
 use native.Mathlib.Decide.{decLe}
 use lib.ListN.{take, drop}
 use Rattle.fields.specs.Put.{part}
-use Rattle.ledger.specs.Lists.{has}
+use Rattle.rules.specs.Lists.{has}
 use Rattle.records.specs.Layout.{recordAt, recordsFrom}
 use Rattle.records.proofs.LayoutLaws.{lent-record}
 use Rattle.file.specs.File.{isHeader, Group, groups}

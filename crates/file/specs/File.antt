@@ -7,7 +7,7 @@ use lib.ListN.{length, getD, take}
 use Rattle.fields.specs.Text.{text}
 use Rattle.fields.specs.Digits.{numeric}
 use Rattle.fields.specs.Put.{positions, sameList}
-use Rattle.ledger.specs.Lists.{every, has}
+use Rattle.rules.specs.Lists.{every, has}
 use Rattle.records.specs.Limits.{recordSize, fileSize}
 use Rattle.records.specs.Layout.{recordsFrom, companyIn, accountIn, typeIn, noticeIn, recordCountIn, keyIn, isRsp, isSup}
 use Rattle.file.specs.declared.Form.{Form}

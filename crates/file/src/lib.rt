@@ -2,7 +2,7 @@
 ghost use mathlib.Core.Path.{_≡_};
 ghost use Prim.Native.Nat.{_+_, _*_, _≤_, _<_};
 ghost use lib.ListN.{length, take};
-ghost use Rattle.ledger.specs.Lists.{every, count};
+ghost use Rattle.rules.specs.Lists.{every, count};
 ghost use Rattle.records.specs.Limits.{recordSize};
 ghost use Rattle.records.specs.Layout.{recordAt, recordsFrom, isSup};
 ghost use Rattle.file.specs.File.{printable, isHeader, goodRecord, goodFile, leading, groups, asksId, unfit, formOf};

@@ -10,9 +10,9 @@ use Rattle.records.specs.Layout.{isRsp}
 use Rattle.file.specs.declared.Form.{Form}
 use Rattle.file.specs.declared.Form.the-variants.{Broken, Unknown, Response, Supplement}
 use Rattle.file.specs.File.{Group, detailOf, line1, line2, formOf}
-use Rattle.verdict.specs.declared.Check.the-variants.{Stop}
+use Rattle.rules.specs.declared.Check.the-variants.{Stop}
 use Rattle.verdict.specs.declared.Verdict.the-variants.{Rejected}
-use Rattle.verdict.specs.Rules.{Rule, rule, first}
+use Rattle.rules.specs.Rules.{Rule, rule, first}
 use Rattle.verdict.specs.Lines.{termsOf, lines4to10, amountsOf, settle}
 use Rattle.group.specs.Groups.{sought, kindOf, verdictOn, verdictBy}
 use Rattle.group.specs.Forms.{formCode, FormCoded}

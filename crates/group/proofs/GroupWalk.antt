@@ -12,9 +12,9 @@ use Rattle.fields.proofs.BoolLaws.{and-left, and-right}
 use Rattle.ledger.specs.declared.Bill.{Bill}
 use Rattle.ledger.specs.declared.Ledger.{Ledger}
 use Rattle.ledger.specs.declared.LedgerHeader.{LedgerHeader}
-use Rattle.ledger.specs.declared.Found.{Found}
+use Rattle.rules.specs.declared.Found.{Found}
 use Rattle.ledger.specs.declared.Identity.{Identity}
-use Rattle.ledger.specs.Lists.{every, count, update}
+use Rattle.rules.specs.Lists.{every, count, update}
 use Rattle.ledger.specs.Bills.{posting}
 use Rattle.ledger.specs.Books.{Book, book, live, view, ofId, placeOf, totalOf, stored}
 use Rattle.ledger.specs.parts.Places.{billAt, headerOf, updated, slotOf}

@@ -11,13 +11,13 @@ use Rattle.fields.proofs.BoolLaws.{cases}
 use Rattle.ledger.specs.declared.Identity.{Identity}
 use Rattle.ledger.specs.declared.Bill.{Bill}
 use Rattle.ledger.specs.declared.Ledger.{Ledger}
-use Rattle.ledger.specs.declared.Found.{Found}
-use Rattle.ledger.specs.declared.Found.the-variants.{At, Nothing}
-use Rattle.ledger.specs.Lists.{every, find, update}
+use Rattle.rules.specs.declared.Found.{Found}
+use Rattle.rules.specs.declared.Found.the-variants.{At, Nothing}
+use Rattle.rules.specs.Lists.{every, find, update}
 use Rattle.ledger.specs.Bills.{blankBill}
 use Rattle.ledger.specs.Books.{live, ofId, placeOf, termsIn}
 use Rattle.ledger.specs.parts.Places.{billAt, within, slotOf}
-use Rattle.ledger.proofs.ListLaws.{every-at}
+use Rattle.rules.proofs.ListLaws.{every-at}
 use Rattle.verdict.specs.declared.Sought.the-variants as sought
 use Rattle.group.specs.Groups.{soughtIn}
 use Rattle.group.specs.parts.Turns.{soughtBy, calm, CalmAt}

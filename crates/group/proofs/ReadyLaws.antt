@@ -8,7 +8,7 @@ use Rattle.ledger.specs.declared.Bill.{Bill}
 use Rattle.ledger.specs.declared.Ledger.{Ledger}
 use Rattle.ledger.specs.Books.{book, live}
 use Rattle.ledger.specs.Sound.{soundBill, soundLedger}
-use Rattle.ledger.proofs.ListLaws.{every-map}
+use Rattle.rules.proofs.ListLaws.{every-map}
 use Rattle.ledger.proofs.SoundLaws.{terms-facts, bill-terms, bill-small, book-facts, ledger-book, ledger-count}
 use Rattle.group.specs.parts.Turns.{calm, Ready}
 

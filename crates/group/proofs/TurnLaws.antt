@@ -12,13 +12,13 @@ use Rattle.ledger.specs.declared.Bill.{Bill}
 use Rattle.ledger.specs.declared.Identity.{Identity}
 use Rattle.ledger.specs.declared.Ledger.{Ledger}
 use Rattle.ledger.specs.declared.Posted.{Posted}
-use Rattle.ledger.specs.declared.Found.{Found}
-use Rattle.ledger.specs.declared.Found.the-variants as found
-use Rattle.ledger.specs.Lists.{update}
+use Rattle.rules.specs.declared.Found.{Found}
+use Rattle.rules.specs.declared.Found.the-variants as found
+use Rattle.rules.specs.Lists.{update}
 use Rattle.ledger.specs.Bills.{posting, blankBill}
 use Rattle.ledger.specs.Books.{book, live, view, ofId, placeOf, stored, billCharge, totalOf}
 use Rattle.ledger.specs.parts.Places.{billAt, headerOf, updated, slotOf}
-use Rattle.ledger.proofs.ListLaws.{sum-set}
+use Rattle.rules.proofs.ListLaws.{sum-set}
 use Rattle.file.specs.File.{Group, asksId, line1}
 use Rattle.file.specs.parts.Walk.{groupAt}
 use Rattle.verdict.specs.declared.Sought.{Sought}

@@ -8,7 +8,7 @@ use Rattle.fields.specs.Put.{put}
 use Rattle.units.specs.declared.Date.{Date}
 use Rattle.ledger.specs.declared.Bill.{Bill}
 use Rattle.ledger.specs.declared.LedgerHeader.{LedgerHeader}
-use Rattle.ledger.specs.declared.Found.{Found}
+use Rattle.rules.specs.declared.Found.{Found}
 use Rattle.records.specs.Layout.{recordAt, isSup}
 use Rattle.file.specs.File.{Group, asksId}
 use Rattle.file.specs.parts.Walk.{groupAt}

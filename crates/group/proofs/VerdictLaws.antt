@@ -14,22 +14,22 @@ use Rattle.fields.proofs.HoldLaws.{small-value, length-part-le}
 use Rattle.units.specs.Units.{fitsCents}
 use Rattle.units.specs.declared.Date.{Date}
 use Rattle.ledger.specs.declared.Bill.{Bill}
-use Rattle.ledger.specs.declared.Found.{Found}
-use Rattle.ledger.specs.declared.Found.the-variants as found
+use Rattle.rules.specs.declared.Found.{Found}
+use Rattle.rules.specs.declared.Found.the-variants as found
 use Rattle.ledger.specs.declared.Posted.{Posted}
 use Rattle.ledger.specs.Bills.{isPrepay, chargeOf, posting}
 use Rattle.ledger.specs.Books.{Book, View, view, billCharge, smallCharge}
 use Rattle.records.specs.Layout.{noticeIn, sequenceIn, detailChargeIn, isRsp, isSup}
 use Rattle.file.specs.File.{Group, detailOf, asksId, line1, line2}
-use Rattle.verdict.specs.declared.Check.{Check}
-use Rattle.verdict.specs.declared.Check.the-variants.{Clear, Stop}
+use Rattle.rules.specs.declared.Check.{Check}
+use Rattle.rules.specs.declared.Check.the-variants.{Clear, Stop}
 use Rattle.verdict.specs.declared.Kind.{Kind}
 use Rattle.verdict.specs.declared.Kind.the-variants.{Supplement}
 use Rattle.verdict.specs.declared.Sought.{Sought}
 use Rattle.verdict.specs.declared.Sought.the-variants as sought
 use Rattle.verdict.specs.declared.Verdict.{Verdict}
 use Rattle.verdict.specs.declared.Verdict.the-variants.{Accepted, Rejected}
-use Rattle.verdict.specs.Rules.{Rule, rule, first}
+use Rattle.rules.specs.Rules.{Rule, rule, first}
 use Rattle.verdict.specs.Lines.{termsOf, line4, line5, line6, line7, lines8to10, sentConsumption, sentCharge, amountsOf, settle}
 use Rattle.group.specs.Groups.{sought, kindOf, linesBy, linesOn, verdictOn, verdictBy}
 use Rattle.group.specs.parts.Turns.{soughtBy, calm, CalmAt, CanPost, cameBy, wentBy}

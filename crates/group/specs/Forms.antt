@@ -8,10 +8,10 @@ use Rattle.ledger.specs.Books.{View}
 use Rattle.file.specs.declared.Form.{Form}
 use Rattle.file.specs.declared.Form.the-variants.{Broken, Unknown, Response, Supplement}
 use Rattle.file.specs.File.{Group, line1, line2, formOf}
-use Rattle.verdict.specs.declared.Check.{Check}
-use Rattle.verdict.specs.declared.Check.the-variants.{Clear, Stop}
+use Rattle.rules.specs.declared.Check.{Check}
+use Rattle.rules.specs.declared.Check.the-variants.{Clear, Stop}
 use Rattle.verdict.specs.declared.Verdict.the-variants.{Rejected}
-use Rattle.verdict.specs.Rules.{rule, first}
+use Rattle.rules.specs.Rules.{rule, first}
 use Rattle.group.specs.Groups.{verdictBy}
 
 -- "1. BR17 ..", "2. BR19: code neither RSP nor SUP."

@@ -6,7 +6,7 @@ use Rattle.fields.specs.Field.{fieldOf, value}
 use Rattle.units.specs.declared.Date.{Date}
 use Rattle.ledger.specs.declared.Identity.{Identity}
 use Rattle.ledger.specs.declared.Terms.{Terms}
-use Rattle.ledger.specs.Lists.{update}
+use Rattle.rules.specs.Lists.{update}
 use Rattle.ledger.specs.Bills.{isOf, isPrepay, posting}
 use Rattle.ledger.specs.Books.{Book, View, view, ofId}
 use Rattle.records.specs.Layout.{accountIn, keyIn, isRsp}
@@ -17,7 +17,7 @@ use Rattle.verdict.specs.declared.Sought.{Sought}
 use Rattle.verdict.specs.declared.Sought.the-variants.{Bill, Nothing}
 use Rattle.verdict.specs.declared.Verdict.{Verdict}
 use Rattle.verdict.specs.declared.Verdict.the-variants.{Accepted, Rejected}
-use Rattle.verdict.specs.Rules.{Rule, rule, first}
+use Rattle.rules.specs.Rules.{Rule, rule, first}
 use Rattle.verdict.specs.Lines.{termsOf, lines4to10, amountsOf, settle}
 use Rattle.notices.specs.Answers.{acf, rej}
 

@@ -10,7 +10,7 @@ use borrow.Author.Tests.{le-leb}
 use Rattle.fields.proofs.BoolLaws.{and-left, and-right, cases}
 use Rattle.ledger.specs.declared.Bill.{Bill}
 use Rattle.ledger.specs.declared.Identity.{Identity}
-use Rattle.ledger.specs.Lists.{every, count, update}
+use Rattle.rules.specs.Lists.{every, count, update}
 use Rattle.ledger.specs.Bills.{isOf, posting}
 use Rattle.ledger.specs.Books.{Book, view, termsIn, ofId}
 use Rattle.ledger.specs.Sound.{isNext, soundBill, holdsId, distinct, sound}

@@ -20,13 +20,13 @@ use Rattle.ledger.specs.Sound.{soundTerms, balanced, soundAmounts, soundBill}
 use Rattle.ledger.proofs.SoundLaws.{terms-facts, facts-terms, bill-terms}
 use Rattle.records.specs.Layout.{appliedIn, owedIn}
 use Rattle.file.specs.File.{Group, detailOf, asksId, line1, line2}
-use Rattle.verdict.specs.declared.Check.the-variants.{Clear}
+use Rattle.rules.specs.declared.Check.the-variants.{Clear}
 use Rattle.verdict.specs.declared.Kind.{Kind}
 use Rattle.verdict.specs.declared.Kind.the-variants.{Response, Supplement}
 use Rattle.verdict.specs.declared.Sought.{Sought}
 use Rattle.verdict.specs.declared.Sought.the-variants as sought
 use Rattle.verdict.specs.declared.Verdict.the-variants.{Accepted}
-use Rattle.verdict.specs.Rules.{first}
+use Rattle.rules.specs.Rules.{first}
 use Rattle.verdict.specs.Lines.{termsOf, line4, line5, line6, line7, line8, line9, line10, sentCharge, amountsOf}
 use Rattle.group.specs.Groups.{kindOf, sought, linesBy, verdictBy}
 use Rattle.group.proofs.VerdictLaws.{listFor, clear-off, accepted-clear, room}

@@ -12,12 +12,12 @@ use Rattle.ledger.specs.Bills.{isPrepay, isOpen, chargeOf}
 use Rattle.ledger.specs.Books.{View}
 use Rattle.records.specs.Layout.{isRsp}
 use Rattle.file.specs.File.{Group, detailOf, line1, line2}
-use Rattle.verdict.specs.declared.Check.the-variants.{Clear}
+use Rattle.rules.specs.declared.Check.the-variants.{Clear}
 use Rattle.verdict.specs.declared.Kind.{Kind}
 use Rattle.verdict.specs.declared.Kind.the-variants.{Response}
 use Rattle.verdict.specs.declared.Sought.{Sought}
 use Rattle.verdict.specs.declared.Verdict.the-variants.{Accepted}
-use Rattle.verdict.specs.Rules.{first}
+use Rattle.rules.specs.Rules.{first}
 use Rattle.verdict.specs.Lines.{isNothing, termsOf, line4, line5, line6, sentCharge, amountsOf}
 use Rattle.group.specs.Groups.{kindOf, sought, linesBy, verdictBy}
 use Rattle.group.proofs.VerdictLaws.{listFor, clear-off, accepted-clear}

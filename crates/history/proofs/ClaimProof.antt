@@ -5,15 +5,15 @@ use mathlib.Core.Bool.{Bool, true, false, false≢true}
 use mathlib.Core.List.{List, [], _∷_, _++_, map}
 use lib.IntN.{+ℤ-idl}
 use lib.ListN.{length}
-use Rattle.ledger.specs.Lists.{count}
+use Rattle.rules.specs.Lists.{count}
 use Rattle.ledger.specs.Books.{Book, View, view}
 use Rattle.ledger.proofs.SoundLaws.{book-facts, facts-sound, ledger-book}
 use Rattle.file.specs.File.{Group, fileGroups, line3}
-use Rattle.verdict.specs.declared.Check.{Check}
-use Rattle.verdict.specs.declared.Check.the-variants.{Clear, Stop}
+use Rattle.rules.specs.declared.Check.{Check}
+use Rattle.rules.specs.declared.Check.the-variants.{Clear, Stop}
 use Rattle.verdict.specs.declared.Verdict.{Verdict}
 use Rattle.verdict.specs.declared.Verdict.the-variants.{Accepted, Rejected}
-use Rattle.verdict.specs.Rules.{first}
+use Rattle.rules.specs.Rules.{first}
 use Rattle.group.specs.Groups.{settled, verdictBy, verdictHere, answers, verdicts, isAccepted}
 use Rattle.causes.specs.declared.Start.{Start}
 use Rattle.causes.specs.Causes.{Call, request, file, cancel, close, freshCauses}

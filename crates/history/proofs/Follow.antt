@@ -11,18 +11,18 @@ use Rattle.ledger.specs.declared.Bill.{Bill}
 use Rattle.ledger.specs.declared.Identity.{Identity}
 use Rattle.ledger.specs.declared.Posted.{Posted}
 use Rattle.ledger.specs.declared.Terms.{Terms}
-use Rattle.ledger.specs.Lists.{count, update}
+use Rattle.rules.specs.Lists.{count, update}
 use Rattle.ledger.specs.Bills.{isOf, renewed, posting, cancelledBill}
 use Rattle.ledger.specs.Books.{Book, view, termsIn, ofId, billCharge}
 use Rattle.ledger.specs.Sound.{holdsId}
 use Rattle.ledger.proofs.SoundLaws.{BookFacts}
 use Rattle.file.specs.File.{Group, fileGroups, detailOf, asksId, line3}
 use Rattle.file.proofs.WalkLaws.{has-append}
-use Rattle.verdict.specs.declared.Check.the-variants.{Clear}
+use Rattle.rules.specs.declared.Check.the-variants.{Clear}
 use Rattle.verdict.specs.declared.Sought.the-variants as sought
 use Rattle.verdict.specs.declared.Verdict.{Verdict}
 use Rattle.verdict.specs.declared.Verdict.the-variants.{Accepted, Rejected}
-use Rattle.verdict.specs.Rules.{first}
+use Rattle.rules.specs.Rules.{first}
 use Rattle.verdict.specs.Lines.{isNothing, sentCharge}
 use Rattle.group.specs.Groups.{identityOf, soughtIn, sought, verdictBy, settled, verdictHere, taken}
 use Rattle.groups.proofs.FileSound.{holds-kept, settled-facts, confirmation-up, tracking-up, count-step}

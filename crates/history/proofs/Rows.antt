@@ -10,17 +10,17 @@ use Rattle.fields.proofs.BoolLaws.{and-left, and-right, cases}
 use Rattle.units.specs.Calendar.{isDate}
 use Rattle.ledger.specs.declared.Bill.{Bill}
 use Rattle.ledger.specs.declared.Identity.{Identity}
-use Rattle.ledger.specs.Lists.{every, count}
+use Rattle.rules.specs.Lists.{every, count}
 use Rattle.ledger.specs.Bills.{isOf}
 use Rattle.ledger.specs.Books.{Book, view, termsIn}
 use Rattle.ledger.specs.Sound.{soundBill, holdsId}
 use Rattle.ledger.proofs.SoundLaws.{terms-facts, bill-terms}
 use Rattle.file.specs.File.{Group, fileGroups, asksId, line3}
-use Rattle.verdict.specs.declared.Check.{Check}
-use Rattle.verdict.specs.declared.Check.the-variants.{Clear, Stop}
+use Rattle.rules.specs.declared.Check.{Check}
+use Rattle.rules.specs.declared.Check.the-variants.{Clear, Stop}
 use Rattle.verdict.specs.declared.Verdict.{Verdict}
 use Rattle.verdict.specs.declared.Verdict.the-variants.{Accepted, Rejected}
-use Rattle.verdict.specs.Rules.{first}
+use Rattle.rules.specs.Rules.{first}
 use Rattle.verdict.specs.Lines.{isNothing, termsOf}
 use Rattle.group.specs.Groups.{identityOf, soughtIn, sought, settled, answer, verdictBy, verdictHere, taken, answers, isAccepted}
 use Rattle.groups.proofs.FileSound.{confirmation-up, tracking-up, count-step}

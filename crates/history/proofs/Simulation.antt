@@ -4,13 +4,13 @@ use mathlib.Core.Path.{_≡_, refl, sym, ap, _∙_}
 use mathlib.Core.List.{List, [], _∷_, map}
 use lib.IntN.{ℤ, pos, _+ℤ_, _-ℤ_, +ℤ-assoc, +ℤ-comm, +ℤ-idr, -ℤ-+ℤ-cancel}
 use Rattle.ledger.specs.declared.Bill.{Bill}
-use Rattle.ledger.specs.Lists.{sum}
+use Rattle.rules.specs.Lists.{sum}
 use Rattle.ledger.specs.Books.{Book, View, view, termsIn, totalOf}
 use Rattle.ledger.specs.Sound.{sound}
 use Rattle.ledger.proofs.SoundLaws.{facts-sound}
-use Rattle.verdict.specs.declared.Check.{Check}
-use Rattle.verdict.specs.declared.Check.the-variants.{Clear, Stop}
-use Rattle.verdict.specs.Rules.{first}
+use Rattle.rules.specs.declared.Check.{Check}
+use Rattle.rules.specs.declared.Check.the-variants.{Clear, Stop}
+use Rattle.rules.specs.Rules.{first}
 use Rattle.causes.specs.Causes.{Call, causes}
 use Rattle.calls.specs.Machine.{cause, next, total, Outcome, outcome, step, after, outcomes}
 use Rattle.history.specs.History.{Posting, History, chargeIn, historySum, hCause, hMove, hStep, hAfter, hCauses, Decided, callDecisions, hDecisions}

@@ -8,7 +8,7 @@ use Rattle.fields.proofs.BoolLaws.{and-left, and-right, or-both, cases}
 use Rattle.ledger.specs.declared.Bill.{Bill}
 use Rattle.ledger.specs.declared.Identity.{Identity}
 use Rattle.ledger.specs.declared.Terms.{Terms}
-use Rattle.ledger.specs.Lists.{has, update}
+use Rattle.rules.specs.Lists.{has, update}
 use Rattle.ledger.specs.Bills.{isOf}
 use Rattle.ledger.specs.Books.{ofId, termsIn}
 use Rattle.ledger.specs.Sound.{holdsId, distinct}

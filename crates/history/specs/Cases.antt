@@ -18,8 +18,8 @@ use Rattle.ledger.specs.Bills.{productByte, cents}
 use Rattle.ledger.specs.Books.{Book}
 use Rattle.notices.specs.declared.Alike.{Alike}
 use Rattle.notices.specs.Notices.{alikeFields, spacesFrom}
-use Rattle.verdict.specs.declared.Check.{Check}
-use Rattle.verdict.specs.declared.Check.the-variants.{Clear, Stop}
+use Rattle.rules.specs.declared.Check.{Check}
+use Rattle.rules.specs.declared.Check.the-variants.{Clear, Stop}
 use Rattle.verdict.specs.declared.Verdict.{Verdict}
 use Rattle.verdict.specs.declared.Verdict.the-variants.{Accepted, Rejected}
 use Rattle.causes.specs.declared.Request.{Request}

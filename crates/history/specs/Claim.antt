@@ -6,12 +6,12 @@ use mathlib.Core.List.{List, [], _∷_, map, _++_}
 use lib.ListN.{length, getD}
 use lib.IntN.{ℤ, pos, _+ℤ_}
 use Rattle.ledger.specs.declared.Ledger.{Ledger}
-use Rattle.ledger.specs.Lists.{count}
+use Rattle.rules.specs.Lists.{count}
 use Rattle.ledger.specs.Books.{Book, book, view}
 use Rattle.ledger.specs.Sound.{sound}
 use Rattle.records.specs.Layout.{isRsp}
-use Rattle.verdict.specs.declared.Check.the-variants.{Clear}
-use Rattle.verdict.specs.Rules.{first}
+use Rattle.rules.specs.declared.Check.the-variants.{Clear}
+use Rattle.rules.specs.Rules.{first}
 use Rattle.verdict.specs.Lines.{isNothing, termsOf}
 use Rattle.group.specs.Groups.{sought, answer, isAccepted}
 use Rattle.causes.specs.declared.Start.{Start}

@@ -7,15 +7,15 @@ use mathlib.Core.List.{List, [], _∷_, _++_}
 use Rattle.ledger.specs.declared.Identity.{Identity}
 use Rattle.ledger.specs.declared.Latest.{Latest}
 use Rattle.ledger.specs.declared.Terms.{Terms}
-use Rattle.ledger.specs.Lists.{has, sum, update}
+use Rattle.rules.specs.Lists.{has, sum, update}
 use Rattle.ledger.specs.Bills.{isOf, moved}
 use Rattle.ledger.specs.Books.{View}
 use Rattle.file.specs.File.{Group, fileGroups, detailOf, asksId}
-use Rattle.verdict.specs.declared.Check.{Check}
-use Rattle.verdict.specs.declared.Check.the-variants.{Clear, Stop}
+use Rattle.rules.specs.declared.Check.{Check}
+use Rattle.rules.specs.declared.Check.the-variants.{Clear, Stop}
 use Rattle.verdict.specs.declared.Verdict.{Verdict}
 use Rattle.verdict.specs.declared.Verdict.the-variants.{Accepted, Rejected}
-use Rattle.verdict.specs.Rules.{first}
+use Rattle.rules.specs.Rules.{first}
 use Rattle.verdict.specs.Lines.{sentCharge}
 use Rattle.group.specs.Groups.{identityOf, verdict}
 use Rattle.causes.specs.declared.Start.{Start}

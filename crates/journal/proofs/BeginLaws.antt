@@ -10,9 +10,9 @@ use borrow.Author.Tests.{ne-eqb}
 use Rattle.fields.proofs.BoolLaws.{cases}
 use Rattle.fields.specs.Put.{part}
 use Rattle.ledger.specs.Books.{Book}
-use Rattle.verdict.specs.declared.Check.{Check}
-use Rattle.verdict.specs.declared.Check.the-variants.{Clear, Stop}
-use Rattle.verdict.specs.Rules.{first}
+use Rattle.rules.specs.declared.Check.{Check}
+use Rattle.rules.specs.declared.Check.the-variants.{Clear, Stop}
+use Rattle.rules.specs.Rules.{first}
 use Rattle.units.specs.declared.Date.{Date}
 use Rattle.ledger.specs.declared.Identity.{Identity}
 use Rattle.causes.specs.declared.Start.{Start}

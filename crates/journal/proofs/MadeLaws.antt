@@ -7,9 +7,9 @@ use Rattle.units.specs.declared.Date.{Date}
 use Rattle.ledger.specs.declared.Ledger.{Ledger}
 use Rattle.ledger.specs.Books.{Book, book}
 use Rattle.ledger.specs.Sound.{soundLedger}
-use Rattle.verdict.specs.declared.Check.{Check}
-use Rattle.verdict.specs.declared.Check.the-variants.{Clear, Stop}
-use Rattle.verdict.specs.Rules.{first}
+use Rattle.rules.specs.declared.Check.{Check}
+use Rattle.rules.specs.declared.Check.the-variants.{Clear, Stop}
+use Rattle.rules.specs.Rules.{first}
 use Rattle.causes.specs.Causes.{Call, request, file, cancel, close, freshCauses}
 use Rattle.calls.specs.Machine.{Outcome, cause, nextWritten, outcome, step, after, outcomes, stepIn, called, ran}
 use Rattle.calls.specs.Days.{freshBy, freshCalled}

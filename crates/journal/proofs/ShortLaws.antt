@@ -7,9 +7,9 @@ use native.Mathlib.Omega.{arith}
 use lib.ListN.{length}
 use Rattle.ledger.specs.declared.Ledger.{Ledger}
 use Rattle.ledger.specs.Books.{book}
-use Rattle.verdict.specs.declared.Check.{Check}
-use Rattle.verdict.specs.declared.Check.the-variants.{Clear, Stop}
-use Rattle.verdict.specs.Rules.{first}
+use Rattle.rules.specs.declared.Check.{Check}
+use Rattle.rules.specs.declared.Check.the-variants.{Clear, Stop}
+use Rattle.rules.specs.Rules.{first}
 use Rattle.causes.specs.declared.Start.{Start}
 use Rattle.causes.specs.Causes.{Call, request, file, cancel, close, freshCauses}
 use Rattle.calls.specs.Machine.{cause, roomOf, nextWritten, outcome, stepIn, causeIn, answerBy, called}

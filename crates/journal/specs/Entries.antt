@@ -7,9 +7,9 @@ use lib.ListN.{length, getD}
 use Rattle.fields.specs.Digits.{number, numeric}
 use Rattle.fields.specs.Put.{part, positions}
 use Rattle.units.specs.declared.Date.{Date}
-use Rattle.verdict.specs.declared.Check.{Check}
-use Rattle.verdict.specs.declared.Check.the-variants.{Clear, Stop}
-use Rattle.verdict.specs.Rules.{first}
+use Rattle.rules.specs.declared.Check.{Check}
+use Rattle.rules.specs.declared.Check.the-variants.{Clear, Stop}
+use Rattle.rules.specs.Rules.{first}
 use Rattle.causes.specs.declared.CodeField.{CodeField}
 use Rattle.causes.specs.declared.Request.{Request}
 use Rattle.causes.specs.Causes.{freshCauses}

@@ -12,9 +12,9 @@ use causes::Request;
 use causes::Start;
 use fields::Field;
 use ledger::Identity;
+use rules::Check;
 use units::Ccf;
 use units::Date;
-use verdict::Check;
 
 // What an entry's body holds. Unread: a field that should be digits is not, so the call is refused with 2.
 pub enum Body {

@@ -16,9 +16,9 @@ use Rattle.ledger.specs.declared.Bill.{Bill}
 use Rattle.ledger.specs.declared.Ledger.{Ledger}
 use Rattle.ledger.specs.Books.{live, billCharge, smallCharge, totalOf}
 use Rattle.ledger.specs.parts.Places.{replaced, appended}
-use Rattle.ledger.specs.Lists.{every}
+use Rattle.rules.specs.Lists.{every}
 use Rattle.ledger.proofs.Ledger.{the-row}
-use Rattle.ledger.proofs.ListLaws.{sum-set}
+use Rattle.rules.proofs.ListLaws.{sum-set}
 
 -- what a function is told of a ledger says that its array has 128 places
 pub places : (l : Ledger) (vs : List Val) → Is the-row l vs → length (l .bills) ≡ 128

@@ -1,5 +1,4 @@
 -- Laws that belong to no one function.
-pub mod ListLaws
 pub mod BookLaws
 pub mod SoundLaws
 pub mod LendArray

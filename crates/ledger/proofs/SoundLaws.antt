@@ -18,12 +18,12 @@ use Rattle.ledger.specs.declared.Posted.the-variants as posted
 use Rattle.ledger.specs.declared.Terms.{Terms}
 use Rattle.ledger.specs.declared.Bill.{Bill}
 use Rattle.ledger.specs.declared.Ledger.{Ledger}
-use Rattle.ledger.specs.Lists.{every}
+use Rattle.rules.specs.Lists.{every}
 use Rattle.ledger.specs.Bills.{isRateCode, codeBytes, chargeOf, isPrepay, moved}
 use Rattle.ledger.specs.Books.{Book, book, live, smallCharge}
 use Rattle.ledger.specs.Sound.{isNext, termsTests, soundTerms, balanced, soundAmounts, soundBill, holdsId, distinct, bookTests, sound, soundLedger}
 use Rattle.ledger.proofs.BookLaws.{length-live}
-use Rattle.ledger.proofs.ListLaws.{all-on, on-all, every-map}
+use Rattle.rules.proofs.ListLaws.{all-on, on-all, every-map}
 
 -- ---- the facts of a sound bill
 pub record TermsFacts (t : Terms) : Type 0 where

@@ -11,8 +11,8 @@ use Rattle.ledger.specs.declared.Terms.{Terms}
 use Rattle.ledger.specs.declared.Bill.{Bill}
 use Rattle.ledger.specs.declared.Ledger.{Ledger}
 use Rattle.ledger.specs.declared.LedgerHeader.{LedgerHeader}
-use Rattle.ledger.specs.declared.Found.{Found}
-use Rattle.ledger.specs.Lists.{sum, find}
+use Rattle.rules.specs.declared.Found.{Found}
+use Rattle.rules.specs.Lists.{sum, find}
 use Rattle.ledger.specs.Bills.{isOf, chargeOf, blankBill}
 
 -- what document 01 calls a ledger

@@ -1,5 +1,4 @@
 -- "The ledger and its calls": what a ledger and its bills are, and when a ledger is sound.
-pub mod Lists
 pub mod Bills
 pub mod Books
 pub mod Sound

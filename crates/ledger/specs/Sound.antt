@@ -16,7 +16,7 @@ use Rattle.ledger.specs.declared.Posted.the-variants as posted
 use Rattle.ledger.specs.declared.Terms.{Terms}
 use Rattle.ledger.specs.declared.Bill.{Bill}
 use Rattle.ledger.specs.declared.Ledger.{Ledger}
-use Rattle.ledger.specs.Lists.{all, every, has}
+use Rattle.rules.specs.Lists.{all, every, has}
 use Rattle.ledger.specs.Bills.{isRateCode, codeBytes, isPrepay}
 use Rattle.ledger.specs.Books.{Book, book, ofId}
 

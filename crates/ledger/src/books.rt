@@ -4,15 +4,15 @@ ghost use mathlib.Core.Bool.{true};
 ghost use Prim.Native.Nat.{_+_, _<_, _≤_, _^_};
 ghost use lib.ListN.{length, getD, take};
 ghost use lib.IntN.{pos, _-ℤ_};
-ghost use Rattle.ledger.specs.Lists.{every};
+ghost use Rattle.rules.specs.Lists.{every};
 ghost use Rattle.ledger.specs.Bills.{blankBill};
 ghost use Rattle.ledger.specs.Books.{emptyLedger, live, placeOf, billCharge, smallCharge, totalOf};
 ghost use Rattle.ledger.specs.parts.Places.{updated, within, slotOf};
 use crate::Bill;
-use crate::Found;
 use crate::Identity;
 use crate::Ledger;
 use crate::Update;
+use rules::Found;
 use units::Cents;
 use units::Date;
 

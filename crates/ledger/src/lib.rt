@@ -92,9 +92,3 @@ pub enum State {
     Issued,
     Cancelled,
 }
-
-// The place of a bill, from 0.
-pub enum Found {
-    At(usize),
-    Nothing,
-}

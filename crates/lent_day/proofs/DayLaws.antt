@@ -5,12 +5,12 @@ use mathlib.Core.Bool.{true}
 use mathlib.Core.List.{List}
 use Rattle.units.specs.Calendar.{isDate, monthDays}
 use Rattle.ledger.specs.declared.Ledger.{Ledger}
-use Rattle.ledger.specs.Lists.{every}
+use Rattle.rules.specs.Lists.{every}
 use Rattle.ledger.specs.Books.{live, smallCharge}
 use Rattle.ledger.specs.Sound.{soundLedger}
 use Rattle.ledger.proofs.SoundLaws.{ledger-count, ledger-small}
-use Rattle.verdict.specs.declared.Check.the-variants.{Clear}
-use Rattle.verdict.specs.Rules.{first}
+use Rattle.rules.specs.declared.Check.the-variants.{Clear}
+use Rattle.rules.specs.Rules.{first}
 use Rattle.causes.specs.declared.Start.{Start}
 use Rattle.causes.specs.Causes.{Call, startTests, freshCauses}
 use Rattle.calls.specs.Machine.{ran}

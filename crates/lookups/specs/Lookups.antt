@@ -11,13 +11,13 @@ use Rattle.ledger.specs.declared.Identity.{Identity}
 use Rattle.ledger.specs.declared.Posted.{Posted}
 use Rattle.ledger.specs.declared.Bill.{Bill}
 use Rattle.ledger.specs.declared.Ledger.{Ledger}
-use Rattle.ledger.specs.Lists.{has}
+use Rattle.rules.specs.Lists.{has}
 use Rattle.ledger.specs.Bills.{isOpen, chargeOf, appliedOf, owedOf, blankBill}
 use Rattle.ledger.specs.Books.{live}
 use Rattle.ledger.specs.Sound.{holdsId, soundLedger}
-use Rattle.verdict.specs.declared.Check.{Check}
-use Rattle.verdict.specs.declared.Check.the-variants.{Clear, Stop}
-use Rattle.verdict.specs.Rules.{Rule, rule, first}
+use Rattle.rules.specs.declared.Check.{Check}
+use Rattle.rules.specs.declared.Check.the-variants.{Clear, Stop}
+use Rattle.rules.specs.Rules.{Rule, rule, first}
 use Rattle.lookups.specs.declared.Place.{Place}
 use Rattle.lookups.specs.declared.Place.the-variants as place
 use Rattle.lookups.specs.declared.Amounts.{Amounts}

@@ -1,15 +1,15 @@
 // The two lookups: an open bill of an account, and the amounts of one bill.
 ghost use mathlib.Core.Path.{_≡_};
 ghost use Prim.Native.Nat.{_≤_};
-ghost use Rattle.ledger.specs.Lists.{find};
+ghost use Rattle.rules.specs.Lists.{find};
 ghost use Rattle.ledger.specs.Books.{live};
 ghost use Rattle.lookups.specs.Lookups.{isOpenOf, OpenBill, countedBy, amountsIn};
 use causes::checks;
 use ledger::Bill;
-use ledger::Found;
 use ledger::Identity;
 use ledger::Ledger;
 use ledger::Posted;
+use rules::Found;
 use units::Cents;
 use units::Date;
 

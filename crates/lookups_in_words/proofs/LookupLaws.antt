@@ -7,9 +7,9 @@ use borrow.Author.Tests.{lt-ltb, le-ltb}
 use Rattle.ledger.specs.declared.Identity.{Identity}
 use Rattle.ledger.specs.declared.Ledger.{Ledger}
 use Rattle.ledger.specs.declared.LedgerHeader.{LedgerHeader}
-use Rattle.ledger.specs.declared.Found.{Found}
-use Rattle.ledger.specs.declared.Found.the-variants as found
-use Rattle.ledger.specs.Lists.{find}
+use Rattle.rules.specs.declared.Found.{Found}
+use Rattle.rules.specs.declared.Found.the-variants as found
+use Rattle.rules.specs.Lists.{find}
 use Rattle.ledger.specs.Books.{live, ofId}
 use Rattle.ledger.specs.parts.Places.{billAt, headerOf}
 use Rattle.ledger.specs.Sound.{soundLedger}

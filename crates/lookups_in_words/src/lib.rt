@@ -3,15 +3,15 @@ ghost use mathlib.Core.Path.{_≡_};
 ghost use mathlib.Core.Bool.{true};
 ghost use Prim.Native.Nat.{_≤_};
 ghost use lib.ListN.{take};
-ghost use Rattle.ledger.specs.Lists.{find};
+ghost use Rattle.rules.specs.Lists.{find};
 ghost use Rattle.words.specs.Layout.{ledgerPlaces, holdsLedger, ledgerOf};
 ghost use Rattle.lookups.specs.Lookups.{isOpenOf, OpenBill, amountsIn};
 use causes::checks;
-use ledger::Found;
 use ledger::Identity;
 use lookups::Amounts;
 use lookups::Place;
 use places::place;
+use rules::Found;
 use units::Date;
 
 // The place of the first bill of an account among the first n that is open.

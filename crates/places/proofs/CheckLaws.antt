@@ -9,7 +9,7 @@ use borrow.Author.Tests.{leb-true}
 use Rattle.fields.proofs.BoolLaws.{and-right}
 use Rattle.units.specs.Calendar.{isDate}
 use Rattle.ledger.specs.declared.LedgerHeader.{LedgerHeader}
-use Rattle.ledger.specs.Lists.{every}
+use Rattle.rules.specs.Lists.{every}
 use Rattle.ledger.specs.Books.{live}
 use Rattle.ledger.specs.parts.Places.{headerOf}
 use Rattle.ledger.specs.Sound.{isNext, soundBill, distinct, soundLedger}

@@ -12,12 +12,12 @@ use borrow.Author.Tests.{eqb-true, eqb-false, eq-eqb, ne-eqb}
 use Rattle.fields.proofs.BoolLaws.{and-left, and-right, cases}
 use Rattle.ledger.specs.declared.Identity.{Identity}
 use Rattle.ledger.specs.declared.Bill.{Bill}
-use Rattle.ledger.specs.declared.Found.the-variants.{At, Nothing}
-use Rattle.ledger.specs.Lists.{every, has, find}
+use Rattle.rules.specs.declared.Found.the-variants.{At, Nothing}
+use Rattle.rules.specs.Lists.{every, has, find}
 use Rattle.ledger.specs.Bills.{blankBill}
 use Rattle.ledger.specs.Books.{ofId}
 use Rattle.ledger.specs.Sound.{holdsId, distinct}
-use Rattle.ledger.proofs.ListLaws.{every-append}
+use Rattle.rules.proofs.ListLaws.{every-append}
 use Rattle.places.specs.parts.Slots.{slots, slotOf}
 
 -- ---- lists

@@ -17,7 +17,7 @@ use Rattle.ledger.specs.declared.Identity.{Identity}
 use Rattle.ledger.specs.declared.Bill.{Bill}
 use Rattle.ledger.specs.declared.Ledger.{Ledger}
 use Rattle.ledger.specs.declared.LedgerHeader.{LedgerHeader}
-use Rattle.ledger.specs.Lists.{every}
+use Rattle.rules.specs.Lists.{every}
 use Rattle.ledger.specs.Bills.{blankBill}
 use Rattle.ledger.specs.Books.{ofId}
 use Rattle.ledger.specs.parts.Places.{billAt, headerOf, replaced, withHeader}

@@ -7,10 +7,10 @@ use native.Mathlib.Omega.{arith}
 use lib.ListN.{length, take, getD}
 use lib.Seq.{getD-take, length-take-le}
 use Rattle.ledger.specs.declared.Bill.{Bill}
-use Rattle.ledger.specs.Lists.{every}
+use Rattle.rules.specs.Lists.{every}
 use Rattle.ledger.specs.Bills.{blankBill}
 use Rattle.ledger.specs.Books.{billCharge, smallCharge, totalOf}
-use Rattle.ledger.proofs.ListLaws.{sum-more, sum-first}
+use Rattle.rules.proofs.ListLaws.{sum-more, sum-first}
 use Rattle.ledger.proofs.BookLaws.{total-small}
 
 module _ (bs : List Bill) (n i : ℕ) (k : n ≤ length bs) (h : i < n) where

@@ -7,8 +7,8 @@ use lib.Dec.{ltb}
 use lib.ListN.{length}
 use Rattle.fields.specs.Put.{put}
 use Rattle.table.specs.Table.{tableOf}
-use Rattle.verdict.specs.declared.Check.the-variants.{Clear}
-use Rattle.verdict.specs.Rules.{first}
+use Rattle.rules.specs.declared.Check.the-variants.{Clear}
+use Rattle.rules.specs.Rules.{first}
 use Rattle.causes.specs.declared.Start.{Start}
 use Rattle.causes.specs.Causes.{freshCauses}
 use Rattle.calls.specs.Machine.{fresh, after}

@@ -18,8 +18,8 @@ use Rattle.notices.specs.declared.cxl.Cxl.{Cxl}
 use Rattle.notices.specs.Notices.{bil, cxl}
 use Rattle.causes.specs.declared.Request.{Request}
 use Rattle.notices.proofs.NoticeLaws.{length-bil, length-cxl}
-use Rattle.verdict.specs.declared.Check.{Check}
-use Rattle.verdict.specs.declared.Check.the-variants.{Clear, Stop}
+use Rattle.rules.specs.declared.Check.{Check}
+use Rattle.rules.specs.declared.Check.the-variants.{Clear, Stop}
 use Rattle.causes.specs.Causes.{Call, request, file, cancel, close}
 use Rattle.calls.specs.Machine.{cause, nextWritten, outcome, step, outcomes}
 use Rattle.calls.proofs.FileCallLaws.{file-within}

@@ -12,8 +12,8 @@ use Rattle.ledger.specs.Books.{Book}
 use Rattle.ledger.proofs.SoundLaws.{book-facts}
 use Rattle.notices.proofs.NoticeLaws.{length-bil, length-cxl}
 use Rattle.notices.proofs.AnswerLaws.{length-acf, length-rej-header, length-rej-detail}
-use Rattle.verdict.specs.declared.Check.{Check}
-use Rattle.verdict.specs.declared.Check.the-variants.{Clear, Stop}
+use Rattle.rules.specs.declared.Check.{Check}
+use Rattle.rules.specs.declared.Check.the-variants.{Clear, Stop}
 use Rattle.group.specs.Groups.{linesBy, verdictOn, verdictBy}
 use Rattle.group.proofs.FormCodes.{form-coded}
 use Rattle.group.proofs.ReadLaws.{no-line-reads}

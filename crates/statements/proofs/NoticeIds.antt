@@ -15,8 +15,8 @@ use Rattle.notices.specs.declared.rej.Rej.{Rej}
 use Rattle.notices.specs.Answers.{rejHeader, rejDetail, rejDetails, rej}
 use Rattle.notices.proofs.AnswerLaws.{length-acf, length-rej-header, length-rej-detail}
 use Rattle.file.specs.File.{Group, records, fileGroups}
-use Rattle.verdict.specs.declared.Check.{Check}
-use Rattle.verdict.specs.declared.Check.the-variants.{Clear, Stop}
+use Rattle.rules.specs.declared.Check.{Check}
+use Rattle.rules.specs.declared.Check.the-variants.{Clear, Stop}
 use Rattle.verdict.specs.declared.Verdict.{Verdict}
 use Rattle.verdict.specs.declared.Verdict.the-variants.{Accepted, Rejected}
 use Rattle.verdict.specs.Lines.{termsOf}

@@ -17,8 +17,8 @@ use Rattle.notices.specs.declared.acf.Acf.{Acf}
 use Rattle.notices.specs.declared.rej.Rej.{Rej}
 use Rattle.notices.specs.Answers.{acf, rejHeader, rejDetail}
 use Rattle.file.specs.File.{Group, detailOf}
-use Rattle.verdict.specs.declared.Check.the-variants.{Stop}
-use Rattle.verdict.specs.Rules.{first}
+use Rattle.rules.specs.declared.Check.the-variants.{Stop}
+use Rattle.rules.specs.Rules.{first}
 use Rattle.verdict.specs.Lines.{termsOf, amountsOf, settle}
 use Rattle.group.specs.Groups.{sought, lines, verdict}
 use Rattle.group.specs.Forms.{FormCoded}

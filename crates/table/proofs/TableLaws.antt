@@ -18,7 +18,7 @@ use Rattle.ledger.specs.declared.Terms.{Terms}
 use Rattle.ledger.specs.declared.Bill.{Bill}
 use Rattle.ledger.specs.declared.Ledger.{Ledger}
 use Rattle.ledger.specs.declared.LedgerHeader.{LedgerHeader}
-use Rattle.ledger.specs.Lists.{every}
+use Rattle.rules.specs.Lists.{every}
 use Rattle.ledger.specs.Bills.{blankBill}
 use Rattle.ledger.specs.Books.{Book, book, live, smallCharge, totalOf}
 use Rattle.ledger.specs.parts.Places.{headerOf}

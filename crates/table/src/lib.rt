@@ -6,7 +6,7 @@ ghost use Prim.Native.Nat.{_+_, _*_, _≤_};
 ghost use lib.ListN.{length, take};
 ghost use Rattle.fields.specs.Digits.{digits};
 ghost use Rattle.fields.specs.Put.{put};
-ghost use Rattle.ledger.specs.Lists.{every};
+ghost use Rattle.rules.specs.Lists.{every};
 ghost use Rattle.ledger.specs.Bills.{codeBytes, productByte};
 ghost use Rattle.ledger.specs.Books.{book, live, smallCharge};
 ghost use Rattle.table.specs.Table.{cell, stateByte, termsCells, amountCells, stateCell, heading, lineOf, linesOf, totalLine, stopLine, tableOf, tableRoom, printedBy, printed};

@@ -9,11 +9,11 @@ use Rattle.fields.specs.Field.{bad}
 use Rattle.fields.specs.declared.Field.{Field}
 use Rattle.fields.specs.declared.Field.the-variants.{Number, NotNumeric}
 use Rattle.units.specs.declared.Rate.{Rate}
-use Rattle.verdict.specs.declared.Check.{Check}
-use Rattle.verdict.specs.declared.Check.the-variants.{Clear, Stop}
+use Rattle.rules.specs.declared.Check.{Check}
+use Rattle.rules.specs.declared.Check.the-variants.{Clear, Stop}
 use Rattle.verdict.specs.declared.TierRate.the-variants.{Of}
 use Rattle.verdict.specs.declared.TierRate.the-variants as rate
-use Rattle.verdict.specs.Rules.{Rule, rule, first}
+use Rattle.rules.specs.Rules.{Rule, rule, first}
 use Rattle.records.specs.declared.Tiers.{Tiers}
 use Rattle.records.specs.declared.Tiers.the-variants.{Numbers}
 use Rattle.verdict.specs.Lines.{rateOf, misses}

@@ -1,3 +1,2 @@
 -- Lines 4 to 10 of "Supplier file".
-pub mod Rules
 pub mod Lines

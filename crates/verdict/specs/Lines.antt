@@ -22,14 +22,14 @@ use Rattle.verdict.specs.declared.Kind.{Kind}
 use Rattle.verdict.specs.declared.Kind.the-variants.{Response, Supplement}
 use Rattle.verdict.specs.declared.Sought.{Sought}
 use Rattle.verdict.specs.declared.Sought.the-variants.{Bill, Nothing}
-use Rattle.verdict.specs.declared.Check.{Check}
-use Rattle.verdict.specs.declared.Check.the-variants.{Clear, Stop}
+use Rattle.rules.specs.declared.Check.{Check}
+use Rattle.rules.specs.declared.Check.the-variants.{Clear, Stop}
 use Rattle.verdict.specs.declared.TierRate.{TierRate}
 use Rattle.verdict.specs.declared.TierRate.the-variants.{Of}
 use Rattle.verdict.specs.declared.TierRate.the-variants as rate
 use Rattle.verdict.specs.declared.Verdict.{Verdict}
 use Rattle.verdict.specs.declared.Verdict.the-variants.{Accepted, Rejected}
-use Rattle.verdict.specs.Rules.{Rule, rule, first, only}
+use Rattle.rules.specs.Rules.{Rule, rule, first, only}
 
 -- ---- the bill that a group names
 abbrev pub isNothing : Sought → Bool

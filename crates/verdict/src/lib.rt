@@ -8,13 +8,14 @@ ghost use Rattle.fields.specs.Field.{fieldOf};
 ghost use Rattle.ledger.specs.Bills.{codeBytes, isPrepay};
 ghost use Rattle.records.specs.Limits.{recordSize};
 ghost use Rattle.records.specs.Layout.{rateCodeIn, tierRateIn};
-ghost use Rattle.verdict.specs.Rules.{first};
+ghost use Rattle.rules.specs.Rules.{first};
 ghost use Rattle.verdict.specs.Lines.{line6, rateOf, line9, lines8to10, lines7to10, lines5to10, sentCharge, amountsOf, settle, verdictOf};
 use fields::Field;
 use ledger::Posted;
 use ledger::RateCode;
 use ledger::Terms;
 use records::Tiers;
+use rules::Check;
 use units::Ccf;
 use units::Cents;
 use units::Date;
@@ -30,12 +31,6 @@ pub enum Kind {
 pub enum Sought {
     Bill(Terms),
     Nothing,
-}
-
-// No condition is true, or the code of the first that is.
-pub enum Check {
-    Clear,
-    Stop(u64),
 }
 
 // Tier 1's rate, where it is numeric.

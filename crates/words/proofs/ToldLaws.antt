@@ -10,7 +10,7 @@ use denote.Shadow.{shadow}
 use denote.Array.{each}
 use borrow.Author.Tests.{lt-ltb}
 use Rattle.ledger.specs.declared.Ledger.{Ledger}
-use Rattle.ledger.specs.Lists.{every}
+use Rattle.rules.specs.Lists.{every}
 use Rattle.ledger.proofs.Ledger.{the-row}
 use Rattle.ledger.proofs.BookLaws.{places}
 use Rattle.words.specs.Layout.{holdsCode, holdsLedger, byteCode, ledgerWords, ledgerOf}

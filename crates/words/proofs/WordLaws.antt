@@ -15,7 +15,7 @@ use Rattle.ledger.specs.declared.Posted.{Posted}
 use Rattle.ledger.specs.declared.Posted.the-variants as posted
 use Rattle.ledger.specs.declared.Bill.{Bill}
 use Rattle.ledger.specs.declared.Ledger.{Ledger}
-use Rattle.ledger.specs.Lists.{every}
+use Rattle.rules.specs.Lists.{every}
 use Rattle.ledger.specs.Bills.{productByte}
 use Rattle.ledger.specs.Sound.{soundLedger}
 use Rattle.words.specs.Layout.{markWord, postedWords, termsWords, billWords, billsWords, headWords, ledgerWords}

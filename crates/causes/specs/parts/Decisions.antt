@@ -5,12 +5,12 @@ use Rattle.units.specs.declared.Ccf.{Ccf}
 use Rattle.ledger.specs.declared.Product.the-variants as product
 use Rattle.ledger.specs.declared.Bill.{Bill}
 use Rattle.ledger.specs.declared.LedgerHeader.{LedgerHeader}
-use Rattle.ledger.specs.declared.Found.{Found}
-use Rattle.ledger.specs.declared.Found.the-variants.{At, Nothing}
+use Rattle.rules.specs.declared.Found.{Found}
+use Rattle.rules.specs.declared.Found.the-variants.{At, Nothing}
 use Rattle.ledger.specs.Bills.{renewed, cancelledBill, blankBill}
 use Rattle.notices.specs.Notices.{bil, cxl}
-use Rattle.verdict.specs.declared.Check.{Check}
-use Rattle.verdict.specs.declared.Check.the-variants.{Clear, Stop}
+use Rattle.rules.specs.declared.Check.{Check}
+use Rattle.rules.specs.declared.Check.the-variants.{Clear, Stop}
 use Rattle.causes.specs.declared.Request.{Request}
 use Rattle.causes.specs.declared.Decision.{Decision}
 use Rattle.causes.specs.Requests.{latestOf, newBill}

@@ -4,7 +4,7 @@ use mathlib.Core.Path.{_≡_, refl, ap, _∙_}
 use native.Mathlib.Omega.{arith}
 use borrow.Author.Needs.{needs}
 use lib.ListN.{take}
-use Rattle.ledger.specs.Lists.{every}
+use Rattle.rules.specs.Lists.{every}
 use Rattle.file.specs.File.{printable}
 use Rattle.file.proofs.FileLaws.{printable-more}
 use Rattle.file.proofs.all_printable.Statement.{statement}

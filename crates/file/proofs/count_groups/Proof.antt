@@ -7,7 +7,7 @@ use mathlib.Core.Logic.{⊎-elim}
 use native.Mathlib.Omega.{arith}
 use borrow.Author.Needs.{needs}
 use lib.ListN.{length}
-use Rattle.ledger.specs.Lists.{count}
+use Rattle.rules.specs.Lists.{count}
 use Rattle.records.specs.Layout.{recordsFrom}
 use Rattle.file.specs.File.{groups, asksId}
 use Rattle.file.proofs.FileLaws.{from-start, length-header, length-detail, count-hit, count-miss, count-detail, length-end, count-end, asks}

@@ -5,7 +5,7 @@ use native.Mathlib.Omega.{arith}
 use borrow.Author.Needs.{needs}
 use borrow.Author.Tests.{eq-eqb, ne-eqb, le-leb, lt-leb}
 use lib.ListN.{length}
-use Rattle.ledger.specs.Lists.{every}
+use Rattle.rules.specs.Lists.{every}
 use Rattle.records.specs.Layout.{recordsFrom}
 use Rattle.records.proofs.LayoutLaws.{lent-record}
 use Rattle.file.specs.File.{records, goodRecord, goodFile}

@@ -11,10 +11,10 @@ use Rattle.ledger.specs.declared.Identity.{Identity}
 use Rattle.ledger.specs.declared.Bill as bill
 use Rattle.ledger.specs.declared.Ledger.{Ledger}
 use Rattle.ledger.specs.declared.LedgerHeader.{LedgerHeader}
-use Rattle.ledger.specs.declared.Found.{Found}
-use Rattle.ledger.specs.declared.Found.the-variants as found
+use Rattle.rules.specs.declared.Found.{Found}
+use Rattle.rules.specs.declared.Found.the-variants as found
 use Rattle.ledger.specs.Bills.{chargeOf, posting}
-use Rattle.ledger.specs.Lists.{every, count}
+use Rattle.rules.specs.Lists.{every, count}
 use Rattle.ledger.specs.Books.{book, live, stored, placeOf, totalOf, billCharge, smallCharge}
 use Rattle.ledger.specs.parts.Places.{billAt, headerOf, updated, slotOf}
 use Rattle.records.specs.Limits.{fileRecords, fileSize}

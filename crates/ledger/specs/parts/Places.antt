@@ -7,8 +7,8 @@ use Rattle.ledger.specs.declared.Bill.{Bill}
 use Rattle.ledger.specs.declared.Ledger.{Ledger}
 use Rattle.ledger.specs.declared.LedgerHeader.{LedgerHeader}
 use Rattle.ledger.specs.declared.Update.{Update}
-use Rattle.ledger.specs.declared.Found.{Found}
-use Rattle.ledger.specs.declared.Found.the-variants.{At, Nothing}
+use Rattle.rules.specs.declared.Found.{Found}
+use Rattle.rules.specs.declared.Found.the-variants.{At, Nothing}
 use Rattle.ledger.specs.Bills.{blankBill}
 use Rattle.ledger.specs.Books.{withBills}
 

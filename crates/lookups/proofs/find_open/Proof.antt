@@ -6,11 +6,11 @@ use mathlib.Core.Path.{_≡_, sym, _∙_}
 use lib.ListN.{length}
 use lib.Seq.{slice}
 use Rattle.ledger.specs.declared.Ledger.{Ledger}
-use Rattle.ledger.specs.Lists.{find}
+use Rattle.rules.specs.Lists.{find}
 use Rattle.ledger.specs.Bills.{blankBill}
 use Rattle.ledger.specs.Books.{live}
 use Rattle.ledger.proofs.BookLaws.{places}
-use Rattle.ledger.proofs.ListLaws.{find-hit, find-miss, slice-end}
+use Rattle.rules.proofs.ListLaws.{find-hit, find-miss, slice-end}
 use Rattle.lookups.specs.Lookups.{isOpenOf}
 use Rattle.lookups.proofs.find_open.Statement.{statement}
 use Rattle.lookups.proofs.find_open.Tie as tie

@@ -5,9 +5,9 @@ use native.Mathlib.Omega.{arith}
 use borrow.Author.Needs.{needs}
 use lib.ListN.{take}
 use lib.Seq.{slice}
-use Rattle.ledger.specs.Lists.{find}
+use Rattle.rules.specs.Lists.{find}
 use Rattle.ledger.specs.Bills.{blankBill}
-use Rattle.ledger.proofs.ListLaws.{find-hit, find-miss, slice-end}
+use Rattle.rules.proofs.ListLaws.{find-hit, find-miss, slice-end}
 use Rattle.words.specs.Layout.{ledgerOf}
 use Rattle.places.proofs.PartLaws.{places-of}
 use Rattle.lookups.specs.Lookups.{isOpenOf}

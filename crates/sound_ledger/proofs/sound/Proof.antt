@@ -16,7 +16,7 @@ use Rattle.ledger.specs.Bills.{blankBill}
 use Rattle.ledger.specs.Books.{live, ofId}
 use Rattle.ledger.specs.Sound.{isNext, distinct, soundLedger}
 use Rattle.ledger.proofs.BookLaws.{places}
-use Rattle.ledger.proofs.ListLaws.{slice-step, slice-end, has-hit, has-miss}
+use Rattle.rules.proofs.ListLaws.{slice-step, slice-end, has-hit, has-miss}
 use Rattle.ledger.proofs.SoundLaws.{walked, walked-bad, walked-good, past, past-hit, past-miss, past-end, headTest, split}
 use Rattle.sound_ledger.proofs.sound.Statement.{statement}
 use Rattle.sound_ledger.proofs.sound.Tie as tie

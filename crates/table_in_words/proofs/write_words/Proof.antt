@@ -3,7 +3,7 @@ use mathlib.Core.Path.{ap, _∙_}
 use native.Mathlib.Omega.{arith}
 use lib.ListN.{take}
 use Rattle.ledger.specs.declared.LedgerHeader.{LedgerHeader}
-use Rattle.ledger.specs.Lists.{every}
+use Rattle.rules.specs.Lists.{every}
 use Rattle.ledger.specs.Books.{smallCharge}
 use Rattle.ledger.proofs.SoundLaws.{ledger-count, ledger-small}
 use Rattle.words.specs.Layout.{ledgerOf}

@@ -8,11 +8,11 @@ use lib.ListN.{length, getD}
 use lib.Seq.{slice}
 use Rattle.units.specs.declared.Date.{Date}
 use Rattle.ledger.specs.declared.Ledger.{Ledger}
-use Rattle.ledger.specs.Lists.{count}
+use Rattle.rules.specs.Lists.{count}
 use Rattle.ledger.specs.Bills.{blankBill}
 use Rattle.ledger.specs.Books.{live}
 use Rattle.ledger.proofs.BookLaws.{places}
-use Rattle.ledger.proofs.ListLaws.{slice-end}
+use Rattle.rules.proofs.ListLaws.{slice-end}
 use Rattle.causes.specs.Requests.{closes}
 use Rattle.calls.proofs.DayLaws.{count-turn}
 use Rattle.calls.proofs.days.closed_by.Statement.{statement}

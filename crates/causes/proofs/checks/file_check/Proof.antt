@@ -4,7 +4,7 @@ use borrow.Author.Tests.{not-true, not-false, lt-ltb, le-ltb}
 use native.Mathlib.Omega.{arith}
 use mathlib.Core.Path.{sym, ap, _∙_}
 use lib.ListN.{length}
-use Rattle.ledger.specs.Lists.{count}
+use Rattle.rules.specs.Lists.{count}
 use Rattle.file.specs.File.{asksId}
 use Rattle.causes.proofs.CheckLaws.{file-groups, groups-few, ids-few, stop-bad, stop-room, stop-numbers, no-cause, short-is}
 use Rattle.causes.proofs.checks.file_check.Statement.{statement}

@@ -1,7 +1,7 @@
 -- `causes::checks::good_request` meets its contract: the strict tests are those of `requestTests`, joined from the left.
 use lib.ListN.{drop}
 use Rattle.ledger.specs.Bills.{isRateCode}
-use Rattle.ledger.proofs.ListLaws.{all-joined}
+use Rattle.rules.proofs.ListLaws.{all-joined}
 use Rattle.causes.specs.Causes.{fiveOf, requestTests}
 use borrow.Author.Needs.{needs}
 use Rattle.causes.proofs.checks.good_request.Statement.{statement}

@@ -9,9 +9,9 @@ use lib.ListN.{length, take}
 use lib.Seq.{slice}
 use Rattle.units.specs.declared.Date.{Date}
 use Rattle.ledger.specs.declared.Bill.{Bill}
-use Rattle.ledger.specs.Lists.{count}
+use Rattle.rules.specs.Lists.{count}
 use Rattle.ledger.specs.Bills.{blankBill}
-use Rattle.ledger.proofs.ListLaws.{slice-end}
+use Rattle.rules.proofs.ListLaws.{slice-end}
 use Rattle.words.specs.Layout.{ledgerOf}
 use Rattle.causes.specs.Requests.{closes}
 use Rattle.calls.proofs.DayLaws.{count-turn}

@@ -4,7 +4,7 @@ use native.Mathlib.Omega.{arith}
 use Rattle.ledger.specs.declared.LedgerHeader.{LedgerHeader}
 use Rattle.words.specs.Layout.{ledgerOf}
 use Rattle.words.proofs.WordLaws.{sound-holds}
-use Rattle.verdict.specs.Rules.{first}
+use Rattle.rules.specs.Rules.{first}
 use Rattle.group.proofs.ReadyLaws.{sound-ready}
 use Rattle.causes.specs.Causes.{fileCauses}
 use Rattle.calls.proofs.FileCallLaws.{file-stops, file-short, file-done}

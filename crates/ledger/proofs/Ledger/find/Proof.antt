@@ -6,11 +6,11 @@ use mathlib.Core.Path.{_≡_, sym, _∙_}
 use lib.ListN.{length}
 use lib.Seq.{slice}
 use Rattle.ledger.specs.declared.Ledger.{Ledger}
-use Rattle.ledger.specs.Lists.{find}
+use Rattle.rules.specs.Lists.{find}
 use Rattle.ledger.specs.Bills.{blankBill}
 use Rattle.ledger.specs.Books.{live, ofId, placeOf}
 use Rattle.ledger.proofs.BookLaws.{places}
-use Rattle.ledger.proofs.ListLaws.{find-hit, find-miss, slice-end}
+use Rattle.rules.proofs.ListLaws.{find-hit, find-miss, slice-end}
 use Rattle.ledger.proofs.Ledger.find.Statement.{statement}
 use Rattle.ledger.proofs.Ledger.find.Tie as tie
 

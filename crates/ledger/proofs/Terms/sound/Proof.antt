@@ -3,7 +3,7 @@ use borrow.Author.Needs.{needs}
 use lib.ListN.{drop}
 use Rattle.fields.specs.Digits.{fits}
 use Rattle.ledger.specs.Sound.{termsTests}
-use Rattle.ledger.proofs.ListLaws.{all-joined}
+use Rattle.rules.proofs.ListLaws.{all-joined}
 use Rattle.ledger.proofs.Terms.sound.Statement.{statement}
 use Rattle.ledger.proofs.Terms.sound.Tie as tie
 

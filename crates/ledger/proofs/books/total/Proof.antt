@@ -49,10 +49,10 @@ use Rattle.units.specs.declared.Cents.{Cents}
 use Rattle.units.proofs.Cents as U
 use Rattle.units.proofs.Cents.Laws as U′
 use Rattle.ledger.specs.declared.Bill.{Bill}
-use Rattle.ledger.specs.Lists.{every}
+use Rattle.rules.specs.Lists.{every}
 use Rattle.ledger.specs.Bills.{blankBill}
 use Rattle.ledger.specs.Books.{billCharge, smallCharge, totalOf}
-use Rattle.ledger.proofs.ListLaws.{sum-more, sum-first}
+use Rattle.rules.proofs.ListLaws.{sum-more, sum-first}
 use Rattle.ledger.proofs.BookLaws.{total-small}
 use Rattle.ledger.proofs.LentBills.{after-test}
 use Rattle.ledger.proofs.BillAtLaws.{BillAt, lent, lent-val, Lent, to-at, goes-at, Told, said-at}

@@ -44,7 +44,7 @@ use Rattle.units.specs.declared.Cents.{Cents}
 use Rattle.units.proofs.Cents as U
 use Rattle.units.proofs.Cents.Laws as U′
 use Rattle.ledger.specs.declared.Bill.{Bill}
-use Rattle.ledger.specs.Lists.{every}
+use Rattle.rules.specs.Lists.{every}
 use Rattle.ledger.specs.Books.{smallCharge, totalOf}
 use Rattle.ledger.proofs.LendArray.{Kept, part-ref, lends-part, part-back}
 use Rattle.ledger.proofs.LentBills.{Bills, vals, bills-tell, bills-make, bills-typed, lent-count, lent-room}

@@ -5,7 +5,7 @@ use mathlib.Core.Path.{_≡_, refl, ap, ap₂, _∙_}
 use mathlib.Core.Bool.{Bool, _&&_}
 use native.Mathlib.Omega.{arith}
 use lib.ListN.{take}
-use Rattle.ledger.specs.Lists.{every}
+use Rattle.rules.specs.Lists.{every}
 use Rattle.ledger.specs.Bills.{blankBill}
 use Rattle.ledger.specs.Sound.{soundBill}
 use Rattle.words.specs.Layout.{ledgerOf}

@@ -4,10 +4,10 @@ use mathlib.Core.Path.{_≡_, refl, sym, ap, _∙_}
 use native.Mathlib.Omega.{arith}
 use lib.ListN.{take}
 use lib.Seq.{slice}
-use Rattle.ledger.specs.Lists.{find}
+use Rattle.rules.specs.Lists.{find}
 use Rattle.ledger.specs.Books.{ofId}
 use Rattle.ledger.specs.Bills.{blankBill}
-use Rattle.ledger.proofs.ListLaws.{find-hit, find-miss, slice-end}
+use Rattle.rules.proofs.ListLaws.{find-hit, find-miss, slice-end}
 use Rattle.words.specs.Layout.{ledgerOf}
 use Rattle.words.proofs.WordLaws.{words-long}
 use Rattle.places.proofs.PartLaws.{places-of, same-of}

@@ -9,9 +9,9 @@ use native.Mathlib.Numerals.{add-one}
 use lib.ListN.{length, getD, set, take, drop, take-append-drop}
 use lib.Seq.{slice, slice-cons, slice-empty, take-suc}
 use Rattle.fields.proofs.BoolLaws.{and-left, and-right}
-use Rattle.ledger.specs.declared.Found.{Found}
-use Rattle.ledger.specs.declared.Found.the-variants.{At}
-use Rattle.ledger.specs.Lists.{all, every, has, sum, find}
+use Rattle.rules.specs.declared.Found.{Found}
+use Rattle.rules.specs.declared.Found.the-variants.{At}
+use Rattle.rules.specs.Lists.{all, every, has, sum, find}
 
 -- tests that all pass, one by one
 abbrev pub On : List Bool → Type 0
