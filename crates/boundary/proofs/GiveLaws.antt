@@ -34,11 +34,11 @@ use Rattle.journal.specs.declared.Body.the-variants as body
 use Rattle.journal.specs.declared.Head.{Head}
 use Rattle.journal.specs.declared.Head.the-variants.{Cut, Bad, Whole}
 use Rattle.journal.specs.Entries.{headOf}
-use Rattle.journal.specs.Made.{madeIn, writtenIn}
+use Rattle.journal.specs.EntryCalls.{entryCalled, entryWritten}
 use Rattle.journal.proofs.Body as declared
 use Rattle.journal.proofs.MadeLaws.{Taken}
 use Rattle.engine.specs.InWords.{wordsLeft}
-use Rattle.entries.specs.parts.Stepping.{MadeIn}
+use Rattle.entries.specs.parts.Stepping.{EntryCalledIn}
 use Rattle.boundary.specs.Boundary.{numberOf, changeLeft, countsLeft, Stores, Gives, freshIn, entryIn, Leaves, headCalled, headWritten, headTold}
 
 -- ---- a call that is no fresh
@@ -117,9 +117,9 @@ module _ (room : ℕ) (ws out s : List ℕ) where
 
   -- words that hold no sound ledger
   pub unsound-leaves : (b : Body) → NoFresh b → soundLedger (ledgerOf ws) ≡ false
-      → Leaves (entryIn room ws b s) (writtenIn room (ledgerOf ws) b s) ws out ws out (Refused 2)
+      → Leaves (entryIn room ws b s) (entryWritten room (ledgerOf ws) b s) ws out ws out (Refused 2)
   unsound-leaves b n h =
-      each (λ (x : Body). Leaves (entryIn room ws x s) (writtenIn room (ledgerOf ws) x s) ws out ws out (Refused 2))
+      each (λ (x : Body). Leaves (entryIn room ws x s) (entryWritten room (ledgerOf ws) x s) ws out ws out (Refused 2))
       (λ r. stopped-leaves (request r room) h) (stopped-leaves (file s room) h) (λ id. stopped-leaves (cancel id room) h)
       (λ d. close-written (close d) _ ws out (Refused 2) (stopped (ledgerOf ws) (close d) 2 (cause-unsound (ledgerOf ws) (close d) h) .bytes)
       (stopped-leaves (close d) h))
@@ -134,13 +134,13 @@ module _ (room : ℕ) (ws out s : List ℕ) where
       go Clear f = let z : _≡_ {A = ℕ} 0 1 = cc in absurd (omega arith)
       go (Stop m) f = refl
 
-  kept : (b : Body) → NoFresh b → (n : ℕ) → madeIn room (ledgerOf ws) b s .answer ≡ Refused n → madeIn room (ledgerOf ws) b s .ledger ≡ ledgerOf ws
+  kept : (b : Body) → NoFresh b → (n : ℕ) → entryCalled room (ledgerOf ws) b s .answer ≡ Refused n → entryCalled room (ledgerOf ws) b s .ledger ≡ ledgerOf ws
   kept =
-      each (λ (b : Body). (n : ℕ) → madeIn room (ledgerOf ws) b s .answer ≡ Refused n → madeIn room (ledgerOf ws) b s .ledger ≡ ledgerOf ws)
+      each (λ (b : Body). (n : ℕ) → entryCalled room (ledgerOf ws) b s .answer ≡ Refused n → entryCalled room (ledgerOf ws) b s .ledger ≡ ledgerOf ws)
       (λ r. call-kept (request r room)) (call-kept (file s room)) (λ id. call-kept (cancel id room)) (λ d. call-kept (close d)) (λ n e. refl)
 
-  entry-made : (b : Body) → NoFresh b → madeIn room (ledgerOf ws) b s ≡ entryIn room ws b s
-  entry-made = each (λ (b : Body). madeIn room (ledgerOf ws) b s ≡ entryIn room ws b s) (λ r. refl) refl (λ id. refl) (λ d. refl) refl
+  entry-made : (b : Body) → NoFresh b → entryCalled room (ledgerOf ws) b s ≡ entryIn room ws b s
+  entry-made = each (λ (b : Body). entryCalled room (ledgerOf ws) b s ≡ entryIn room ws b s) (λ r. refl) refl (λ id. refl) (λ d. refl) refl
 
   -- the words of the ledger that it leaves, or those that were lent
   words-left : (ws₁ : List ℕ) (k : Called) → holdsLedger ws ≡ true → holdsLedger ws₁ ≡ true → ledgerOf ws₁ ≡ k .ledger
@@ -153,12 +153,12 @@ module _ (room : ℕ) (ws out s : List ℕ) where
 
   -- words that hold one: what the engine left
   pub sound-leaves : (b : Body) → NoFresh b → soundLedger (ledgerOf ws) ≡ true → (ws₁ out₁ : List ℕ) (a : Answer)
-      → MadeIn true room 0 b s ws out ws₁ out₁ a → Leaves (entryIn room ws b s) (writtenIn room (ledgerOf ws) b s) ws out ws₁ out₁ a
+      → EntryCalledIn true room 0 b s ws out ws₁ out₁ a → Leaves (entryIn room ws b s) (entryWritten room (ledgerOf ws) b s) ws out ws₁ out₁ a
   sound-leaves b n h ws₁ out₁ a m =
       rw (sym (entry-made b n))
       (record {
         answer = m .answer;
-        words = words-left ws₁ (madeIn room (ledgerOf ws) b s) (sound-holds ws h) (sound-holds ws₁ (m .sound)) (m .ledger) (kept b n);
+        words = words-left ws₁ (entryCalled room (ledgerOf ws) b s) (sound-holds ws h) (sound-holds ws₁ (m .sound)) (m .ledger) (kept b n);
         ledger = m .ledger;
         bytes = m .bytes;
       })
@@ -199,7 +199,7 @@ module _ (room seen : ℕ) (src ws : List ℕ) (x : ℤ) (ks out : List ℕ) whe
 
   pub entry-whole : (b : Body) (n : ℕ) → headOf seen src ≡ Whole b n → (ws₁ : List ℕ) (x₁ : ℤ) (ks₁ out₁ : List ℕ) (k : ℕ)
       → Gives (entryIn room ws b (take (n - 3) (drop 3 src))) ws x ks ws₁ x₁ ks₁ k
-      → out₁ ≡ put out 0 (writtenIn room (ledgerOf ws) b (take (n - 3) (drop 3 src)))
+      → out₁ ≡ put out 0 (entryWritten room (ledgerOf ws) b (take (n - 3) (drop 3 src)))
       → Headed (headOf seen src) ws₁ x₁ ks₁ out₁ (n ∷ 0 ∷ []) k
   unfolding part
   entry-whole b n e ws₁ x₁ ks₁ out₁ k g w = rw e (g, (w, refl))

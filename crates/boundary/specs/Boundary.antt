@@ -7,7 +7,7 @@ use lib.Dec.{eqb}
 use lib.ListN.{length, getD}
 use lib.IntN.{ℤ}
 use Rattle.fields.specs.Put.{put, part}
-use Rattle.units.specs.declared.Date.{Date}
+use Rattle.units.specs.Calendar.{dateOf}
 use Rattle.ledger.specs.declared.Identity.{Identity}
 use Rattle.ledger.specs.declared.Ledger.{Ledger}
 use Rattle.words.specs.Layout.{ledgerOf}
@@ -28,21 +28,18 @@ use Rattle.journal.specs.declared.Body.the-variants as body
 use Rattle.journal.specs.declared.Head.{Head}
 use Rattle.journal.specs.declared.Head.the-variants.{Cut, Bad, Whole}
 use Rattle.journal.specs.Entries.{headNumber}
-use Rattle.journal.specs.Made.{madeIn, writtenIn}
+use Rattle.journal.specs.EntryCalls.{entryCalled, entryWritten}
 use Rattle.engine.specs.InWords.{wordsLeft}
 use Rattle.table.specs.declared.Printed.{Printed}
 use Rattle.table.specs.declared.Printed.the-variants as table
 use Rattle.table.specs.Table.{printedBy, printed}
 
 -- ---- the calls' arguments from numbers
-abbrev pub dateOf : ℕ → Date
-dateOf n = record { 0 = n }
-
 abbrev pub startOf : ℕ → ℕ → ℕ → Start
 startOf today tracking confirmation = record { today = dateOf today; tracking = tracking; confirmation = confirmation }
 
-abbrev pub identityOf : ℕ → ℕ → Identity
-identityOf account key = record { account = account; key = key }
+abbrev pub identityFrom : ℕ → ℕ → Identity
+identityFrom account key = record { account = account; key = key }
 
 -- five bytes that may hold a rate code
 abbrev pub codeField : List ℕ → CodeField
@@ -98,11 +95,11 @@ freshIn ws s = cond (eqb (length ws) 2436) (freshCalled (ledgerOf ws) s) (record
 -- the call of an entry on any words, with so much room: a fresh as above; any other refuses a ledger that isn't sound (2)
 abbrev pub entryIn : ℕ → List ℕ → Body → List ℕ → Called
 entryIn room ws (body.Fresh s) bytes = freshIn ws s
-entryIn room ws (body.Request r) bytes = madeIn room (ledgerOf ws) (body.Request r) bytes
-entryIn room ws body.File bytes = madeIn room (ledgerOf ws) body.File bytes
-entryIn room ws (body.Cancel id) bytes = madeIn room (ledgerOf ws) (body.Cancel id) bytes
-entryIn room ws (body.Close d) bytes = madeIn room (ledgerOf ws) (body.Close d) bytes
-entryIn room ws body.Unread bytes = madeIn room (ledgerOf ws) body.Unread bytes
+entryIn room ws (body.Request r) bytes = entryCalled room (ledgerOf ws) (body.Request r) bytes
+entryIn room ws body.File bytes = entryCalled room (ledgerOf ws) body.File bytes
+entryIn room ws (body.Cancel id) bytes = entryCalled room (ledgerOf ws) (body.Cancel id) bytes
+entryIn room ws (body.Close d) bytes = entryCalled room (ledgerOf ws) (body.Close d) bytes
+entryIn room ws body.Unread bytes = entryCalled room (ledgerOf ws) body.Unread bytes
 
 -- what is answered, the words and the output after a call that by value gives c and writes ys
 pub record Leaves (c : Called) (ys ws out₀ ws₁ out : List ℕ) (a : Answer) : Type 0 where
@@ -122,7 +119,7 @@ headCalled room ws src (Whole b n) = entryIn room ws b (part src 3 (n - 3))
 abbrev pub headWritten : ℕ → List ℕ → List ℕ → Head → List ℕ
 headWritten room ws src Cut = []
 headWritten room ws src Bad = []
-headWritten room ws src (Whole b n) = writtenIn room (ledgerOf ws) b (part src 3 (n - 3))
+headWritten room ws src (Whole b n) = entryWritten room (ledgerOf ws) b (part src 3 (n - 3))
 
 -- what is told: the bytes of the entry, 0 if no whole good one stands there; and 1 if it is cut short, else 0
 abbrev pub headTold : Head → List ℕ

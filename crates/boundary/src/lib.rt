@@ -3,7 +3,7 @@ ghost use mathlib.Core.Path.{_≡_};
 ghost use lib.ListN.{length};
 ghost use Rattle.fields.specs.Put.{put};
 ghost use Rattle.words.specs.Layout.{ledgerOf};
-ghost use Rattle.journal.specs.Made.{writtenIn};
+ghost use Rattle.journal.specs.EntryCalls.{entryWritten};
 ghost use Rattle.boundary.specs.Boundary.{entryIn, Leaves, Stores, Gives};
 use calls::Answer;
 use engine::call;
@@ -12,7 +12,7 @@ use journal::Body;
 
 // Makes a call in the lent words: a fresh asks that they are 2,436, and any other that they are those of a sound ledger (2).
 fn make(ledger: &mut [u64], out: &mut [u8], body: Body, s: &[u8]) -> Answer
-    ensures { λ a. ⌜ Leaves (entryIn (length (now (out .entry))) (now (ledger .entry)) body (now (s .entry))) (writtenIn (length (now (out .entry))) (ledgerOf (now (ledger .entry))) body (now (s .entry))) (now (ledger .entry)) (now (out .entry)) (now (ledger .exit)) (now (out .exit)) a ⌝ }
+    ensures { λ a. ⌜ Leaves (entryIn (length (now (out .entry))) (now (ledger .entry)) body (now (s .entry))) (entryWritten (length (now (out .entry))) (ledgerOf (now (ledger .entry))) body (now (s .entry))) (now (ledger .entry)) (now (out .entry)) (now (ledger .exit)) (now (out .exit)) a ⌝ }
 {
     if let Body::Fresh(start) = body {
         if ledger.len() != 2436 {
@@ -53,7 +53,7 @@ pub fn call(
     s: &[u8],
 ) -> u64
     ensures { λ n. ⌜ Gives (entryIn (length (now (out .entry))) (now (ledger .entry)) body (now (s .entry))) (now (ledger .entry)) (now (change .entry)) (now (counts .entry)) (now (ledger .exit)) (now (change .exit)) (now (counts .exit)) n ⌝ }
-    ensures { λ _. ⌜ now (out .exit) ≡ put (now (out .entry)) 0 (writtenIn (length (now (out .entry))) (ledgerOf (now (ledger .entry))) body (now (s .entry))) ⌝ }
+    ensures { λ _. ⌜ now (out .exit) ≡ put (now (out .entry)) 0 (entryWritten (length (now (out .entry))) (ledgerOf (now (ledger .entry))) body (now (s .entry))) ⌝ }
 {
     let a = make(ledger, out, body, s);
     give(change, counts, a)

@@ -1,5 +1,5 @@
 // Reads a journal on standard input and writes the notices of every call carried out, in order: the bytes of a BRN file.
-use replay::Tells;
+use replay::Wanted;
 use replay::ending;
 use streams::output;
 
@@ -12,5 +12,5 @@ fn main() {
         );
         return;
     }
-    ending::tell(Tells::Notices);
+    ending::tell(Wanted::Notices);
 }

@@ -17,8 +17,8 @@ use Rattle.rules.specs.declared.Found.{Found}
 use Rattle.rules.specs.declared.Found.the-variants.{At, Nothing}
 use Rattle.rules.specs.Lists.{update}
 use Rattle.ledger.specs.Bills.{renewed, cancelledBill, blankBill}
-use Rattle.ledger.specs.Books.{Book, book, live, stored, ofId, placeOf, termsIn, billCharge, totalOf}
-use Rattle.ledger.specs.parts.Places.{billAt, headerOf, updated, slotOf}
+use Rattle.ledger.specs.Books.{Book, book, live, stored, ofId, placeOf, billTerms, billCharge, totalOf}
+use Rattle.ledger.specs.parts.Places.{billAt, headerOf, updated, placeFor}
 use Rattle.ledger.specs.Sound.{holdsId, soundBill, soundLedger}
 use Rattle.ledger.proofs.BookLaws.{live-appended, live-replaced, length-live, difference}
 use Rattle.rules.proofs.ListLaws.{sum-append}
@@ -37,10 +37,10 @@ use Rattle.causes.specs.declared.Request.{Request}
 use Rattle.causes.specs.declared.Decision.{Decision}
 use Rattle.causes.specs.Causes.{Call, request, cancel, requestCauses, cancelCauses, causes}
 use Rattle.causes.specs.Requests.{latestOf, newBill}
-use Rattle.causes.specs.parts.Decisions.{SoundAt, askedBy, requestBy, cancelBy, bilBy, cxlBy}
+use Rattle.causes.specs.parts.Decisions.{SoundAt, requestedBy, requestBy, cancelBy, bilBy, cxlBy}
 use Rattle.causes.proofs.CauseLaws.{asks, cancels}
 use Rattle.calls.specs.declared.Answer.the-variants.{Refused}
-use Rattle.calls.specs.Machine.{billOf, asked, numbered, next, nextWritten, nextVerdicts, nextClosed, total, outcome, answerBy, causeIn, stepIn, called}
+use Rattle.calls.specs.Machine.{billOf, requested, numbered, next, nextWritten, nextVerdicts, nextClosed, total, outcome, answerBy, causeIn, stepIn, called}
 use Rattle.calls.specs.parts.Answers.{noticed}
 use Rattle.calls.proofs.PlaceOfLaws.{first-of, spot, spot-none}
 use Rattle.calls.proofs.CallLaws.{Carried, Stopped, carried, stopped, cause-sound, written-clear}
@@ -49,9 +49,9 @@ use Rattle.calls.proofs.CallLaws.{Carried, Stopped, carried, stopped, c
 -- all that is known of a bill by its place in the struct
 pub data Placed (l : Ledger) (id : Identity) : Type 0 where
   new : placeOf id (live l) ≡ Nothing → holdsId id (live l) ≡ false → billOf id (live l) ≡ blankBill
-      → soughtIn id (map termsIn (live l)) ≡ sought.Nothing → Placed l id
+      → soughtIn id (map billTerms (live l)) ≡ sought.Nothing → Placed l id
   old : (p : ℕ) → p < l .count → placeOf id (live l) ≡ At p → holdsId id (live l) ≡ true → billOf id (live l) ≡ billAt l p
-      → soughtIn id (map termsIn (live l)) ≡ sought.Bill (billAt l p .terms)
+      → soughtIn id (map billTerms (live l)) ≡ sought.Bill (billAt l p .terms)
       → ((f : Bill → Bill) → update (ofId id) f (live l) ≡ set (live l) p (f (billAt l p))) → Placed l id
 
 pub placed : (l : Ledger) (id : Identity) → Placed l id
@@ -121,8 +121,8 @@ module _ (l : Ledger) (long : length (l .bills) ≡ 128) (s : soundLedger l ≡ 
   facts-at : (p : ℕ) → p < l .count → TermsFacts (billAt l p .terms)
   facts-at p h = terms-facts (billAt l p .terms) (bill-terms (billAt l p) (sound-at p h))
 
-  pub held-length : length (map termsIn (live l)) ≡ l .count
-  held-length = length-map (live l) termsIn ∙ length-live l within
+  pub held-length : length (map billTerms (live l)) ≡ l .count
+  held-length = length-map (live l) billTerms ∙ length-live l within
 
 -- ---- what they answer
 pub request-answer : (k : Book) (r : Request) (room : ℕ) → noticed (pos 0) ≡ answerBy (outcome k (request r room) Clear) Clear
@@ -136,7 +136,7 @@ cancel-answer k id room = rw (change-cancel k id room, length-cxl)
 
 -- ---- a call on a struct that is known to be sound: b stands at the place p, of what a search for id found
 module _ (l : Ledger) (long : length (l .bills) ≡ 128) (sure : soundLedger l ≡ true) (id : Identity) (f : Found) (fe : f ≡ placeOf id (live l)) (p : ℕ)
-    (pe : p ≡ slotOf f (l .count)) where
+    (pe : p ≡ placeFor f (l .count)) where
   few : l .count ≤ 128
   few = ledger-count l sure
 
@@ -152,7 +152,7 @@ module _ (l : Ledger) (long : length (l .bills) ≡ 128) (sure : soundLedger l �
 
 -- a request
 module _ (l : Ledger) (long : length (l .bills) ≡ 128) (sure : soundLedger l ≡ true) (r : Request) (room : ℕ) (f : Found) (fe : f ≡ placeOf (r .identity) (live l))
-    (p : ℕ) (pe : p ≡ slotOf f (l .count)) (h : LedgerHeader) (he : h ≡ headerOf l) (b : Bill) (be : b ≡ billAt l p) (d : Decision)
+    (p : ℕ) (pe : p ≡ placeFor f (l .count)) (h : LedgerHeader) (he : h ≡ headerOf l) (b : Bill) (be : b ≡ billAt l p) (d : Decision)
     (de : d ≡ requestBy (first (requestCauses r room (h .today) (h .tracking) (h .confirmation) (h .count) (soughtBy f b))) r h f b) where
   abbrev checkBy : LedgerHeader → Bill → Check
   checkBy t x = first (requestCauses r room (t .today) (t .tracking) (t .confirmation) (t .count) (soughtBy f x))
@@ -204,7 +204,7 @@ module _ (l : Ledger) (long : length (l .bills) ≡ 128) (sure : soundLedger l �
         (stored-old l i (renewed (latestOf r (l .«next_tracking»)) (billAt l i)) m (within l long sure))
 
     bytes-by : Placed l (r .identity)
-        → bilBy (headerOf l) f (billAt l p) (askedBy r (l .«next_tracking») f (billAt l p)) ≡ nextWritten (book l) (request r room)
+        → bilBy (headerOf l) f (billAt l p) (requestedBy r (l .«next_tracking») f (billAt l p)) ≡ nextWritten (book l) (request r room)
     unfolding nextWritten
     bytes-by (new x b c y) = rw (fe ∙ x, b, c)
     bytes-by (old i m x b c y u) = rw (fe ∙ x, known-at l long sure (r .identity) f fe p pe i m x, b, c)
@@ -220,7 +220,7 @@ module _ (l : Ledger) (long : length (l .bills) ≡ 128) (sure : soundLedger l �
 
 -- a cancel
 module _ (l : Ledger) (long : length (l .bills) ≡ 128) (sure : soundLedger l ≡ true) (id : Identity) (room : ℕ) (f : Found) (fe : f ≡ placeOf id (live l))
-    (p : ℕ) (pe : p ≡ slotOf f (l .count)) (h : LedgerHeader) (he : h ≡ headerOf l) (b : Bill) (be : b ≡ billAt l p) (d : Decision)
+    (p : ℕ) (pe : p ≡ placeFor f (l .count)) (h : LedgerHeader) (he : h ≡ headerOf l) (b : Bill) (be : b ≡ billAt l p) (d : Decision)
     (de : d ≡ cancelBy (first (cancelCauses id room (h .tracking) (h .confirmation) (soughtBy f b))) h b) where
   abbrev checkOf : LedgerHeader → Bill → Check
   checkOf t x = first (cancelCauses id room (t .tracking) (t .confirmation) (soughtBy f x))

@@ -34,7 +34,7 @@ use Rattle.verdict.specs.declared.Verdict.the-variants.{Accepted, Rejected}
 use Rattle.rules.specs.Rules.{first}
 use Rattle.group.specs.declared.Tally.{Tally}
 use Rattle.group.specs.Groups.{verdictHere, settled, answer, taken, answers}
-use Rattle.group.specs.parts.Turns.{TookBy}
+use Rattle.group.specs.parts.Turns.{FileTaken}
 use Rattle.group.proofs.GroupWalk.{book-stored}
 use Rattle.causes.proofs.CheckLaws.{good-short}
 use Rattle.calls.proofs.CallLaws.{Carried, Stopped, carried, stopped}
@@ -60,7 +60,7 @@ module _ (l : Ledger) (sure : soundLedger l ≡ true) (s : List ℕ) (room : ℕ
 
   -- what a file that was taken leaves, returns and writes
   pub file-done : k ≡ Clear → (writes : Bool) (out₀ : List ℕ) (led : Ledger) (out : List ℕ) (c : Tally)
-      → TookBy l (groups (recordsFrom s 0 (length s / 321))) writes out₀ led out c
+      → FileTaken l (groups (recordsFrom s 0 (length s / 321))) writes out₀ led out c
       → Carried l (file s room) led (cleared c) (answers [] (book l) (groups (recordsFrom s 0 (length s / 321))))
   unfolding answerBy outcome next nextWritten nextVerdicts nextClosed fileGroups records
   file-done e writes out₀ led out c t =

@@ -16,7 +16,7 @@ use Rattle.ledger.specs.declared.Posted.{Posted}
 use Rattle.ledger.specs.declared.Posted.the-variants as posted
 use Rattle.rules.specs.Lists.{all, has, every}
 use Rattle.ledger.specs.Bills.{isOf, isRateCode, codeBytes, renewed, cancelledBill}
-use Rattle.ledger.specs.Books.{Book, view, termsIn, ofId}
+use Rattle.ledger.specs.Books.{Book, view, billTerms, ofId}
 use Rattle.ledger.specs.Sound.{soundTerms, soundAmounts, soundBill, holdsId, distinct, sound}
 use Rattle.rules.proofs.ListLaws.{all-on, every-append}
 use Rattle.ledger.proofs.SoundLaws.{moved-facts, BookFacts, book-facts, facts-sound, terms-facts, facts-terms, bill-terms}
@@ -98,7 +98,7 @@ eqb-sym a b =
     (λ e. e ∙ sym (ne-eqb b a (λ q. eqb-false a b e (sym q))))
 
 -- an identity that no bill has is not found
-pub nowhere : (id : Identity) (bs : List bill.Bill) → holdsId id bs ≡ false → soughtIn id (map termsIn bs) ≡ Nothing
+pub nowhere : (id : Identity) (bs : List bill.Bill) → holdsId id bs ≡ false → soughtIn id (map billTerms bs) ≡ Nothing
 nowhere id [] h = refl
 nowhere id (b ∷ bs) h = let o = or-both (isOf id (b .terms)) (holdsId id bs) h in rw (o .0) (nowhere id bs (o .1))
 
@@ -133,7 +133,7 @@ module _ (l : Book) (f : BookFacts l) (n : (l .tracking + 1 ≤ 1000000000) × (
 request-facts : (l : Book) (r : Request) (room : ℕ) → BookFacts l → first (causes (view l) (request r room)) ≡ Clear → BookFacts (next l (request r room))
 unfolding causes next
 request-facts l r room f e =
-    let a = asks r room (l .today) (l .tracking) (l .confirmation) (length (map termsIn (l .bills))) (soughtIn (r .identity) (map termsIn (l .bills))) e in
+    let a = asks r room (l .today) (l .tracking) (l .confirmation) (length (map billTerms (l .bills))) (soughtIn (r .identity) (map billTerms (l .bills))) e in
     cases (holdsId (r .identity) (l .bills))
     (λ h. rw h (numbered-facts l f (a .left) _
     (rw (length-update (ofId (r .identity)) (renewed (latestOf r (l .tracking))) (l .bills)) (f .few))
@@ -144,14 +144,14 @@ request-facts l r room f e =
     let s = new-sound l r f (a .good) (a .left .0) in
     let k = a .new (nowhere (r .identity) (l .bills) h) in
     rw h (numbered-facts l f (a .left) _
-    (simp (length-append) (omega (arith, k, length-map (l .bills) termsIn)))
+    (simp (length-append) (omega (arith, k, length-map (l .bills) billTerms)))
     (rw (every-append soundBill (l .bills) (b ∷ []), f .bills, s))
     (distinct-append (l .bills) b (f .once) h)))
 
 cancel-facts : (l : Book) (id : Identity) (room : ℕ) → BookFacts l → first (causes (view l) (cancel id room)) ≡ Clear → BookFacts (next l (cancel id room))
 unfolding causes next
 cancel-facts l id room f e =
-    let a = cancels id room (l .tracking) (l .confirmation) (soughtIn id (map termsIn (l .bills))) e in
+    let a = cancels id room (l .tracking) (l .confirmation) (soughtIn id (map billTerms (l .bills))) e in
     numbered-facts l f (a .left) _
     (rw (length-update (ofId id) cancelledBill (l .bills)) (f .few))
     (bills-kept id cancelledBill (l .bills) (f .bills) (λ b y s. cancelled-sound b s))

@@ -38,8 +38,8 @@ billOf id [] = blankBill
 billOf id (b ∷ bs) = cond (ofId id b) b (billOf id bs)
 
 -- the bill as a request leaves it: "A new identity is added .. A known one takes the new values"
-abbrev pub asked : Request → Book → Bill
-asked r l =
+abbrev pub requested : Request → Book → Bill
+requested r l =
     cond (holdsId (r .identity) (l .bills)) (renewed (latestOf r (l .tracking)) (billOf (r .identity) (l .bills))) (newBill r (l .tracking))
 
 -- ---- what a call does that has no cause against it
@@ -63,7 +63,7 @@ unfoldable pub nextWritten : Book → Call → List ℕ
 nextWritten l (request r room) =
     bil
     (record {
-      bill = asked r l;
+      bill = requested r l;
       previous = billOf (r .identity) (l .bills) .terms .latest .consumption;
       today = l .today;
       confirmation = l .confirmation;

@@ -1,14 +1,12 @@
 -- What a request gives a bill, and what requests and cancels leave and write, on small values: b stands at the place that was found. Assumes nothing.
 use Prim.Native.Nat.{ℕ}
-use mathlib.Core.Bool.{Bool, cond, not, _&&_}
-use lib.Dec.{eqb}
+use mathlib.Core.Bool.{Bool, not, _&&_}
 use Rattle.units.specs.declared.Date.{Date}
 use Rattle.ledger.specs.declared.RateCode.{RateCode}
-use Rattle.ledger.specs.declared.Product.{Product}
 use Rattle.ledger.specs.declared.Product.the-variants as product
 use Rattle.ledger.specs.declared.Latest.{Latest}
 use Rattle.ledger.specs.declared.Bill.{Bill}
-use Rattle.ledger.specs.Bills.{productByte, isOpen, firstBill}
+use Rattle.ledger.specs.Bills.{isOpen, firstBill, productOf}
 use Rattle.causes.specs.declared.CodeField.{CodeField}
 use Rattle.causes.specs.declared.Request.{Request}
 
@@ -16,9 +14,6 @@ use Rattle.causes.specs.declared.Request.{Request}
 -- the rate code that five bytes hold, and the product that a byte holds
 abbrev pub codeOf : CodeField → RateCode
 codeOf x = record { first = x .first; second = x .second; tens = x .tens; ones = x .ones }
-
-abbrev pub productOf : ℕ → Product
-productOf x = cond (eqb x (productByte product.Prepay)) product.Prepay product.BillReady
 
 -- "from its latest request the Tracking ID, consumption, Billing Date, From Date and Scheduled Date"
 abbrev pub latestOf : Request → ℕ → Latest

@@ -28,10 +28,10 @@ use Rattle.history.specs.Claim.{changes, assigned, ByValue}
 use Rattle.history.proofs.ClaimProof.{claim-by-value}
 use Rattle.boundary.specs.Boundary.{numberOf, changeLeft, countsLeft}
 use Rattle.boundary.proofs.GiveLaws.{fresh-long}
-use Rattle.clearing_c.specs.InWords.{Held, MadeBy, Made, changeOf, writtenOf, changesOf, assignedOf, numberBy, SumInWords}
+use Rattle.clearing_c.specs.InWords.{Held, MadeBy, CallsMade, changeOf, writtenOf, changesOf, assignedOf, numberBy, SumInWords}
 use Rattle.clearing_c.proofs.NumberLaws.{numbered}
 
-made-ran : (cs : List Call) (hs : List Held) (ws ws₂ : List ℕ) → Made ws cs hs ws₂ → ledgerOf ws₂ ≡ ran (ledgerOf ws) cs
+made-ran : (cs : List Call) (hs : List Held) (ws ws₂ : List ℕ) → CallsMade ws cs hs ws₂ → ledgerOf ws₂ ≡ ran (ledgerOf ws) cs
 unfolding ran
 made-ran [] [] ws ws₂ m = ap ledgerOf (sym m)
 made-ran [] (a ∷ hs) ws ws₂ m = absurd m
@@ -98,7 +98,7 @@ record ReadAll (l : Ledger) (cs : List Call) (hs : List Held) : Type 0 where
   changes : changesOf hs ≡ changes (outcomes (book l) cs)
   written : map writtenOf hs ≡ map (λ (o : Outcome). o .written) (outcomes (book l) cs)
 
-read-all : (cs : List Call) (hs : List Held) (ws ws₂ : List ℕ) → soundLedger (ledgerOf ws) ≡ true → Made ws cs hs ws₂ → ReadAll (ledgerOf ws) cs hs
+read-all : (cs : List Call) (hs : List Held) (ws ws₂ : List ℕ) → soundLedger (ledgerOf ws) ≡ true → CallsMade ws cs hs ws₂ → ReadAll (ledgerOf ws) cs hs
 unfolding outcomes changes
 read-all [] [] ws ws₂ h m = record { numbers = refl; changes = refl; written = refl }
 read-all [] (a ∷ hs) ws ws₂ h m = absurd m

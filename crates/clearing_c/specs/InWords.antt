@@ -17,7 +17,7 @@ use Rattle.causes.specs.Causes.{Call, freshCauses}
 use Rattle.calls.specs.Machine.{Outcome, total, outcomes, called, stepIn, ran}
 use Rattle.history.specs.History.{begun, historySum, hAfter, hCauses}
 use Rattle.history.specs.Written.{assignedIn}
-use Rattle.history.specs.Claim.{Once, ByValue}
+use Rattle.history.specs.Claim.{NoneTwice, ByValue}
 use Rattle.boundary.specs.Boundary.{freshIn, Gives}
 
 -- what a caller holds after a call: the number answered, and what stands in `change`, `counts` and the output
@@ -37,11 +37,11 @@ pub record MadeBy (ws : List ℕ) (c : Call) (a : Held) (ws₁ : List ℕ) : Typ
   pub bytes : a .output ≡ put output 0 (stepIn (ledgerOf ws) c .written)
 
 -- the words ws₂ are left by these calls, made on the words ws, and the caller holds these after each
-abbrev pub Made : List ℕ → List Call → List Held → List ℕ → Type 0
-Made ws [] [] ws₂ = ws ≡ ws₂
-Made ws [] (a ∷ hs) ws₂ = ⊥
-Made ws (c ∷ cs) [] ws₂ = ⊥
-Made ws (c ∷ cs) (a ∷ hs) ws₂ = (ws₁ : List ℕ) × MadeBy ws c a ws₁ × Made ws₁ cs hs ws₂
+abbrev pub CallsMade : List ℕ → List Call → List Held → List ℕ → Type 0
+CallsMade ws [] [] ws₂ = ws ≡ ws₂
+CallsMade ws [] (a ∷ hs) ws₂ = ⊥
+CallsMade ws (c ∷ cs) [] ws₂ = ⊥
+CallsMade ws (c ∷ cs) (a ∷ hs) ws₂ = (ws₁ : List ℕ) × MadeBy ws c a ws₁ × CallsMade ws₁ cs hs ws₂
 
 -- ---- what the caller reads off a call: nothing where a number but 0 was answered
 -- the signed change returned
@@ -78,10 +78,10 @@ pub record ClaimsInWords (s : Start) (ws₁ : List ℕ) (cs : List Call) (hs : L
   pub history : total (book (ledgerOf ws₂)) ≡ historySum (hAfter (begun s) cs)
   -- the bytes that the caller holds are those of the claim, and assign no Tracking ID twice
   pub written : map writtenOf hs ≡ map (λ (o : Outcome). o .written) (outcomes (book (ledgerOf ws₁)) cs)
-  pub once : Once (assignedOf hs)
+  pub once : NoneTwice (assignedOf hs)
 
 -- after a fresh that succeeded on any 2,436 words and any list of calls
 abbrev pub SumInWords : Type 0
 SumInWords =
     (ws ws₁ ws₂ : List ℕ) (s : Start) (cs : List Call) (hs : List Held) → length ws ≡ 2436 → first (freshCauses s) ≡ Clear
-    → ledgerOf ws₁ ≡ freshIn ws s .ledger → Made ws₁ cs hs ws₂ → ClaimsInWords s ws₁ cs hs ws₂
+    → ledgerOf ws₁ ≡ freshIn ws s .ledger → CallsMade ws₁ cs hs ws₂ → ClaimsInWords s ws₁ cs hs ws₂

@@ -9,7 +9,7 @@ use Rattle.journal.specs.Journal.{isBad, endNumber}
 use Rattle.report.specs.declared.Report.{Report}
 use Rattle.report.specs.declared.Report.the-variants as report
 use Rattle.report.specs.Report.{Claimed, reportOf, reported}
-use Rattle.report.specs.NoticesOf.{noticesReport, noticed}
+use Rattle.report.specs.NoticesOf.{noticesReport, noticesWritten}
 
 -- 1: "output under .."
 abbrev pub reportNumber : Report → ℕ
@@ -32,4 +32,4 @@ pub record Tables (s out₀ ts out ts₁ : List ℕ) (n : ℕ) : Type 0 where
 pub record Notices (s out₀ ts out ts₁ : List ℕ) (n : ℕ) : Type 0 where
   pub number : n ≡ reportNumber (noticesReport (length out₀) s)
   pub told : ts₁ ≡ toldLeft ts (isBad s) (noticesReport (length out₀) s)
-  pub bytes : out ≡ put out₀ 0 (noticed (length out₀) s)
+  pub bytes : out ≡ put out₀ 0 (noticesWritten (length out₀) s)

@@ -11,7 +11,8 @@ ghost use Rattle.causes.specs.Causes.{request, file, cancel, close};
 ghost use Rattle.calls.specs.Machine.{stepIn, called};
 ghost use Rattle.lookups.specs.Lookups.{amountsIn};
 ghost use Rattle.journal.specs.Entries.{headOf};
-ghost use Rattle.boundary.specs.Boundary.{dateOf, startOf, identityOf, requestOf, freshIn, Gives, headCalled, headWritten, headTold, Opens, amountsNumber, amountsLeft, Prints};
+ghost use Rattle.boundary.specs.Boundary.{startOf, identityFrom, requestOf, freshIn, Gives, headCalled, headWritten, headTold, Opens, amountsNumber, amountsLeft, Prints};
+ghost use Rattle.units.specs.Calendar.{dateOf};
 use causes::CodeField;
 use causes::Request;
 use causes::Start;
@@ -82,8 +83,8 @@ pub extern "C" fn clearing_request(
     change: &mut i64,
     counts: &mut [u64; 4],
 ) -> u64
-    ensures { λ n. ⌜ Gives (called (ledgerOf (now (ledger .entry))) (request (requestOf (now (code .entry)) (identityOf account key) product billing from consumption scheduled) (length (now (out .entry))))) (now (ledger .entry)) (now (change .entry)) (now (counts .entry)) (now (ledger .exit)) (now (change .exit)) (now (counts .exit)) n ⌝ }
-    ensures { λ _. ⌜ now (out .exit) ≡ put (now (out .entry)) 0 (stepIn (ledgerOf (now (ledger .entry))) (request (requestOf (now (code .entry)) (identityOf account key) product billing from consumption scheduled) (length (now (out .entry)))) .written) ⌝ }
+    ensures { λ n. ⌜ Gives (called (ledgerOf (now (ledger .entry))) (request (requestOf (now (code .entry)) (identityFrom account key) product billing from consumption scheduled) (length (now (out .entry))))) (now (ledger .entry)) (now (change .entry)) (now (counts .entry)) (now (ledger .exit)) (now (change .exit)) (now (counts .exit)) n ⌝ }
+    ensures { λ _. ⌜ now (out .exit) ≡ put (now (out .entry)) 0 (stepIn (ledgerOf (now (ledger .entry))) (request (requestOf (now (code .entry)) (identityFrom account key) product billing from consumption scheduled) (length (now (out .entry)))) .written) ⌝ }
 {
     let r = Request {
         code: CodeField {
@@ -128,8 +129,8 @@ pub extern "C" fn clearing_cancel(
     change: &mut i64,
     counts: &mut [u64; 4],
 ) -> u64
-    ensures { λ n. ⌜ Gives (called (ledgerOf (now (ledger .entry))) (cancel (identityOf account key) (length (now (out .entry))))) (now (ledger .entry)) (now (change .entry)) (now (counts .entry)) (now (ledger .exit)) (now (change .exit)) (now (counts .exit)) n ⌝ }
-    ensures { λ _. ⌜ now (out .exit) ≡ put (now (out .entry)) 0 (stepIn (ledgerOf (now (ledger .entry))) (cancel (identityOf account key) (length (now (out .entry)))) .written) ⌝ }
+    ensures { λ n. ⌜ Gives (called (ledgerOf (now (ledger .entry))) (cancel (identityFrom account key) (length (now (out .entry))))) (now (ledger .entry)) (now (change .entry)) (now (counts .entry)) (now (ledger .exit)) (now (change .exit)) (now (counts .exit)) n ⌝ }
+    ensures { λ _. ⌜ now (out .exit) ≡ put (now (out .entry)) 0 (stepIn (ledgerOf (now (ledger .entry))) (cancel (identityFrom account key) (length (now (out .entry)))) .written) ⌝ }
 {
     let id = Identity { account, key };
     boundary::call(ledger, out, change, counts, Body::Cancel(id), b"")
@@ -158,8 +159,8 @@ pub extern "C" fn clearing_amounts(
     key: u64,
     amounts: &mut [u64; 3],
 ) -> u64
-    ensures { λ n. ⌜ n ≡ amountsNumber (amountsIn (ledgerOf (now (ledger .entry))) (identityOf account key)) ⌝ }
-    ensures { λ _. ⌜ now (amounts .exit) ≡ amountsLeft (now (amounts .entry)) (amountsIn (ledgerOf (now (ledger .entry))) (identityOf account key)) ⌝ }
+    ensures { λ n. ⌜ n ≡ amountsNumber (amountsIn (ledgerOf (now (ledger .entry))) (identityFrom account key)) ⌝ }
+    ensures { λ _. ⌜ now (amounts .exit) ≡ amountsLeft (now (amounts .entry)) (amountsIn (ledgerOf (now (ledger .entry))) (identityFrom account key)) ⌝ }
 {
     let found = lookups_in_words::amounts_in(ledger, Identity { account, key });
     match found {

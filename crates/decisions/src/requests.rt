@@ -4,8 +4,9 @@ ghost use Prim.Native.Nat.{_≤_};
 ghost use Rattle.rules.specs.Rules.{first};
 ghost use Rattle.group.specs.parts.Turns.{soughtBy};
 ghost use Rattle.causes.specs.Causes.{requestCauses, cancelCauses};
-ghost use Rattle.causes.specs.Requests.{productOf, latestOf, newBill};
-ghost use Rattle.causes.specs.parts.Decisions.{SoundAt, CanRenew, askedBy, grown, usedBy, requestBy, cancelBy};
+ghost use Rattle.causes.specs.Requests.{latestOf, newBill};
+ghost use Rattle.ledger.specs.Bills.{productOf};
+ghost use Rattle.causes.specs.parts.Decisions.{SoundAt, CanRenew, requestedBy, grown, usedBy, requestBy, cancelBy};
 use causes::Decision;
 use causes::Request;
 use causes::checks;
@@ -58,7 +59,7 @@ fn new_bill(r: Request, tracking: u64) -> Bill
 // The bill as a request leaves it: a new one, or a known one with the new values.
 fn asked(r: Request, tracking: u64, f: Found, b: Bill) -> Bill
     requires { ⌜ CanRenew f b ⌝ }
-    ensures { λ a. ⌜ a ≡ askedBy r tracking f b ⌝ }
+    ensures { λ a. ⌜ a ≡ requestedBy r tracking f b ⌝ }
 {
     match f {
         Found::Nothing => new_bill(r, tracking),

@@ -15,7 +15,7 @@ use Rattle.ledger.specs.declared.LedgerHeader.{LedgerHeader}
 use Rattle.rules.specs.declared.Found.{Found}
 use Rattle.rules.specs.Lists.{find, count}
 use Rattle.ledger.specs.Books.{live, ofId, placeOf}
-use Rattle.ledger.specs.parts.Places.{headerOf, withHeader, slotOf}
+use Rattle.ledger.specs.parts.Places.{headerOf, withHeader, placeFor}
 use Rattle.ledger.specs.Sound.{soundLedger}
 use Rattle.ledger.proofs.SoundLaws.{ledger-count}
 use Rattle.words.specs.Layout.{holdsLedger, ledgerOf}
@@ -26,9 +26,9 @@ use Rattle.rules.specs.declared.Check.the-variants.{Clear, Stop}
 use Rattle.rules.specs.Rules.{first}
 use Rattle.file.specs.File.{Group}
 use Rattle.group.specs.declared.Tally.{Tally}
-use Rattle.group.specs.declared.Turned.{Turned}
+use Rattle.group.specs.declared.TurnResult.{TurnResult}
 use Rattle.group.specs.Groups.{verdictOn}
-use Rattle.group.specs.parts.Turns.{soughtBy, said, TurnedBy}
+use Rattle.group.specs.parts.Turns.{soughtBy, ifWritten, TurnLeaves}
 use Rattle.causes.specs.Causes.{Call, close, closeCauses, causes}
 use Rattle.causes.specs.Requests.{closes}
 use Rattle.calls.specs.declared.Answer.{Answer}
@@ -40,8 +40,8 @@ use Rattle.calls.proofs.CallLaws.{Stopped, Carried, cause-sound, called-stop}
 use Rattle.calls.proofs.DayLaws.{close-done}
 use Rattle.engine.specs.parts.Calls.{CalledIn}
 
--- nothing is said, whether notices are written or not
-pub said-none : (writes : Bool) (out : List ℕ) → out ≡ put out 0 (said writes [])
+-- nothing is ifWritten, whether notices are written or not
+pub said-none : (writes : Bool) (out : List ℕ) → out ≡ put out 0 (ifWritten writes [])
 said-none true out = put-nil out 0
 said-none false out = put-nil out 0
 
@@ -53,18 +53,18 @@ module _ (writes : Bool) (c : Call) (ws out : List ℕ) (holds : holdsLedger ws 
         holds = holds;
         ledger = s .ledger;
         answer = s .answer;
-        bytes = said-none writes out ∙ ap (λ (ys : List ℕ). put out 0 (said writes ys)) (s .bytes);
+        bytes = said-none writes out ∙ ap (λ (ys : List ℕ). put out 0 (ifWritten writes ys)) (s .bytes);
       }
 
   -- and one that is carried out
   pub carried-in : (k : Ledger) (a : Answer) (ys : List ℕ) → Carried (ledgerOf ws) c k a ys → (us out′ : List ℕ) → holdsLedger us ≡ true → ledgerOf us ≡ k
-      → out′ ≡ put out 0 (said writes ys) → CalledIn writes c ws out us out′ a
+      → out′ ≡ put out 0 (ifWritten writes ys) → CalledIn writes c ws out us out′ a
   carried-in k a ys s us out′ h e o =
       record {
         holds = h;
         ledger = e ∙ s .ledger;
         answer = s .answer;
-        bytes = o ∙ ap (λ (zs : List ℕ). put out 0 (said writes zs)) (s .bytes);
+        bytes = o ∙ ap (λ (zs : List ℕ). put out 0 (ifWritten writes zs)) (s .bytes);
       }
 
 -- ---- what a search in the words found
@@ -73,8 +73,8 @@ module _ (ws : List ℕ) (id : Identity) (h : LedgerHeader) (he : h ≡ headerOf
   pub found-is : f ≡ placeOf id (live (ledgerOf ws))
   found-is = fe ∙ ap (λ (t : LedgerHeader). find (ofId id) 0 (take (t .count) (ledgerOf ws .bills))) he
 
-  pub slot-is : (p : ℕ) → p ≡ slotOf f (h .count) → p ≡ slotOf f (ledgerOf ws .count)
-  slot-is p pe = pe ∙ ap (λ (t : LedgerHeader). slotOf f (t .count)) he
+  pub slot-is : (p : ℕ) → p ≡ placeFor f (h .count) → p ≡ placeFor f (ledgerOf ws .count)
+  slot-is p pe = pe ∙ ap (λ (t : LedgerHeader). placeFor f (t .count)) he
 
 -- ---- a close
 module _ (ws : List ℕ) (sure : soundLedger (ledgerOf ws) ≡ true) (d : Date) (h : LedgerHeader) (he : h ≡ headerOf (ledgerOf ws)) (check : Check)
@@ -103,7 +103,7 @@ module _ (ws : List ℕ) (sure : soundLedger (ledgerOf ws) ≡ true) (d : Date) 
       )
 
 -- ---- a group's turn, by the header that the words hold
-pub turned-here : (d : Bool) (f : Found) (b : Bill) (g : Group) (c : Tally) (writes : Bool) (out₀ out : List ℕ) (x : Turned) (h k : LedgerHeader) → h ≡ k
-    → TurnedBy (verdictOn d (h .today) (soughtBy f b) g) g h b c writes out₀ out x → TurnedBy (verdictOn d (k .today) (soughtBy f b) g) g k b c writes out₀ out x
+pub turned-here : (d : Bool) (f : Found) (b : Bill) (g : Group) (c : Tally) (writes : Bool) (out₀ out : List ℕ) (x : TurnResult) (h k : LedgerHeader) → h ≡ k
+    → TurnLeaves (verdictOn d (h .today) (soughtBy f b) g) g h b c writes out₀ out x → TurnLeaves (verdictOn d (k .today) (soughtBy f b) g) g k b c writes out₀ out x
 turned-here d f b g c writes out₀ out x h k e w =
-    subst (λ (t : LedgerHeader). TurnedBy (verdictOn d (t .today) (soughtBy f b) g) g t b c writes out₀ out x) e w
+    subst (λ (t : LedgerHeader). TurnLeaves (verdictOn d (t .today) (soughtBy f b) g) g t b c writes out₀ out x) e w

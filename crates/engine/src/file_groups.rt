@@ -6,7 +6,7 @@ ghost use lib.ListN.{length};
 ghost use Rattle.words.specs.Layout.{holdsLedger, ledgerOf};
 ghost use Rattle.records.specs.Layout.{recordsFrom};
 ghost use Rattle.file.specs.File.{groups};
-ghost use Rattle.group.specs.parts.Turns.{Ready, Fine, TurnedOn, TookBy};
+ghost use Rattle.group.specs.parts.Turns.{Ready, FitForTurn, TurnLeavesOn, FileTaken};
 use group::Tally;
 use places::place;
 
@@ -22,8 +22,8 @@ fn turn(
     duplicate: bool,
 ) -> Tally
     requires { ⌜ (i < n) × (n * 321 ≤ length (now s)) × (n ≤ 200) × (writes ≡ true → c .written + (n - i) * 321 ≤ length (now out)) ⌝ }
-    requires { ⌜ (holdsLedger (now ws) ≡ true) × Fine (ledgerOf (now ws)) c ⌝ }
-    ensures { λ r. ⌜ (holdsLedger (now (ws .exit)) ≡ true) × TurnedOn (now (s .entry)) i n duplicate (ledgerOf (now (ws .entry))) c writes (now (out .entry)) (ledgerOf (now (ws .exit))) (now (out .exit)) r ⌝ }
+    requires { ⌜ (holdsLedger (now ws) ≡ true) × FitForTurn (ledgerOf (now ws)) c ⌝ }
+    ensures { λ r. ⌜ (holdsLedger (now (ws .exit)) ≡ true) × TurnLeavesOn (now (s .entry)) i n duplicate (ledgerOf (now (ws .entry))) c writes (now (out .entry)) (ledgerOf (now (ws .exit))) (now (out .exit)) r ⌝ }
 {
     let h = place::header(ws);
     let count = h.count;
@@ -40,7 +40,7 @@ fn turn(
 pub fn take(ws: &mut [u64], out: &mut [u8], writes: bool, s: &[u8], n: usize) -> Tally
     requires { ⌜ (n ≤ 200) × (n * 321 ≤ length (now s)) × (writes ≡ true → n * 321 ≤ length (now out)) ⌝ }
     requires { ⌜ (holdsLedger (now ws) ≡ true) × Ready (ledgerOf (now ws)) ⌝ }
-    ensures { λ r. ⌜ (holdsLedger (now (ws .exit)) ≡ true) × TookBy (ledgerOf (now (ws .entry))) (groups (recordsFrom (now (s .entry)) 0 n)) writes (now (out .entry)) (ledgerOf (now (ws .exit))) (now (out .exit)) r ⌝ }
+    ensures { λ r. ⌜ (holdsLedger (now (ws .exit)) ≡ true) × FileTaken (ledgerOf (now (ws .entry))) (groups (recordsFrom (now (s .entry)) 0 n)) writes (now (out .entry)) (ledgerOf (now (ws .exit))) (now (out .exit)) r ⌝ }
 {
     let marks = group::marks(s, n);
     let mut c = group::counts::none();

@@ -1,4 +1,4 @@
--- Entries made one after another, whatever is written of them. Assumes nothing.
+-- Entries afterEntry one after another, whatever is written of them. Assumes nothing.
 use Prim.Native.Nat.{ℕ, _+_, _-_, _≤_, _<_}
 use mathlib.Core.Path.{_≡_, refl, sym, ap, _∙_}
 use mathlib.Core.Bool.{Bool, true, false, true≢false, false≢true}
@@ -15,21 +15,21 @@ use Rattle.words.specs.Layout.{ledgerOf}
 use Rattle.journal.specs.declared.Body.{Body}
 use Rattle.journal.specs.declared.Head.the-variants.{Whole}
 use Rattle.journal.specs.Entries.{headOf}
-use Rattle.journal.specs.Journal.{Entry, parse, made, makes}
-use Rattle.journal.specs.Made.{madeIn, madeAll}
+use Rattle.journal.specs.Journal.{Entry, parse, afterEntry, afterEntries}
+use Rattle.journal.specs.EntryCalls.{entryCalled, ledgerAfterEntries}
 use Rattle.journal.proofs.HeadLaws.{whole-fits}
 use Rattle.journal.proofs.JournalLaws.{parse-whole}
 use Rattle.journal.proofs.BeginLaws.{whole-taken, makes-append}
 use Rattle.journal.proofs.MadeLaws.{made-book}
 use Rattle.entries.specs.parts.Running.{behind, entryAt, ranTo, FirstMade, NoneLeft}
 
-pub made-append : (l : Ledger) (es fs : List Entry) → madeAll l (es ++ fs) ≡ madeAll (madeAll l es) fs
-unfolding madeAll
+pub made-append : (l : Ledger) (es fs : List Entry) → ledgerAfterEntries l (es ++ fs) ≡ ledgerAfterEntries (ledgerAfterEntries l es) fs
+unfolding ledgerAfterEntries
 made-append l [] fs = refl
-made-append l (e ∷ es) fs = made-append (madeIn 64200 l (e .body) (e .bytes) .ledger) es fs
+made-append l (e ∷ es) fs = made-append (entryCalled 64200 l (e .body) (e .bytes) .ledger) es fs
 
 pub first-none : (seen : ℕ) (src ws : List ℕ) → soundLedger (ledgerOf ws) ≡ true → FirstMade seen src ws ws 0 seen []
-unfolding madeAll makes
+unfolding ledgerAfterEntries afterEntries
 first-none seen src ws h = record { sound = h; used = omega arith; parsed = refl; ledger = refl; books = refl; count = sym (add-zero seen) }
 
 -- ---- the end of a run
@@ -41,7 +41,7 @@ module _ (src : List ℕ) (at seen n : ℕ) where
       → NoneLeft src (ranTo at seen n false bad)
   left-none bad e = record { left = λ z. e; goes = λ z. absurd (false≢true z) }
 
--- ---- one entry more: the one of m bytes that stands behind those that were made
+-- ---- one entry more: the one of m bytes that stands behind those that were afterEntry
 module _ (seen : ℕ) (src ws₀ ws : List ℕ) (at k : ℕ) (done : List Entry) (w : FirstMade seen src ws₀ ws at k done)
     (b : Body) (m : ℕ) (h : headOf k (drop at src) ≡ Whole b m) where
   abbrev one : Entry
@@ -55,12 +55,12 @@ module _ (seen : ℕ) (src ws₀ ws : List ℕ) (at k : ℕ) (done : List Entry)
   parsed-on : parse k (drop at src) ≡ behind (one ∷ []) (parse (k + 1) (drop (at + m) src))
   parsed-on = parse-whole k (drop at src) b m h ∙ rw (drop-drop m at src)
 
-  module _ (ws′ : List ℕ) (s : soundLedger (ledgerOf ws′) ≡ true) (l : ledgerOf ws′ ≡ madeIn 64200 (ledgerOf ws) b (part (drop at src) 3 (m - 3)) .ledger) where
-    book-on : book (ledgerOf ws′) ≡ made b (part (drop at src) 3 (m - 3)) (book (ledgerOf ws))
+  module _ (ws′ : List ℕ) (s : soundLedger (ledgerOf ws′) ≡ true) (l : ledgerOf ws′ ≡ entryCalled 64200 (ledgerOf ws) b (part (drop at src) 3 (m - 3)) .ledger) where
+    book-on : book (ledgerOf ws′) ≡ afterEntry b (part (drop at src) 3 (m - 3)) (book (ledgerOf ws))
     book-on = ap book l ∙ made-book (ledgerOf ws) (w .sound) b (part (drop at src) 3 (m - 3)) (whole-taken k (drop at src) b m h)
 
     pub first-more : FirstMade seen src ws₀ ws′ (at + m) (k + 1) (done ++ (one ∷ []))
-    unfolding madeAll makes
+    unfolding ledgerAfterEntries afterEntries
     first-more =
         record {
           sound = s;
@@ -72,11 +72,11 @@ module _ (seen : ℕ) (src ws₀ ws : List ℕ) (at k : ℕ) (done : List Entry)
               (sym (append-assoc done (one ∷ []) (parse (k + 1) (drop (at + m) src) .entries)));
           ledger =
               l
-              ∙ ap (λ (j : Ledger). madeAll j (one ∷ [])) (w .ledger)
+              ∙ ap (λ (j : Ledger). ledgerAfterEntries j (one ∷ [])) (w .ledger)
               ∙ sym (made-append (ledgerOf ws₀) done (one ∷ []));
           books =
               book-on
-              ∙ ap (λ (j : Book). makes j (one ∷ [])) (w .books)
+              ∙ ap (λ (j : Book). afterEntries j (one ∷ [])) (w .books)
               ∙ sym (makes-append (book (ledgerOf ws₀)) done (one ∷ []));
           count = omega (arith, w .count, length-append done (one ∷ []));
         }

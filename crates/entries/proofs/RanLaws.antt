@@ -7,8 +7,8 @@ use native.Mathlib.Omega.{arith}
 use lib.ListN.{length, drop, length-append, length-drop}
 use Rattle.ledger.specs.Books.{Book, book}
 use Rattle.words.specs.Layout as layout
-use Rattle.journal.specs.Journal.{Entry, Parsed, parse, makes, noBook, endsBad, ledgerOf, isBad}
-use Rattle.journal.specs.Made.{noticesOf, brnOf}
+use Rattle.journal.specs.Journal.{Entry, Parsed, parse, afterEntries, firstBook, endsBad, journalLedger, isBad}
+use Rattle.journal.specs.EntryCalls.{noticesOf, brnOf}
 use Rattle.entries.specs.declared.run.Ran.{Ran}
 use Rattle.entries.specs.parts.Running.{behind, RanIn}
 use Rattle.entries.proofs.RunNotices.{notices-append}
@@ -45,8 +45,8 @@ module _ (seen : ℕ) (writes : Bool) (src ws₀ out₀ ws out : List ℕ) (r : 
     pub all-notices : noticesOf k (w .done) ≡ noticesOf k (parse seen src .entries)
     all-notices = ap (noticesOf k) (sym all-done)
 
-    pub all-books : book (layout.ledgerOf ws) ≡ makes k (parse seen src .entries)
-    all-books = w .made .books ∙ ap (makes k) (sym all-done)
+    pub all-books : book (layout.ledgerOf ws) ≡ afterEntries k (parse seen src .entries)
+    all-books = w .made .books ∙ ap (afterEntries k) (sym all-done)
 
     pub all-count : r .seen ≡ seen + length (parse seen src .entries)
     all-count = w .made .count ∙ ap (λ (es : List Entry). seen + length es) (sym all-done)
@@ -58,11 +58,11 @@ module _ (seen : ℕ) (writes : Bool) (src ws₀ out₀ ws out : List ℕ) (r : 
     all-rest = sym (ap (λ (p : Parsed). p .rest) all-parsed)
 
 -- ---- a whole journal, from the ledger before the first entry
-module _ (writes : Bool) (src ws₀ out₀ ws out : List ℕ) (r : Ran) (w : RanIn 0 writes src ws₀ out₀ ws out r) (z : book (layout.ledgerOf ws₀) ≡ noBook)
+module _ (writes : Bool) (src ws₀ out₀ ws out : List ℕ) (r : Ran) (w : RanIn 0 writes src ws₀ out₀ ws out r) (z : book (layout.ledgerOf ws₀) ≡ firstBook)
     (e : r .full ≡ false) where
-  pub journal-books : book (layout.ledgerOf ws) ≡ ledgerOf src
-  unfolding ledgerOf
-  journal-books = all-books 0 writes src ws₀ out₀ ws out r w e ∙ ap (λ (k : Book). makes k (parse 0 src .entries)) z
+  pub journal-books : book (layout.ledgerOf ws) ≡ journalLedger src
+  unfolding journalLedger
+  journal-books = all-books 0 writes src ws₀ out₀ ws out r w e ∙ ap (λ (k : Book). afterEntries k (parse 0 src .entries)) z
 
   pub journal-bad : endsBad (r .stopped) (length src - r .used) (r .seen) ≡ isBad src
   unfolding isBad

@@ -14,15 +14,15 @@ use Rattle.fields.proofs.PutLaws.{put-lent, put-nil, length-part}
 use Rattle.ledger.specs.Books.{Book, book}
 use Rattle.ledger.specs.Sound.{soundLedger}
 use Rattle.words.specs.Layout.{ledgerOf}
-use Rattle.group.specs.parts.Turns.{said}
+use Rattle.group.specs.parts.Turns.{ifWritten}
 use Rattle.group.proofs.OutputLaws.{Out, out-start, out-more}
 use Rattle.calls.specs.declared.Answer.{Answer}
 use Rattle.calls.specs.Machine.{outcomes}
 use Rattle.journal.specs.declared.Head.{Head}
 use Rattle.journal.specs.declared.Head.the-variants.{Cut, Bad, Whole}
 use Rattle.journal.specs.Entries.{headOf}
-use Rattle.journal.specs.Journal.{Entry, made, makes, callOf}
-use Rattle.journal.specs.Made.{writtenIn, noticesOf, writtenBy, lengthOf}
+use Rattle.journal.specs.Journal.{Entry, afterEntry, afterEntries, callOf}
+use Rattle.journal.specs.EntryCalls.{entryWritten, noticesOf, writtenBy, lengthOf}
 use Rattle.journal.proofs.JournalLaws.{parse-cut, parse-bad}
 use Rattle.journal.proofs.MadeLaws.{made-written}
 use Rattle.journal.proofs.ShortLaws.{made-short, made-length}
@@ -34,13 +34,13 @@ use Rattle.entries.proofs.StoodLaws.{Stood, stood-whole, stood-cut, sto
 use Rattle.entries.proofs.FirstMadeLaws.{first-none, left-full, left-none, next-fits, first-more}
 
 -- ---- entries one after another
-pub notices-append : (k : Book) (es fs : List Entry) → noticesOf k (es ++ fs) ≡ noticesOf k es ++ noticesOf (makes k es) fs
-unfolding noticesOf makes
+pub notices-append : (k : Book) (es fs : List Entry) → noticesOf k (es ++ fs) ≡ noticesOf k es ++ noticesOf (afterEntries k es) fs
+unfolding noticesOf afterEntries
 notices-append k [] fs = refl
 notices-append k (e ∷ es) fs =
     let w = writtenBy (outcomes k (callOf (e .body) (e .bytes))) in
-    let j = made (e .body) (e .bytes) k in
-    ap (λ (x : List ℕ). w ++ x) (notices-append j es fs) ∙ sym (append-assoc w (noticesOf j es) (noticesOf (makes j es) fs))
+    let j = afterEntry (e .body) (e .bytes) k in
+    ap (λ (x : List ℕ). w ++ x) (notices-append j es fs) ∙ sym (append-assoc w (noticesOf j es) (noticesOf (afterEntries j es) fs))
 
 -- ---- one step, its output lent from an index on
 module _ (writes : Bool) (n : ℕ) (out₀ : List ℕ) (room : writes ≡ true → n + 64200 ≤ length out₀) (to : ℕ) (te : to ≡ cond writes n 0) where
@@ -64,11 +64,11 @@ module _ (writes : Bool) (n : ℕ) (out₀ : List ℕ) (room : writes ≡ true �
   unfolding part
   lent-room e = omega (arith, length-part out₀ to (length out₀ - to) (omega (arith, to-within)), room e, to-true e)
 
-  put-said : (now w : List ℕ) → length w ≤ 64200 → now ≡ put lent 0 (said writes w) → putMid to (length out₀ - to) out₀ now ≡ put out₀ n (said writes w)
+  put-said : (now w : List ℕ) → length w ≤ 64200 → now ≡ put lent 0 (ifWritten writes w) → putMid to (length out₀ - to) out₀ now ≡ put out₀ n (ifWritten writes w)
   unfolding part
   put-said now w short e = go writes refl
     where
-      go : (b : Bool) → writes ≡ b → putMid to (length out₀ - to) out₀ now ≡ put out₀ n (said writes w)
+      go : (b : Bool) → writes ≡ b → putMid to (length out₀ - to) out₀ now ≡ put out₀ n (ifWritten writes w)
       go true z =
           let r = room z in
           let t = to-true z in
@@ -96,8 +96,8 @@ module _ (writes : Bool) (n : ℕ) (out₀ : List ℕ) (room : writes ≡ true �
       go (Whole b m) w =
           let y = w .2 in
           let bytes = part src 3 (m - 3) in
-          let short : length (writtenIn 64200 (ledgerOf ws₀) b bytes) ≤ 64200 = omega (arith, made-length 64200 (ledgerOf ws₀) b bytes, made-short (ledgerOf ws₀) b bytes) in
-          (w .0, w .1, record { sound = y .sound; ledger = y .ledger; answer = y .answer; bytes = put-said now (writtenIn 64200 (ledgerOf ws₀) b bytes) short (y .bytes) })
+          let short : length (entryWritten 64200 (ledgerOf ws₀) b bytes) ≤ 64200 = omega (arith, made-length 64200 (ledgerOf ws₀) b bytes, made-short (ledgerOf ws₀) b bytes) in
+          (w .0, w .1, record { sound = y .sound; ledger = y .ledger; answer = y .answer; bytes = put-said now (entryWritten 64200 (ledgerOf ws₀) b bytes) short (y .bytes) })
 
 -- ---- what holds before each entry
 pub record Running (src ws₀ : List ℕ) (seen₀ : ℕ) (writes : Bool) (out₀ ws out : List ℕ) (at seen n : ℕ) : Type 0 where
@@ -166,7 +166,7 @@ module _ (src ws₀ : List ℕ) (seen₀ : ℕ) (writes : Bool) (out₀ ws out :
       abbrev one : Entry
       one = entryAt (drop at src) (was .0) m
 
-      wrote-long : length (writtenIn 64200 (ledgerOf ws) (was .0) bytes) ≡ lengthOf a
+      wrote-long : length (entryWritten 64200 (ledgerOf ws) (was .0) bytes) ≡ lengthOf a
       wrote-long = made-length 64200 (ledgerOf ws) (was .0) bytes ∙ ap lengthOf (sym (was .2 .answer))
 
       short : lengthOf a ≤ 64200
@@ -180,11 +180,11 @@ module _ (src ws₀ : List ℕ) (seen₀ : ℕ) (writes : Bool) (out₀ ws out :
       abbrev k : Book
       k = book (ledgerOf ws)
 
-      notice-on : writtenIn 64200 (ledgerOf ws) (was .0) bytes ≡ noticesOf k (one ∷ [])
+      notice-on : entryWritten 64200 (ledgerOf ws) (was .0) bytes ≡ noticesOf k (one ∷ [])
       unfolding noticesOf
       notice-on = made-written (ledgerOf ws) (w .made .sound) (was .0) bytes ∙ sym (append-nil _)
 
-      all-notices : noticesOf (book (ledgerOf ws₀)) (w .done) ++ writtenIn 64200 (ledgerOf ws) (was .0) bytes ≡ noticesOf (book (ledgerOf ws₀)) (w .done ++ (one ∷ []))
+      all-notices : noticesOf (book (ledgerOf ws₀)) (w .done) ++ entryWritten 64200 (ledgerOf ws) (was .0) bytes ≡ noticesOf (book (ledgerOf ws₀)) (w .done ++ (one ∷ []))
       all-notices =
           ap (λ (x : List ℕ). noticesOf (book (ledgerOf ws₀)) (w .done) ++ x) (notice-on ∙ ap (λ (x : Book). noticesOf x (one ∷ [])) (w .made .books))
           ∙ sym (notices-append (book (ledgerOf ws₀)) (w .done) (one ∷ []))
@@ -196,7 +196,7 @@ module _ (src ws₀ : List ℕ) (seen₀ : ℕ) (writes : Bool) (out₀ ws out :
             made = first-more seen₀ src ws₀ ws at seen (w .done) (w .made) (was .0) m (was .1) ws′ (was .2 .sound) (was .2 .ledger);
             wrote =
                 subst (λ (ys : List ℕ). Out writes 0 out₀ out′ ys (n + lengthOf a)) all-notices
-                (out-more writes 0 out₀ out (noticesOf (book (ledgerOf ws₀)) (w .done)) n (w .wrote) (writtenIn 64200 (ledgerOf ws) (was .0) bytes) out′ (n + lengthOf a)
+                (out-more writes 0 out₀ out (noticesOf (book (ledgerOf ws₀)) (w .done)) n (w .wrote) (entryWritten 64200 (ledgerOf ws) (was .0) bytes) out′ (n + lengthOf a)
                 (λ z. omega (arith, running-room f z, wrote-long, short)) (was .2 .bytes) (ap (λ (i : ℕ). n + i) (sym wrote-long)));
             small = omega (arith, w .small, short, length-append (w .done) (one ∷ []));
           }

@@ -12,12 +12,12 @@ use Rattle.journal.specs.declared.Head.the-variants.{Cut, Bad, Whole}
 use Rattle.journal.specs.Entries.{headOf}
 use Rattle.entries.specs.declared.entry.Stepped.{Stepped}
 use Rattle.entries.specs.declared.entry.Stepped.the-variants as step
-use Rattle.entries.specs.parts.Stepping.{MadeIn, StepOn, SteppedIn}
+use Rattle.entries.specs.parts.Stepping.{EntryCalledIn, StepOn, SteppedIn}
 
 module _ (writes : Bool) (n seen : ℕ) (src ws₀ out₀ ws out : List ℕ) (r : Stepped) (x : SteppedIn writes n seen src ws₀ out₀ ws out r) where
   -- a whole entry, with what its call left
   abbrev pub Stood : ℕ → Answer → Type 0
-  Stood m a = (b : Body) × (headOf seen src ≡ Whole b m) × MadeIn writes 64200 n b (part src 3 (m - 3)) ws₀ out₀ ws out a
+  Stood m a = (b : Body) × (headOf seen src ≡ Whole b m) × EntryCalledIn writes 64200 n b (part src 3 (m - 3)) ws₀ out₀ ws out a
 
   pub stood-whole : (m : ℕ) (a : Answer) → r ≡ step.Made m a → Stood m a
   stood-whole m a q = go (headOf seen src) refl x
@@ -31,8 +31,8 @@ module _ (writes : Bool) (n seen : ℕ) (src ws₀ out₀ ws out : List ℕ) (r 
           let y : w .0 ≡ a = cc in (
             b,
             e ∙ ap (λ (i : ℕ). Whole b i) z,
-            subst (λ (i : ℕ). MadeIn writes 64200 n b (part src 3 (i - 3)) ws₀ out₀ ws out a) z
-                (subst (λ (v : Answer). MadeIn writes 64200 n b (part src 3 (k - 3)) ws₀ out₀ ws out v) y (w .2)),
+            subst (λ (i : ℕ). EntryCalledIn writes 64200 n b (part src 3 (i - 3)) ws₀ out₀ ws out a) z
+                (subst (λ (v : Answer). EntryCalledIn writes 64200 n b (part src 3 (k - 3)) ws₀ out₀ ws out v) y (w .2)),
           )
 
   -- no whole entry: words and output are as they were

@@ -6,7 +6,7 @@ ghost use lib.ListN.{length};
 ghost use Rattle.ledger.specs.Sound.{soundLedger};
 ghost use Rattle.words.specs.Layout.{ledgerOf};
 ghost use Rattle.journal.proofs.MadeLaws.{Taken};
-ghost use Rattle.entries.specs.parts.Stepping.{MadeIn, SteppedIn};
+ghost use Rattle.entries.specs.parts.Stepping.{EntryCalledIn, SteppedIn};
 use calls::Answer;
 use engine::call;
 use journal::Body;
@@ -30,7 +30,7 @@ pub fn entry(
 ) -> Answer
     requires { ⌜ (soundLedger (ledgerOf (now ws)) ≡ true) × Taken body ⌝ }
     requires { ⌜ (writes ≡ true → room ≤ length (now out)) ⌝ }
-    ensures { λ a. ⌜ MadeIn writes room 0 body (now (s .entry)) (now (ws .entry)) (now (out .entry)) (now (ws .exit)) (now (out .exit)) a ⌝ }
+    ensures { λ a. ⌜ EntryCalledIn writes room 0 body (now (s .entry)) (now (ws .entry)) (now (out .entry)) (now (ws .exit)) (now (out .exit)) a ⌝ }
 {
     match body {
         Body::Request(r) => call::request_in(ws, out, writes, room, r),

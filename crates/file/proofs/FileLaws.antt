@@ -16,7 +16,7 @@ use Rattle.records.specs.Layout.{recordAt, recordsFrom, isRsp, isSup}
 use Rattle.records.proofs.LayoutLaws.{records-step, records-end, length-records}
 use Rattle.file.specs.declared.Form.the-variants.{Broken, Unknown, Response, Supplement}
 use Rattle.file.specs.File.{printable, isHeader, goodRecord, headed, Group, leading, groups, asksId, detailOf, unfit, line1, line2, formOf}
-use Rattle.file.specs.parts.Walk.{after, groupAt, pairForm}
+use Rattle.file.specs.parts.Walk.{recordsAfter, groupAt, pairForm}
 
 -- ---- the check
 -- one byte more
@@ -121,38 +121,38 @@ leading-le (r ∷ rs) = go (isHeader r) (leading-le rs)
     go false h = omega arith
 
 module _ (s : List ℕ) (i n : ℕ) where
-  pub leading-within : leading (after s i n) ≤ n - (i + 1)
-  leading-within = omega (arith, leading-le (after s i n), length-records s (i + 1) (n - (i + 1)))
+  pub leading-within : leading (recordsAfter s i n) ≤ n - (i + 1)
+  leading-within = omega (arith, leading-le (recordsAfter s i n), length-records s (i + 1) (n - (i + 1)))
 
-  pub length-details : length (groupAt s i n .details) ≡ leading (after s i n)
+  pub length-details : length (groupAt s i n .details) ≡ leading (recordsAfter s i n)
   unfolding groupAt
-  length-details = length-take-le (leading (after s i n)) (after s i n) (leading-le (after s i n))
+  length-details = length-take-le (leading (recordsAfter s i n)) (recordsAfter s i n) (leading-le (recordsAfter s i n))
 
   -- the detail of a group that has one
-  pub only-detail : leading (after s i n) ≡ 1 → detailOf (groupAt s i n) ≡ recordAt s (i + 1)
+  pub only-detail : leading (recordsAfter s i n) ≡ 1 → detailOf (groupAt s i n) ≡ recordAt s (i + 1)
   unfolding groupAt
   only-detail e =
       let h : i + 1 < n = omega (arith, leading-within) in
-      ap (λ (k : ℕ). getD (take k (after s i n)) 0 []) e ∙ ap (λ (rs : List (List ℕ)). getD (take 1 rs) 0 []) (records-step s (i + 1) n h)
+      ap (λ (k : ℕ). getD (take k (recordsAfter s i n)) 0 []) e ∙ ap (λ (rs : List (List ℕ)). getD (take 1 rs) 0 []) (records-step s (i + 1) n h)
 
   pub header-is : groupAt s i n .header ≡ recordAt s i
   unfolding groupAt
   header-is = refl
 
   -- lines 1 and 2 of a group
-  pub line1-many : (leading (after s i n) ≡ 1 → ⊥) → line1 (groupAt s i n) ≡ true
+  pub line1-many : (leading (recordsAfter s i n) ≡ 1 → ⊥) → line1 (groupAt s i n) ≡ true
   unfolding line1
-  line1-many h = rw (length-details, ne-eqb (leading (after s i n)) 1 h)
+  line1-many h = rw (length-details, ne-eqb (leading (recordsAfter s i n)) 1 h)
 
-  pub line1-one : leading (after s i n) ≡ 1 → line1 (groupAt s i n) ≡ unfit (recordAt s i) (recordAt s (i + 1))
+  pub line1-one : leading (recordsAfter s i n) ≡ 1 → line1 (groupAt s i n) ≡ unfit (recordAt s i) (recordAt s (i + 1))
   unfolding line1
-  line1-one e = rw (length-details, eq-eqb (leading (after s i n)) 1 e, only-detail e, header-is)
+  line1-one e = rw (length-details, eq-eqb (leading (recordsAfter s i n)) 1 e, only-detail e, header-is)
 
-  pub form-many : (leading (after s i n) ≡ 1 → ⊥) → Broken ≡ formOf (groupAt s i n)
+  pub form-many : (leading (recordsAfter s i n) ≡ 1 → ⊥) → Broken ≡ formOf (groupAt s i n)
   unfolding formOf
   form-many h = rw (line1-many h)
 
-  pub form-one : leading (after s i n) ≡ 1 → pairForm (recordAt s i) (recordAt s (i + 1)) ≡ formOf (groupAt s i n)
+  pub form-one : leading (recordsAfter s i n) ≡ 1 → pairForm (recordAt s i) (recordAt s (i + 1)) ≡ formOf (groupAt s i n)
   unfolding formOf pairForm line2
   form-one e = rw (line1-one e, header-is) (go (unfit (recordAt s i) (recordAt s (i + 1))) (isRsp (recordAt s i)) (isSup (recordAt s i)))
     where

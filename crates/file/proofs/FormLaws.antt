@@ -13,7 +13,7 @@ use Rattle.records.specs.Layout.{recordAt, companyIn, accountIn, recordCountIn,
 use Rattle.file.specs.declared.Form.{Form}
 use Rattle.file.specs.declared.Form.the-variants.{Broken, Unknown, Response, Supplement}
 use Rattle.file.specs.File.{Group, leading, unfit, line1, line2, formOf}
-use Rattle.file.specs.parts.Walk.{after, groupAt}
+use Rattle.file.specs.parts.Walk.{recordsAfter, groupAt}
 use Rattle.file.proofs.FileLaws.{line1-many, line1-one, leading-within}
 
 -- what the form says of lines 1 and 2
@@ -38,12 +38,12 @@ says g = go (line1 g) (line2 g) (isRsp (g .header))
 
 -- a group that passes line 1 has one detail
 module _ (s : List ℕ) (i n : ℕ) (h : line1 (groupAt s i n) ≡ false) where
-  pub one-detail : leading (after s i n) ≡ 1
-  one-detail = go (eqb (leading (after s i n)) 1) refl
+  pub one-detail : leading (recordsAfter s i n) ≡ 1
+  one-detail = go (eqb (leading (recordsAfter s i n)) 1) refl
     where
-      go : (b : Bool) → eqb (leading (after s i n)) 1 ≡ b → leading (after s i n) ≡ 1
-      go true e = eqb-true (leading (after s i n)) 1 e
-      go false e = absurd (false≢true (sym h ∙ line1-many s i n (eqb-false (leading (after s i n)) 1 e)))
+      go : (b : Bool) → eqb (leading (recordsAfter s i n)) 1 ≡ b → leading (recordsAfter s i n) ≡ 1
+      go true e = eqb-true (leading (recordsAfter s i n)) 1 e
+      go false e = absurd (false≢true (sym h ∙ line1-many s i n (eqb-false (leading (recordsAfter s i n)) 1 e)))
 
   pub one-within : i + 1 < n
   one-within = omega (arith, one-detail, leading-within s i n)

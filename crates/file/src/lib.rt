@@ -6,7 +6,7 @@ ghost use Rattle.rules.specs.Lists.{every, count};
 ghost use Rattle.records.specs.Limits.{recordSize};
 ghost use Rattle.records.specs.Layout.{recordAt, recordsFrom, isSup};
 ghost use Rattle.file.specs.File.{printable, isHeader, goodRecord, goodFile, leading, groups, asksId, unfit, formOf};
-ghost use Rattle.file.specs.parts.Walk.{after, groupAt, pairForm};
+ghost use Rattle.file.specs.parts.Walk.{recordsAfter, groupAt, pairForm};
 use records::FILE_SIZE;
 use records::RECORD_SIZE;
 use records::layout;
@@ -102,7 +102,7 @@ pub fn good_file(s: &[u8]) -> bool
 // How many details the group has whose header is record i, in a file of n records.
 pub fn detail_count(s: &[u8], i: usize, n: usize) -> usize
     requires { ⌜ (i < n) × (n * recordSize ≤ length (now s)) ⌝ }
-    ensures { λ r. ⌜ r ≡ leading (after (now (s .entry)) i n) ⌝ }
+    ensures { λ r. ⌜ r ≡ leading (recordsAfter (now (s .entry)) i n) ⌝ }
 {
     let mut j = i + 1;
     while j < n {

@@ -15,7 +15,7 @@ use Rattle.verdict.specs.declared.Verdict.the-variants.{Accepted, Rejected}
 use Rattle.group.specs.parts.Turns.{answerAt, recordsBy}
 use Rattle.records.specs.Layout.{recordAt, recordsFrom}
 use Rattle.file.specs.File.{leading}
-use Rattle.file.specs.parts.Walk.{after, groupAt}
+use Rattle.file.specs.parts.Walk.{recordsAfter, groupAt}
 use Rattle.file.proofs.FileLaws.{header-is, leading-within, length-details}
 
 -- the first k of m records
@@ -25,9 +25,9 @@ take-records s i zero m h = refl
 take-records s i (suc k) zero h = absurd (not-suc-le-zero h)
 take-records s i (suc k) (suc m) h = ap (λ (rs : List (List ℕ)). recordAt s i ∷ rs) (take-records s (i + 1) k m (le-of-suc-le-suc h))
 
-pub details-are : (s : List ℕ) (i n k : ℕ) → k ≡ leading (after s i n) → groupAt s i n .details ≡ recordsFrom s (i + 1) k
+pub details-are : (s : List ℕ) (i n k : ℕ) → k ≡ leading (recordsAfter s i n) → groupAt s i n .details ≡ recordsFrom s (i + 1) k
 unfolding groupAt
-details-are s i n k e = ap (λ (j : ℕ). take j (after s i n)) (sym e) ∙ take-records s (i + 1) k (n - (i + 1)) (omega (arith, leading-within s i n))
+details-are s i n k e = ap (λ (j : ℕ). take j (recordsAfter s i n)) (sym e) ∙ take-records s (i + 1) k (n - (i + 1)) (omega (arith, leading-within s i n))
 
 -- ---- the answer to the group of record i
 module _ (v : Verdict) (x : LedgerHeader) (b : Bill) (s : List ℕ) (i n : ℕ) (h : i < n) (fits : n * 321 ≤ length s) where
@@ -40,16 +40,16 @@ module _ (v : Verdict) (x : LedgerHeader) (b : Bill) (s : List ℕ) (i n : ℕ) 
           ap (λ (r : List ℕ). length (answerAt (Accepted amounts) x b (record { header = r; details = groupAt s i n .details }))) (header-is s i n)
           ∙ length-acf (recordAt s i) (omega (arith, long-record s i (omega arith))) (record { terms = b .terms; tracking = x .tracking; today = x .today; confirmation = x .confirmation })
       go (Rejected m) =
-          rw (header-is s i n, length-details s i n, details-are s i n (leading (after s i n)) refl)
-          (length-rej s i (leading (after s i n)) (record { code = m; today = x .today; confirmation = x .confirmation }) (omega (arith, leading-within s i n)))
+          rw (header-is s i n, length-details s i n, details-are s i n (leading (recordsAfter s i n)) refl)
+          (length-rej s i (leading (recordsAfter s i n)) (record { code = m; today = x .today; confirmation = x .confirmation }) (omega (arith, leading-within s i n)))
 
   -- as many records as the group at most
-  pub records-few : recordsBy v (groupAt s i n) ≤ 1 + leading (after s i n)
+  pub records-few : recordsBy v (groupAt s i n) ≤ 1 + leading (recordsAfter s i n)
   records-few = go v
     where
-      go : (w : Verdict) → recordsBy w (groupAt s i n) ≤ 1 + leading (after s i n)
+      go : (w : Verdict) → recordsBy w (groupAt s i n) ≤ 1 + leading (recordsAfter s i n)
       go (Accepted amounts) = omega arith
       go (Rejected m) = omega (arith, length-details s i n)
 
-  pub answer-long : length (answerAt v x b (groupAt s i n)) ≤ (1 + leading (after s i n)) * 321
+  pub answer-long : length (answerAt v x b (groupAt s i n)) ≤ (1 + leading (recordsAfter s i n)) * 321
   answer-long = omega (arith, answer-size, records-few)

@@ -17,18 +17,18 @@ use Rattle.ledger.specs.declared.Identity.{Identity}
 use Rattle.rules.specs.Lists.{every, count, update}
 use Rattle.ledger.specs.Bills.{posting}
 use Rattle.ledger.specs.Books.{Book, book, live, view, ofId, placeOf, totalOf, stored}
-use Rattle.ledger.specs.parts.Places.{billAt, headerOf, updated, slotOf}
+use Rattle.ledger.specs.parts.Places.{billAt, headerOf, updated, placeFor}
 use Rattle.records.specs.Layout.{recordAt, recordsFrom}
 use Rattle.file.specs.File.{isHeader, Group, leading, groups, asksId, line3}
-use Rattle.file.specs.parts.Walk.{after, groupAt, before, markAt}
+use Rattle.file.specs.parts.Walk.{recordsAfter, groupAt, before, markAt}
 use Rattle.file.proofs.FileLaws.{groups-header, groups-detail, groups-end, leading-header, leading-detail, leading-within, from-start}
 use Rattle.file.proofs.WalkLaws.{before-header, before-detail}
 use Rattle.verdict.specs.declared.Verdict.{Verdict}
 use Rattle.verdict.specs.declared.Verdict.the-variants.{Accepted, Rejected}
 use Rattle.group.specs.declared.Tally.{Tally}
-use Rattle.group.specs.declared.Turned.{Turned}
+use Rattle.group.specs.declared.TurnResult.{TurnResult}
 use Rattle.group.specs.Groups.{identityOf, verdictOn, verdictBy, verdictHere, settled, answer, taken, answers, verdicts, isAccepted, isRejected}
-use Rattle.group.specs.parts.Turns.{identityAt, soughtBy, calm, CalmAt, Ready, cameBy, wentBy, noTally, tallied, said, answerAt, Few, TurnedBy, Fine, TurnedOn, TookBy}
+use Rattle.group.specs.parts.Turns.{identityAt, soughtBy, inWidths, InWidthsAt, Ready, cameBy, wentBy, noTally, tallied, ifWritten, answerAt, WithinFile, TurnLeaves, FitForTurn, TurnLeavesOn, FileTaken}
 use Rattle.group.proofs.OutputLaws.{Out, out-start, out-more}
 use Rattle.group.proofs.PlaceLaws.{every-held, spots, spot-calm}
 use Rattle.group.proofs.DecideLaws.{by-duplicate}
@@ -71,15 +71,15 @@ module _ (t : Bool) (l : Ledger) (g : Group) where
   abbrev v : Verdict
   v = verdictBy t (view (book l)) g
 
-  calm-kept : l .count ≤ length (l .bills) → every calm (live l) ≡ true → every calm (settled (book l) g v .bills) ≡ true
+  calm-kept : l .count ≤ length (l .bills) → every inWidths (live l) ≡ true → every inWidths (settled (book l) g v .bills) ≡ true
   unfolding settled
   calm-kept k a = go (comes t l g)
     where
-      go : Comes t l g → every calm (settled (book l) g v .bills) ≡ true
+      go : Comes t l g → every inWidths (settled (book l) g v .bills) ≡ true
       go (rejects n x) = rw x a
       go (posts p amounts h x d y z) =
           rw (x, z (posting amounts (asksId g)))
-          (every-set calm (live l) p _ a (calm-posted t (book l) g (billAt l p) amounts x y (every-held calm l p h k a)))
+          (every-set inWidths (live l) p _ a (calm-posted t (book l) g (billAt l p) amounts x y (every-held inWidths l p h k a)))
 
   numbers-up : (settled (book l) g v .tracking ≤ l .«next_tracking» + 1) × (settled (book l) g v .confirmation ≤ l .«next_confirmation» + 1)
   unfolding settled
@@ -117,7 +117,7 @@ pub record Walk (s : List ℕ) (n : ℕ) (l : Ledger) (writes : Bool) (out₀ : 
   pub room : c .written ≤ (i + leading (recordsFrom s i (n - i))) * 321
   pub places : length (k .bills) ≡ 128
   pub few : k .count ≤ 128
-  pub bills : every calm (live k) ≡ true
+  pub bills : every inWidths (live k) ≡ true
   pub tracking : k .«next_tracking» ≤ 1000000000 + i
   pub confirmation : k .«next_confirmation» ≤ 1000000000 + i
   pub accepted-few : c .accepted ≤ i
@@ -190,7 +190,7 @@ module _ (s : List ℕ) (n : ℕ) (l : Ledger) (writes : Bool) (out₀ : List �
       }
 
   -- what a turn asks
-  pub walk-few : isHeader (recordAt s i) ≡ true → n ≤ 200 → Few c
+  pub walk-few : isHeader (recordAt s i) ≡ true → n ≤ 200 → WithinFile c
   walk-few e few =
       record {
         accepted = omega (arith, w .accepted-few);
@@ -204,13 +204,13 @@ module _ (s : List ℕ) (n : ℕ) (l : Ledger) (writes : Bool) (out₀ : List �
   walk-room e room z = omega (arith, room z, w .wrote .kept, w .room, leading-header s i n h e)
 
   -- ---- a record that is a header: what its turn asks and leaves, where its bill was found at f, and p is the place
-  module _ (f : Found) (fe : f ≡ placeOf (identityAt s i n) (live k)) (p : ℕ) (pe : p ≡ slotOf f (k .count)) where
-    pub walk-calm : CalmAt f (billAt k p)
+  module _ (f : Found) (fe : f ≡ placeOf (identityAt s i n) (live k)) (p : ℕ) (pe : p ≡ placeFor f (k .count)) where
+    pub walk-calm : InWidthsAt f (billAt k p)
     walk-calm = spot-calm k f p (omega (arith, w .places, w .few)) (w .bills) (spots k (w .few) (identityAt s i n) f p fe pe)
 
-    module _ (e : isHeader (recordAt s i) ≡ true) (b : n * 321 ≤ length s) (t : Bool) (m : t ≡ markAt s n i) (out′ : List ℕ) (r : Turned)
+    module _ (e : isHeader (recordAt s i) ≡ true) (b : n * 321 ≤ length s) (t : Bool) (m : t ≡ markAt s n i) (out′ : List ℕ) (r : TurnResult)
         (fits : writes ≡ true → c .written + (n - i) * 321 ≤ length out)
-        (x : TurnedBy (verdictOn t (k .today) (soughtBy f (billAt k p)) (groupAt s i n)) (groupAt s i n) (headerOf k) (billAt k p) c writes out out′ r) where
+        (x : TurnLeaves (verdictOn t (k .today) (soughtBy f (billAt k p)) (groupAt s i n)) (groupAt s i n) (headerOf k) (billAt k p) c writes out out′ r) where
       abbrev g : Group
       g = groupAt s i n
 
@@ -227,7 +227,7 @@ module _ (s : List ℕ) (n : ℕ) (l : Ledger) (writes : Bool) (out₀ : List �
       said-now = verdict-is k (w .places) (w .few) s i n t f p fe pe
 
       -- what was left, by the verdict of the rules
-      turned : TurnedBy now g (headerOf k) (billAt k p) c writes out out′ r
+      turned : TurnLeaves now g (headerOf k) (billAt k p) c writes out out′ r
       turned = rw said-now at x
 
       -- the verdict by the mark is the verdict of the rules
@@ -274,7 +274,7 @@ module _ (s : List ℕ) (n : ℕ) (l : Ledger) (writes : Bool) (out₀ : List �
           ∙ ap₂ (λ (x y : List ℕ). x ++ y) (sym (answer-is k (w .places) (w .few) s i n t f p fe pe))
           (sym (ap₂ (λ (x : List Group) (y : Book). answers x y (rest s n (i + 1))) (before-header s n i e) book-is))
 
-      long : length told ≤ (1 + leading (after s i n)) * 321
+      long : length told ≤ (1 + leading (recordsAfter s i n)) * 321
       long = answer-long now (headerOf k) (billAt k p) s i n h b
 
       pub walk-group : Walk s n l writes out₀ after-turn out′ (r .tally) (i + 1)
@@ -285,7 +285,7 @@ module _ (s : List ℕ) (n : ℕ) (l : Ledger) (writes : Bool) (out₀ : List �
             room = omega (arith, w .room, leading-header s i n h e, long);
             places = length-set (k .bills) p (r .update .bill) ∙ w .places;
             few = omega (arith, ap (λ (x : LedgerHeader). x .count) (turned .header), w .few);
-            bills = ap (λ (x : Book). every calm (x .bills)) book-is ∙ calm-kept t k g (omega (arith, w .places, w .few)) (w .bills);
+            bills = ap (λ (x : Book). every inWidths (x .bills)) book-is ∙ calm-kept t k g (omega (arith, w .places, w .few)) (w .bills);
             tracking = omega (arith, ap (λ (x : Book). x .tracking) book-is, numbers-up t k g .0, w .tracking);
             confirmation = omega (arith, ap (λ (x : Book). x .confirmation) book-is, numbers-up t k g .1, w .confirmation);
             accepted-few = omega (arith, one-or-none (isAccepted now), w .accepted-few);
@@ -322,16 +322,16 @@ module _ (s : List ℕ) (n : ℕ) (l : Ledger) (writes : Bool) (out₀ : List �
           })
 
 -- ---- a turn on the struct, from what its parts answered
-module _ (l : Ledger) (c : Tally) (fine : Fine l c) (s : List ℕ) (i n : ℕ) (id : Identity) (ie : id ≡ identityAt s i n) (f : Found)
-    (fe : f ≡ placeOf id (live l)) (p : ℕ) (pe : p ≡ slotOf f (l .count)) (b : Bill) (be : b ≡ billAt l p) where
+module _ (l : Ledger) (c : Tally) (fine : FitForTurn l c) (s : List ℕ) (i n : ℕ) (id : Identity) (ie : id ≡ identityAt s i n) (f : Found)
+    (fe : f ≡ placeOf id (live l)) (p : ℕ) (pe : p ≡ placeFor f (l .count)) (b : Bill) (be : b ≡ billAt l p) where
   finds : f ≡ placeOf (identityAt s i n) (live l)
   finds = fe ∙ ap (λ (x : Identity). placeOf x (live l)) ie
 
-  pub turn-calm : CalmAt f b
+  pub turn-calm : InWidthsAt f b
   turn-calm = rw be (spot-calm l f p (omega (arith, fine .places, fine .count)) (fine .bills) (spots l (fine .count) (identityAt s i n) f p finds pe))
 
-  pub turn-on : (t writes : Bool) (out₀ out : List ℕ) (x : Turned) → TurnedBy (verdictOn t (l .today) (soughtBy f b) (groupAt s i n)) (groupAt s i n) (headerOf l) b c writes out₀ out x
-      → (k : Ledger) → k ≡ updated l p (x .update) → TurnedOn s i n t l c writes out₀ k out (x .tally)
+  pub turn-on : (t writes : Bool) (out₀ out : List ℕ) (x : TurnResult) → TurnLeaves (verdictOn t (l .today) (soughtBy f b) (groupAt s i n)) (groupAt s i n) (headerOf l) b c writes out₀ out x
+      → (k : Ledger) → k ≡ updated l p (x .update) → TurnLeavesOn s i n t l c writes out₀ k out (x .tally)
   turn-on t writes out₀ out x w k ke =
       record {
         found = f;
@@ -347,7 +347,7 @@ module _ (l : Ledger) (c : Tally) (fine : Fine l c) (s : List ℕ) (i n : ℕ) (
 -- what a turn asks, and what it leaves
 module _ (s : List ℕ) (n : ℕ) (l : Ledger) (writes : Bool) (out₀ : List ℕ) (k : Ledger) (out : List ℕ) (c : Tally) (i : ℕ)
     (w : Walk s n l writes out₀ k out c i) (h : i < n) (e : isHeader (recordAt s i) ≡ true) where
-  pub walk-fine : n ≤ 200 → Fine k c
+  pub walk-fine : n ≤ 200 → FitForTurn k c
   walk-fine few =
       record {
         places = w .places;
@@ -359,7 +359,7 @@ module _ (s : List ℕ) (n : ℕ) (l : Ledger) (writes : Bool) (out₀ : List �
       }
 
   pub walk-turn : n * 321 ≤ length s → (t : Bool) → t ≡ markAt s n i → (writes ≡ true → n * 321 ≤ length out₀)
-      → (k′ : Ledger) (out′ : List ℕ) (d : Tally) → TurnedOn s i n t k c writes out k′ out′ d → Walk s n l writes out₀ k′ out′ d (i + 1)
+      → (k′ : Ledger) (out′ : List ℕ) (d : Tally) → TurnLeavesOn s i n t k c writes out k′ out′ d → Walk s n l writes out₀ k′ out′ d (i + 1)
   walk-turn b t m room k′ out′ d x =
       rw (x .ledger, x .tally)
       (walk-group s n l writes out₀ k out c i w h (x .found) (x .finds) (x .place) (x .stands) e b t m out′ (x .turned)
@@ -367,7 +367,7 @@ module _ (s : List ℕ) (n : ℕ) (l : Ledger) (writes : Bool) (out₀ : List �
 
 -- the end of the walk
 pub walk-end : (s : List ℕ) (n : ℕ) (l : Ledger) (writes : Bool) (out₀ : List ℕ) (k : Ledger) (out : List ℕ) (c : Tally) (i : ℕ)
-    → Walk s n l writes out₀ k out c i → n ≤ i → n ≤ 200 → TookBy l (all s n) writes out₀ k out c
+    → Walk s n l writes out₀ k out c i → n ≤ i → n ≤ 200 → FileTaken l (all s n) writes out₀ k out c
 unfolding taken verdicts answers
 walk-end s n l writes out₀ k out c i w h few =
     let g : rest s n i ≡ [] = groups-end s i n h in
@@ -380,7 +380,7 @@ walk-end s n l writes out₀ k out c i w h few =
       accepted = omega (arith, u);
       rejected = omega (arith, v);
       written = w .wrote .size ∙ zero-add _ ∙ ap length y;
-      bytes = w .wrote .bytes ∙ ap (λ (z : List ℕ). put out₀ 0 (said writes z)) y;
+      bytes = w .wrote .bytes ∙ ap (λ (z : List ℕ). put out₀ 0 (ifWritten writes z)) y;
       came = omega (arith, w .came-few, w .within);
       went = omega (arith, w .went-few, w .within);
       sums = w .sums;

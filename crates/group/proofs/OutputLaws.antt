@@ -8,12 +8,12 @@ use native.Mathlib.Nat.{add-zero}
 use lib.ListN.{length, length-append}
 use Rattle.fields.specs.Put.{put}
 use Rattle.fields.proofs.PutLaws.{length-put, put-nil, put-put}
-use Rattle.group.specs.parts.Turns.{said}
+use Rattle.group.specs.parts.Turns.{ifWritten}
 
 -- out is out₀ with ys put at a, where notices are written, and n is where they end
 pub record Out (writes : Bool) (a : ℕ) (out₀ out ys : List ℕ) (n : ℕ) : Type 0 where
   pub kept : length out ≡ length out₀
-  pub bytes : out ≡ put out₀ a (said writes ys)
+  pub bytes : out ≡ put out₀ a (ifWritten writes ys)
   pub size : n ≡ a + length ys
   pub within : writes ≡ true → n ≤ length out₀
 
@@ -23,7 +23,7 @@ out-start false a out h = record { kept = refl; bytes = put-nil out a; size = sy
 
 -- zs more
 pub out-more : (writes : Bool) (a : ℕ) (out₀ out ys : List ℕ) (n : ℕ) → Out writes a out₀ out ys n → (zs out′ : List ℕ) (m : ℕ)
-    → (writes ≡ true → n + length zs ≤ length out) → out′ ≡ put out n (said writes zs) → m ≡ n + length zs
+    → (writes ≡ true → n + length zs ≤ length out) → out′ ≡ put out n (ifWritten writes zs) → m ≡ n + length zs
     → Out writes a out₀ out′ (ys ++ zs) m
 out-more true a out₀ out ys n w zs out′ m h e k =
     let fits = h refl in

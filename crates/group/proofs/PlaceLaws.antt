@@ -15,19 +15,19 @@ use Rattle.rules.specs.declared.Found.{Found}
 use Rattle.rules.specs.declared.Found.the-variants.{At, Nothing}
 use Rattle.rules.specs.Lists.{every, find, update}
 use Rattle.ledger.specs.Bills.{blankBill}
-use Rattle.ledger.specs.Books.{live, ofId, placeOf, termsIn}
-use Rattle.ledger.specs.parts.Places.{billAt, within, slotOf}
+use Rattle.ledger.specs.Books.{live, ofId, placeOf, billTerms}
+use Rattle.ledger.specs.parts.Places.{billAt, within, placeFor}
 use Rattle.rules.proofs.ListLaws.{every-at}
 use Rattle.verdict.specs.declared.Sought.the-variants as sought
 use Rattle.group.specs.Groups.{soughtIn}
-use Rattle.group.specs.parts.Turns.{soughtBy, calm, CalmAt}
+use Rattle.group.specs.parts.Turns.{soughtBy, inWidths, InWidthsAt}
 
 -- where the bill of an identity stands among bs, counted from n, if it does
 pub data Stands (id : Identity) (n : ℕ) (bs : List Bill) : Type 0 where
-  absent : find (ofId id) n bs ≡ Nothing → soughtIn id (map termsIn bs) ≡ sought.Nothing
+  absent : find (ofId id) n bs ≡ Nothing → soughtIn id (map billTerms bs) ≡ sought.Nothing
       → ((f : Bill → Bill) → update (ofId id) f bs ≡ bs) → Stands id n bs
   present : (p : ℕ) → p < length bs → find (ofId id) n bs ≡ At (n + p)
-      → soughtIn id (map termsIn bs) ≡ sought.Bill (getD bs p blankBill .terms)
+      → soughtIn id (map billTerms bs) ≡ sought.Bill (getD bs p blankBill .terms)
       → ((f : Bill → Bill) → update (ofId id) f bs ≡ set bs p (f (getD bs p blankBill))) → Stands id n bs
 
 pub stands : (id : Identity) (n : ℕ) (bs : List Bill) → Stands id n bs
@@ -45,8 +45,8 @@ stands id n (b ∷ bs) = cases (ofId id b) here (λ e. there e (stands id (suc n
 
 -- the same in the struct
 pub data Held (l : Ledger) (id : Identity) : Type 0 where
-  nowhere : placeOf id (live l) ≡ Nothing → soughtIn id (map termsIn (live l)) ≡ sought.Nothing → Held l id
-  somewhere : (p : ℕ) → p < l .count → placeOf id (live l) ≡ At p → soughtIn id (map termsIn (live l)) ≡ sought.Bill (billAt l p .terms)
+  nowhere : placeOf id (live l) ≡ Nothing → soughtIn id (map billTerms (live l)) ≡ sought.Nothing → Held l id
+  somewhere : (p : ℕ) → p < l .count → placeOf id (live l) ≡ At p → soughtIn id (map billTerms (live l)) ≡ sought.Bill (billAt l p .terms)
       → ((f : Bill → Bill) → update (ofId id) f (live l) ≡ set (live l) p (f (billAt l p))) → Held l id
 
 pub held : (l : Ledger) (id : Identity) → Held l id
@@ -65,7 +65,7 @@ pub data Spots (l : Ledger) (f : Found) (p : ℕ) : Type 0 where
   none : f ≡ Nothing → p ≡ within (l .count) → Spots l f p
   some : f ≡ At p → p < l .count → Spots l f p
 
-module _ (l : Ledger) (few : l .count ≤ 128) (id : Identity) (f : Found) (p : ℕ) (e : f ≡ placeOf id (live l)) (q : p ≡ slotOf f (l .count)) where
+module _ (l : Ledger) (few : l .count ≤ 128) (id : Identity) (f : Found) (p : ℕ) (e : f ≡ placeOf id (live l)) (q : p ≡ placeFor f (l .count)) where
   pub spots : Spots l f p
   spots = go (held l id)
     where
@@ -77,10 +77,10 @@ module _ (l : Ledger) (few : l .count ≤ 128) (id : Identity) (f : Found) (p : 
           some (z ∙ ap At (sym k)) (omega arith)
 
   -- the bill that was found is the one that is sought
-  pub sought-is : soughtBy f (billAt l p) ≡ soughtIn id (map termsIn (live l))
+  pub sought-is : soughtBy f (billAt l p) ≡ soughtIn id (map billTerms (live l))
   sought-is = go (held l id)
     where
-      go : Held l id → soughtBy f (billAt l p) ≡ soughtIn id (map termsIn (live l))
+      go : Held l id → soughtBy f (billAt l p) ≡ soughtIn id (map billTerms (live l))
       go (nowhere x y) = rw (e ∙ x, y)
       go (somewhere i h x y u) =
           let z : f ≡ At i = e ∙ x in
@@ -93,6 +93,6 @@ every-held q l p h k a =
     let e = length-take-le (l .count) (l .bills) k in
     rw (getD-take (l .count) (l .bills) p blankBill h) at (every-at q (live l) p blankBill a (omega arith))
 
-pub spot-calm : (l : Ledger) (f : Found) (p : ℕ) → l .count ≤ length (l .bills) → every calm (live l) ≡ true → Spots l f p → CalmAt f (billAt l p)
+pub spot-calm : (l : Ledger) (f : Found) (p : ℕ) → l .count ≤ length (l .bills) → every inWidths (live l) ≡ true → Spots l f p → InWidthsAt f (billAt l p)
 spot-calm l f p k a (none x y) = rw x tt
-spot-calm l f p k a (some x h) = rw x (every-held calm l p h k a)
+spot-calm l f p k a (some x h) = rw x (every-held inWidths l p h k a)

@@ -10,10 +10,10 @@ use Rattle.ledger.specs.Books.{book, live}
 use Rattle.ledger.specs.Sound.{soundBill, soundLedger}
 use Rattle.rules.proofs.ListLaws.{every-map}
 use Rattle.ledger.proofs.SoundLaws.{terms-facts, bill-terms, bill-small, book-facts, ledger-book, ledger-count}
-use Rattle.group.specs.parts.Turns.{calm, Ready}
+use Rattle.group.specs.parts.Turns.{inWidths, Ready}
 
-pub sound-calm : (b : Bill) → soundBill b ≡ true → calm b ≡ true
-unfolding calm
+pub sound-calm : (b : Bill) → soundBill b ≡ true → inWidths b ≡ true
+unfolding inWidths
 sound-calm b h = rw (le-leb _ _ (terms-facts (b .terms) (bill-terms b h) .sequence), bill-small b h)
 
 pub sound-ready : (l : Ledger) → soundLedger l ≡ true → Ready l
@@ -21,7 +21,7 @@ sound-ready l h =
     let f = book-facts (book l) (ledger-book l h) in
     record {
       count = ledger-count l h;
-      bills = every-map soundBill calm sound-calm (live l) (f .bills);
+      bills = every-map soundBill inWidths sound-calm (live l) (f .bills);
       tracking = leb-true _ _ (and-right (leb 1 (l .«next_tracking»)) (leb (l .«next_tracking») 1000000000) (f .tracking));
       confirmation = leb-true _ _ (and-right (leb 1 (l .«next_confirmation»)) (leb (l .«next_confirmation») 1000000000) (f .confirmation));
     }

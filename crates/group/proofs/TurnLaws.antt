@@ -17,7 +17,7 @@ use Rattle.rules.specs.declared.Found.the-variants as found
 use Rattle.rules.specs.Lists.{update}
 use Rattle.ledger.specs.Bills.{posting, blankBill}
 use Rattle.ledger.specs.Books.{book, live, view, ofId, placeOf, stored, billCharge, totalOf}
-use Rattle.ledger.specs.parts.Places.{billAt, headerOf, updated, slotOf}
+use Rattle.ledger.specs.parts.Places.{billAt, headerOf, updated, placeFor}
 use Rattle.rules.proofs.ListLaws.{sum-set}
 use Rattle.file.specs.File.{Group, asksId, line1}
 use Rattle.file.specs.parts.Walk.{groupAt}
@@ -69,7 +69,7 @@ stored-set l p b h k =
 
 -- ---- the turn of the group whose header is record i, where its bill was found at f, and p is the place
 module _ (l : Ledger) (long : length (l .bills) ≡ 128) (few : l .count ≤ 128) (s : List ℕ) (i n : ℕ) (t : Bool) (f : Found) (p : ℕ)
-    (e : f ≡ placeOf (identityAt s i n) (live l)) (q : p ≡ slotOf f (l .count)) where
+    (e : f ≡ placeOf (identityAt s i n) (live l)) (q : p ≡ placeFor f (l .count)) where
   abbrev g : Group
   g = groupAt s i n
 

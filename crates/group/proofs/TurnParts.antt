@@ -17,7 +17,7 @@ use Rattle.verdict.specs.declared.Sought.{Sought}
 use Rattle.verdict.specs.declared.Verdict.{Verdict}
 use Rattle.group.specs.declared.Tally.{Tally}
 use Rattle.group.specs.Groups.{verdictOn}
-use Rattle.group.specs.parts.Turns.{soughtBy, idsBy, billBy, said, answerAt, tallied, TurnedBy}
+use Rattle.group.specs.parts.Turns.{soughtBy, idsBy, billBy, ifWritten, answerAt, tallied, TurnLeaves}
 
 -- the verdict that the code came to
 pub verdict-now : (t : Bool) (today : Date) (f : Found) (b : Bill) (g : Group) (x : Sought) (v : Verdict) → x ≡ soughtBy f b → v ≡ verdictOn t today x g
@@ -32,9 +32,9 @@ module _ (out₀ out : List ℕ) (writes : Bool) (c : Tally) (s : List ℕ) (i n
   now = verdictOn t (h .today) (soughtBy f b) g
 
   pub turn-done : (sup : Bool) → sup ≡ isSup (recordAt s i) → (v : Verdict) → v ≡ now → (size : ℕ) → size ≡ length (answerAt v h b g)
-      → out ≡ put out₀ (c .written) (said writes (answerAt v h b g)) → (d : Tally) → d ≡ tallied c v b size → (ids : ℕ) → ids ≡ idsBy v sup
+      → out ≡ put out₀ (c .written) (ifWritten writes (answerAt v h b g)) → (d : Tally) → d ≡ tallied c v b size → (ids : ℕ) → ids ≡ idsBy v sup
       → (k : Bill) → k ≡ billBy v sup b
-      → TurnedBy now g h b c writes out₀ out
+      → TurnLeaves now g h b c writes out₀ out
       (record {
         update =
             record {
@@ -50,5 +50,5 @@ module _ (out₀ out : List ℕ) (writes : Bool) (c : Tally) (s : List ℕ) (i n
         header = rw x;
         bill = ke ∙ ap₂ (λ (w : Verdict) (p : Bool). billBy w p b) ve a;
         tally = de ∙ rw (ze, ve);
-        bytes = oe ∙ ap (λ (w : Verdict). put out₀ (c .written) (said writes (answerAt w h b g))) ve;
+        bytes = oe ∙ ap (λ (w : Verdict). put out₀ (c .written) (ifWritten writes (answerAt w h b g))) ve;
       }

@@ -32,7 +32,7 @@ use Rattle.verdict.specs.declared.Verdict.the-variants.{Accepted, Rejected}
 use Rattle.rules.specs.Rules.{Rule, rule, first}
 use Rattle.verdict.specs.Lines.{termsOf, line4, line5, line6, line7, lines8to10, sentConsumption, sentCharge, amountsOf, settle}
 use Rattle.group.specs.Groups.{sought, kindOf, linesBy, linesOn, verdictOn, verdictBy}
-use Rattle.group.specs.parts.Turns.{soughtBy, calm, CalmAt, CanPost, cameBy, wentBy}
+use Rattle.group.specs.parts.Turns.{soughtBy, inWidths, InWidthsAt, CanPost, cameBy, wentBy}
 
 -- ---- no verdict accepts where there is no bill
 pub nothing-rejects : (t : Bool) (today : Date) (g : Group) → (n : ℕ) × (verdictOn t today sought.Nothing g ≡ Rejected n)
@@ -50,15 +50,15 @@ module _ (t : Bool) (today : Date) (f : Found) (b : Bill) (g : Group) where
   calm-posts (Accepted amounts) h = h
   calm-posts (Rejected n) h = tt
 
-  pub can-post : CalmAt f b → CanPost now b
-  unfolding calm
+  pub can-post : InWidthsAt f b → CanPost now b
+  unfolding inWidths
   can-post h = go f refl
     where
       go : (k : Found) → f ≡ k → CanPost now b
       go (found.At p) e = calm-posts now (leb-true _ _ (and-left (leb (b .terms .sequence) 999) (smallCharge b) (rw e at h)))
       go found.Nothing e = let q = nothing-rejects t today g in rw (e, q .1) tt
 
--- ---- a bill stays calm
+-- ---- a bill stays inWidths
 -- each condition of a list of rules is false
 abbrev pub Off : List Rule → Type 0
 Off [] = Unit {0}
@@ -119,8 +119,8 @@ module _ (t : Bool) (k : Book) (g : Group) (b : Bill) (amounts : Posted) (v : ve
       let x = sup-room (line1 g) (line2 g) t (k .today) (g .header) (detailOf g) (sought (view k) g) _ c in
       eqb-false (b .terms .sequence) 999 (rw y at x)
 
-  pub calm-posted : calm b ≡ true → calm (posting amounts (asksId g) b) ≡ true
-  unfolding calm
+  pub calm-posted : inWidths b ≡ true → inWidths (posting amounts (asksId g) b) ≡ true
+  unfolding inWidths
   calm-posted h =
       let a = leb-true _ 999 (and-left (leb (b .terms .sequence) 999) (smallCharge b) h) in
       let m : fitsCents (chargeOf amounts) ≡ true =
@@ -130,8 +130,8 @@ module _ (t : Bool) (k : Book) (g : Group) (b : Bill) (amounts : Posted) (v : ve
       (λ e. rw e (ap (λ (x : Bool). x && true) (le-leb (b .terms .sequence) 999 a))))
 
 -- ---- the charges that come and go
-small-of : (c : Bill) → calm c ≡ true → billCharge c ≤ 10 ^ 13
-unfolding calm
+small-of : (c : Bill) → inWidths c ≡ true → billCharge c ≤ 10 ^ 13
+unfolding inWidths
 small-of c e = omega (arith, ltb-true (billCharge c) (10 ^ 13) (and-right (leb (c .terms .sequence) 999) (smallCharge c) e))
 
 pub came-small : (t : Bool) (today : Date) (b : Sought) (g : Group) → cameBy (verdictOn t today b g) ≤ 10 ^ 13
@@ -144,7 +144,7 @@ came-small t today b g = go (first (linesOn t today b g))
         omega (arith, ltb-true (chargeOf (amountsOf (isPrepay (termsOf b .product)) (detailOf g)) .0) (10 ^ 13) m)
     go (Stop n) = omega arith
 
-pub went-small : (t : Bool) (today : Date) (f : Found) (b : Bill) (g : Group) → CalmAt f b → wentBy (verdictOn t today (soughtBy f b) g) b ≤ 10 ^ 13
+pub went-small : (t : Bool) (today : Date) (f : Found) (b : Bill) (g : Group) → InWidthsAt f b → wentBy (verdictOn t today (soughtBy f b) g) b ≤ 10 ^ 13
 went-small t today found.Nothing b g h = let q = nothing-rejects t today g in rw (q .1) (omega arith)
 went-small t today (found.At p) b g h = go (verdictOn t today (soughtBy (found.At p) b) g)
   where

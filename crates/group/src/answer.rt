@@ -8,7 +8,7 @@ ghost use Rattle.records.specs.Limits.{recordSize, fileRecords};
 ghost use Rattle.records.specs.Layout.{recordAt};
 ghost use Rattle.notices.specs.Answers.{acf};
 ghost use Rattle.file.specs.parts.Walk.{groupAt};
-ghost use Rattle.group.specs.parts.Turns.{said, answerAt, recordsBy};
+ghost use Rattle.group.specs.parts.Turns.{ifWritten, answerAt, recordsBy};
 use ledger::Bill;
 use ledger::LedgerHeader;
 use notices::acf::Acf;
@@ -103,7 +103,7 @@ pub fn answer(
 ) -> usize
     requires { ⌜ (i < n) × (n * recordSize ≤ length (now s)) × (n ≤ fileRecords) ⌝ }
     requires { ⌜ (writes ≡ true → at + (n - i) * recordSize ≤ length (now out)) ⌝ }
-    ensures { λ r. ⌜ (now (out .exit) ≡ put (now (out .entry)) at (said writes (answerAt v h b (groupAt (now (s .entry)) i n)))) × (r ≡ length (answerAt v h b (groupAt (now (s .entry)) i n))) × (r ≤ (n - i) * recordSize) ⌝ }
+    ensures { λ r. ⌜ (now (out .exit) ≡ put (now (out .entry)) at (ifWritten writes (answerAt v h b (groupAt (now (s .entry)) i n)))) × (r ≡ length (answerAt v h b (groupAt (now (s .entry)) i n))) × (r ≤ (n - i) * recordSize) ⌝ }
 {
     let k = records(s, i, n, v);
     if writes {

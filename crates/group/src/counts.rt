@@ -4,7 +4,7 @@ ghost use mathlib.Core.Bool.{cond};
 ghost use Prim.Native.Nat.{_+_, _*_, _^_, _≤_};
 ghost use Rattle.records.specs.Limits.{fileSize};
 ghost use Rattle.group.specs.Groups.{isAccepted, isRejected};
-ghost use Rattle.group.specs.parts.Turns.{cameBy, wentBy, noTally, tallied, Few};
+ghost use Rattle.group.specs.parts.Turns.{cameBy, wentBy, noTally, tallied, WithinFile};
 use crate::Tally;
 use ledger::Bill;
 use verdict::Verdict;
@@ -63,7 +63,7 @@ pub fn none() -> Tally
 
 // One group more, whose answer has so many bytes and before which b stood at its place.
 pub fn add(c: Tally, v: Verdict, b: Bill, size: usize) -> Tally
-    requires { ⌜ Few c × (size ≤ fileSize) × (cameBy v ≤ 10 ^ 13) × (wentBy v b ≤ 10 ^ 13) ⌝ }
+    requires { ⌜ WithinFile c × (size ≤ fileSize) × (cameBy v ≤ 10 ^ 13) × (wentBy v b ≤ 10 ^ 13) ⌝ }
     ensures { λ r. ⌜ r ≡ tallied c v b size ⌝ }
 {
     Tally {

@@ -10,7 +10,7 @@ ghost use lib.ListN.{length, getD};
 ghost use Rattle.records.specs.Limits.{recordSize, fileRecords};
 ghost use Rattle.file.specs.parts.Walk.{groupAt, markAt};
 ghost use Rattle.group.specs.Groups.{verdictOn};
-ghost use Rattle.group.specs.parts.Turns.{identityIn, identityAt, soughtBy, CalmAt, CanPost, idsBy, billBy, Few, TurnedBy};
+ghost use Rattle.group.specs.parts.Turns.{identityIn, identityAt, soughtBy, InWidthsAt, CanPost, idsBy, billBy, WithinFile, TurnLeaves};
 use file::Form;
 use ledger::Bill;
 use ledger::Identity;
@@ -35,7 +35,7 @@ pub struct Tally {
 }
 
 // What a group's turn leaves: the header and the bill at its place, and the counts.
-pub struct Turned {
+pub struct TurnResult {
     pub update: Update,
     pub tally: Tally,
 }
@@ -146,10 +146,10 @@ pub fn turn(
     h: LedgerHeader,
     f: Found,
     b: Bill,
-) -> Turned
+) -> TurnResult
     requires { ⌜ (i < n) × (n * recordSize ≤ length (now s)) × (n ≤ fileRecords) × (writes ≡ true → c .written + (n - i) * recordSize ≤ length (now out)) ⌝ }
-    requires { ⌜ CalmAt f b × Few c × (h .tracking ≤ 1000000200) × (h .confirmation ≤ 1000000200) ⌝ }
-    ensures { λ r. ⌜ TurnedBy (verdictOn duplicate (h .today) (soughtBy f b) (groupAt (now (s .entry)) i n)) (groupAt (now (s .entry)) i n) h b c writes (now (out .entry)) (now (out .exit)) r ⌝ }
+    requires { ⌜ InWidthsAt f b × WithinFile c × (h .tracking ≤ 1000000200) × (h .confirmation ≤ 1000000200) ⌝ }
+    ensures { λ r. ⌜ TurnLeaves (verdictOn duplicate (h .today) (soughtBy f b) (groupAt (now (s .entry)) i n)) (groupAt (now (s .entry)) i n) h b c writes (now (out .entry)) (now (out .exit)) r ⌝ }
 {
     let sup = file::sup_at(s, i);
     let today = h.today;
@@ -164,5 +164,5 @@ pub fn turn(
     };
     let bill = post(v, sup, b);
     let update = Update { header, bill };
-    Turned { update, tally }
+    TurnResult { update, tally }
 }

@@ -12,7 +12,7 @@ use Rattle.ledger.specs.declared.Bill.{Bill}
 use Rattle.ledger.specs.declared.Identity.{Identity}
 use Rattle.rules.specs.Lists.{every, count, update}
 use Rattle.ledger.specs.Bills.{isOf, posting}
-use Rattle.ledger.specs.Books.{Book, view, termsIn, ofId}
+use Rattle.ledger.specs.Books.{Book, view, billTerms, ofId}
 use Rattle.ledger.specs.Sound.{isNext, soundBill, holdsId, distinct, sound}
 use Rattle.ledger.proofs.SoundLaws.{BookFacts, book-facts, facts-sound}
 use Rattle.file.specs.File.{Group, asksId, line3}
@@ -26,7 +26,7 @@ use Rattle.groups.proofs.SoundKept.{sound-posted}
 -- ---- the bills
 -- every bill stays sound if the one that is sought does
 pub bills-kept : (id : Identity) (f : Bill → Bill) (bs : List Bill) → every soundBill bs ≡ true
-    → ((b : Bill) → soughtIn id (map termsIn bs) ≡ sought.Bill (b .terms) → soundBill b ≡ true → soundBill (f b) ≡ true)
+    → ((b : Bill) → soughtIn id (map billTerms bs) ≡ sought.Bill (b .terms) → soundBill b ≡ true → soundBill (f b) ≡ true)
     → every soundBill (update (ofId id) f bs) ≡ true
 bills-kept id f [] a q = refl
 bills-kept id f (b ∷ bs) a q =

@@ -5,7 +5,7 @@ ghost use lib.ListN.{length};
 ghost use Rattle.records.specs.Limits.{recordSize, fileRecords};
 ghost use Rattle.records.specs.Layout.{recordsFrom};
 ghost use Rattle.file.specs.File.{groups};
-ghost use Rattle.group.specs.parts.Turns.{Ready, Fine, TurnedOn, TookBy};
+ghost use Rattle.group.specs.parts.Turns.{Ready, FitForTurn, TurnLeavesOn, FileTaken};
 use group::Tally;
 use ledger::Ledger;
 use ledger::LedgerHeader;
@@ -19,8 +19,8 @@ pub struct Taken {
 // One group's turn: its bill found, the group decided and answered, and what that leaves stored.
 fn turn(t: Taken, out: &mut [u8], s: &[u8], i: usize, n: usize, duplicate: bool) -> Taken
     requires { ⌜ (i < n) × (n * recordSize ≤ length (now s)) × (n ≤ fileRecords) × (t .tally .written + (n - i) * recordSize ≤ length (now out)) ⌝ }
-    requires { ⌜ Fine (t .ledger) (t .tally) ⌝ }
-    ensures { λ r. ⌜ TurnedOn (now (s .entry)) i n duplicate (t .ledger) (t .tally) true (now (out .entry)) (r .ledger) (now (out .exit)) (r .tally) ⌝ }
+    requires { ⌜ FitForTurn (t .ledger) (t .tally) ⌝ }
+    ensures { λ r. ⌜ TurnLeavesOn (now (s .entry)) i n duplicate (t .ledger) (t .tally) true (now (out .entry)) (r .ledger) (now (out .exit)) (r .tally) ⌝ }
 {
     let l = t.ledger;
     let c = t.tally;
@@ -49,7 +49,7 @@ fn turn(t: Taken, out: &mut [u8], s: &[u8], i: usize, n: usize, duplicate: bool)
 pub fn take_groups(l: Ledger, out: &mut [u8], s: &[u8], n: usize) -> Taken
     requires { ⌜ (n ≤ fileRecords) × (n * recordSize ≤ length (now s)) × (n * recordSize ≤ length (now out)) ⌝ }
     requires { ⌜ Ready l ⌝ }
-    ensures { λ r. ⌜ TookBy l (groups (recordsFrom (now (s .entry)) 0 n)) true (now (out .entry)) (r .ledger) (now (out .exit)) (r .tally) ⌝ }
+    ensures { λ r. ⌜ FileTaken l (groups (recordsFrom (now (s .entry)) 0 n)) true (now (out .entry)) (r .ledger) (now (out .exit)) (r .tally) ⌝ }
 {
     let marks = group::marks(s, n);
     let mut t = Taken {

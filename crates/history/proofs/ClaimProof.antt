@@ -22,7 +22,7 @@ use Rattle.calls.specs.Days.{freshLedger, freshBy, freshCalled}
 use Rattle.calls.proofs.CountLaws.{both-counted}
 use Rattle.calls.proofs.DayLaws.{fresh-sound}
 use Rattle.calls.proofs.RunLaws.{runs}
-use Rattle.history.specs.History.{History, begun, decided, Decided, verdictOn, decisions, hCause, hStep, hAfter, callDecisions, hDecisions}
+use Rattle.history.specs.History.{History, begun, decided, Decided, verdictNow, decisions, hCause, hStep, hAfter, callDecisions, hDecisions}
 use Rattle.history.specs.Written.{acfsIn}
 use Rattle.history.specs.Claim.{All, assigned, changes, accepts, acfsOf, Lawful, SumFromHistory, SumByValue}
 use Rattle.history.proofs.RecordLaws.{Formed, formed-file}
@@ -43,7 +43,7 @@ group-verdicts before (g ∷ gs) l h e =
     let t = line3 (before ++ gs) g in
     ap (λ (v : View). verdictBy t v g ∷ verdicts (before ++ (g ∷ [])) (settled l g (verdictHere before l g gs)) gs) (sym e)
     ∙ ap (λ (vs : List Verdict). verdictBy t (h .now) g ∷ vs)
-    (group-verdicts (before ++ (g ∷ [])) gs (settled l g (verdictHere before l g gs)) (decided h g (verdictOn before h g gs)) (decided-now t l h g e))
+    (group-verdicts (before ++ (g ∷ [])) gs (settled l g (verdictHere before l g gs)) (decided h g (verdictNow before h g gs)) (decided-now t l h g e))
 
 call-verdicts : (l : Book) (h : History) (c : Call) (v : Check) → h .now ≡ view l → outcome l c v .verdicts ≡ verdictsOf (callDecisions h c v)
 unfolding outcome nextVerdicts callDecisions verdictsOf
@@ -110,8 +110,8 @@ group-acfs before (g ∷ gs) l h e w =
     answer-acfs (view l) g (verdictBy t (view l) g) rest (w .0)
     ∙ ap (λ (v : View). acfFor v g (verdictBy t v g) ++ acfsIn rest) (sym e)
     ∙ ap (λ (r : List (List ℕ)). acfFor (h .now) g (verdictBy t (h .now) g) ++ r)
-    (group-acfs (before ++ (g ∷ [])) gs l′ (decided h g (verdictOn before h g gs)) (decided-now t l h g e) (w .1))
-    ∙ sym (acf-more (record { now = h .now; group = g; verdict = verdictOn before h g gs }) (decisions (before ++ (g ∷ [])) (decided h g (verdictOn before h g gs)) gs))
+    (group-acfs (before ++ (g ∷ [])) gs l′ (decided h g (verdictNow before h g gs)) (decided-now t l h g e) (w .1))
+    ∙ sym (acf-more (record { now = h .now; group = g; verdict = verdictNow before h g gs }) (decisions (before ++ (g ∷ [])) (decided h g (verdictNow before h g gs)) gs))
 
 call-acfs : (l : Book) (h : History) (c : Call) (v : Check) → h .now ≡ view l → acfsIn (outcome l c v .written) ≡ acfsOf (callDecisions h c v)
 unfolding outcome nextWritten callDecisions
@@ -150,7 +150,7 @@ groups-lawful : (before gs : List Group) (h : History) → All Lawful (decisions
 unfolding decisions
 groups-lawful before [] h = tt
 groups-lawful before (g ∷ gs) h =
-    (lawful (line3 (before ++ gs) g) (h .now) g, groups-lawful (before ++ (g ∷ [])) gs (decided h g (verdictOn before h g gs)))
+    (lawful (line3 (before ++ gs) g) (h .now) g, groups-lawful (before ++ (g ∷ [])) gs (decided h g (verdictNow before h g gs)))
 
 call-lawful : (h : History) (c : Call) (v : Check) → All Lawful (callDecisions h c v)
 unfolding callDecisions

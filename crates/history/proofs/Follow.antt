@@ -13,7 +13,7 @@ use Rattle.ledger.specs.declared.Posted.{Posted}
 use Rattle.ledger.specs.declared.Terms.{Terms}
 use Rattle.rules.specs.Lists.{count, update}
 use Rattle.ledger.specs.Bills.{isOf, renewed, posting, cancelledBill}
-use Rattle.ledger.specs.Books.{Book, view, termsIn, ofId, billCharge}
+use Rattle.ledger.specs.Books.{Book, view, billTerms, ofId, billCharge}
 use Rattle.ledger.specs.Sound.{holdsId}
 use Rattle.ledger.proofs.SoundLaws.{BookFacts}
 use Rattle.file.specs.File.{Group, fileGroups, detailOf, asksId, line3}
@@ -31,7 +31,7 @@ use Rattle.causes.specs.Requests.{latestOf, newBill}
 use Rattle.calls.specs.Machine.{next}
 use Rattle.causes.proofs.CauseLaws.{sends}
 use Rattle.calls.proofs.NextSound.{nowhere, next-facts}
-use Rattle.history.specs.History.{Posting, History, lastCharge, chargeIn, renews, marked, raised, onward, decided, verdictOn, decidedAll, hNext}
+use Rattle.history.specs.History.{Posting, History, lastCharge, countedCharge, renews, marked, raised, onward, decided, verdictNow, decidedAll, hNext}
 use Rattle.history.specs.Claim.{All}
 use Rattle.history.proofs.Accepted.{accepted-exists, accepted-alive, accepted-charge}
 use Rattle.history.proofs.UpdateLaws.{identity-same, has-map, map-append, all-append, map-update, all-update}
@@ -42,7 +42,7 @@ hist l ps = record { now = view l; postings = ps }
 
 -- a bill's charge is that of its last posting
 abbrev pub Agrees : List Posting → Bill → Type 0
-Agrees ps b = billCharge b ≡ chargeIn ps (b .terms)
+Agrees ps b = billCharge b ≡ countedCharge ps (b .terms)
 
 pub record Follows (l : Book) (h : History) : Type 0 where
   pub now : h .now ≡ view l
@@ -79,7 +79,7 @@ settled-now l ps g (Rejected m) =
       today = l .today;
       tracking = add-zero (l .tracking) i;
       confirmation = l .confirmation + 1;
-      bills = map termsIn (l .bills);
+      bills = map billTerms (l .bills);
     }
 
 pub decided-now : (t : Bool) (l : Book) (h : History) (g : Group) → h .now ≡ view l
@@ -101,7 +101,7 @@ module _ (t : Bool) (l : Book) (ps : List Posting) (g : Group) (f : Follows l (h
 
   -- the bill that the group is about takes the group's charge
   takes : (amounts : Posted) → verdictBy t (view l) g ≡ Accepted amounts → (b : Bill) → ofId named b ≡ true
-      → soughtIn named (map termsIn (l .bills)) ≡ sought.Bill (b .terms) → Agrees (paid ∷ ps) (posting amounts (asksId g) b)
+      → soughtIn named (map billTerms (l .bills)) ≡ sought.Bill (b .terms) → Agrees (paid ∷ ps) (posting amounts (asksId g) b)
   takes amounts e b t′ y =
       let alive : b .terms .cancelled ≡ false = rw y at (accepted-alive t (view l) g amounts e) in
       rw (alive, t′) (accepted-charge t (view l) g amounts e)
@@ -113,7 +113,7 @@ module _ (t : Bool) (l : Book) (ps : List Posting) (g : Group) (f : Follows l (h
       cases (isOf named u)
       (λ s.
       let m : holdsId named (l .bills) ≡ false = ap (λ (i : Identity). holdsId i (l .bills)) (sym (identity-same named u s)) ∙ o in
-      let x : isNothing (soughtIn named (map termsIn (l .bills))) ≡ true = rw (nowhere named (l .bills) m) in
+      let x : isNothing (soughtIn named (map billTerms (l .bills))) ≡ true = rw (nowhere named (l .bills) m) in
       absurd (true≢false (sym x ∙ accepted-exists t (view l) g amounts e)))
       (λ s. rw s (f .unposted u o))
 
@@ -151,7 +151,7 @@ groups-follow before [] l h f c n = f
 groups-follow before (g ∷ gs) l h f c n =
     let s = count-step (asksId g) (count asksId gs) in
     let v = verdictHere before l g gs in
-    groups-follow (before ++ (g ∷ [])) gs (settled l g v) (decided h g (verdictOn before h g gs))
+    groups-follow (before ++ (g ∷ [])) gs (settled l g v) (decided h g (verdictNow before h g gs))
     (group-follows (line3 (before ++ gs) g) l h g f (omega arith) (omega arith))
     (omega (arith, confirmation-up l g v))
     (omega (arith, tracking-up l g v))
@@ -172,7 +172,7 @@ module _ (l : Book) (ps : List Posting) (f : Follows l (hist l ps)) where
         }
 
     pub change-follows : BookFacts after
-        → Follows after (record { now = onward (view l) 1 1 (update (isOf id) g′ (map termsIn (l .bills))); postings = ps })
+        → Follows after (record { now = onward (view l) 1 1 (update (isOf id) g′ (map billTerms (l .bills))); postings = ps })
     change-follows s =
         record {
           now = ap (onward (view l) 1 1) (sym (map-update id g g′ same (l .bills)));
@@ -185,7 +185,7 @@ module _ (l : Book) (ps : List Posting) (f : Follows l (hist l ps)) where
   add-follows : (b : Bill) → billCharge b ≡ 0 → holdsId (b .terms .identity) (l .bills) ≡ false
       → BookFacts (record { today = l .today; tracking = l .tracking + 1; confirmation = l .confirmation + 1; bills = l .bills ++ (b ∷ []) })
       → Follows (record { today = l .today; tracking = l .tracking + 1; confirmation = l .confirmation + 1; bills = l .bills ++ (b ∷ []) })
-      (record { now = onward (view l) 1 1 (map termsIn (l .bills) ++ (b .terms ∷ [])); postings = ps })
+      (record { now = onward (view l) 1 1 (map billTerms (l .bills) ++ (b .terms ∷ [])); postings = ps })
   add-follows b z o s =
       record {
         now = ap (onward (view l) 1 1) (sym (map-append (l .bills) b));

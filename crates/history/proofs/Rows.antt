@@ -12,7 +12,7 @@ use Rattle.ledger.specs.declared.Bill.{Bill}
 use Rattle.ledger.specs.declared.Identity.{Identity}
 use Rattle.rules.specs.Lists.{every, count}
 use Rattle.ledger.specs.Bills.{isOf}
-use Rattle.ledger.specs.Books.{Book, view, termsIn}
+use Rattle.ledger.specs.Books.{Book, view, billTerms}
 use Rattle.ledger.specs.Sound.{soundBill, holdsId}
 use Rattle.ledger.proofs.SoundLaws.{terms-facts, bill-terms}
 use Rattle.file.specs.File.{Group, fileGroups, asksId, line3}
@@ -27,9 +27,9 @@ use Rattle.groups.proofs.FileSound.{confirmation-up, tracking-up, count-step}
 use Rattle.causes.specs.Causes.{Call, request, file, cancel, close, causes}
 use Rattle.calls.specs.Machine.{next, nextWritten, outcome, step, after, outcomes}
 use Rattle.causes.proofs.CauseLaws.{asks, sends, cancels}
-use Rattle.history.specs.History.{History, hStep, decided, verdictOn}
+use Rattle.history.specs.History.{History, hStep, decided, verdictNow}
 use Rattle.history.specs.Written.{assignedIn}
-use Rattle.history.specs.Claim.{All, Once, assigned}
+use Rattle.history.specs.Claim.{All, NoneTwice, assigned}
 use Rattle.history.proofs.RecordLaws.{Formed, formed-file}
 use Rattle.history.proofs.WrittenLaws.{bil-assigns, cxl-assigns, none-assigned, givenTo, answer-assigns}
 use Rattle.history.proofs.Accepted.{accepted-exists}
@@ -81,7 +81,7 @@ row-one : (a : ℕ) → Row a (a ∷ []) (a + 1)
 unfolding range
 row-one a = record { row = refl; ends = refl }
 
-pub row-once : (a b : ℕ) (ids : List ℕ) → Row a ids b → Once ids
+pub row-once : (a b : ℕ) (ids : List ℕ) → Row a ids b → NoneTwice ids
 row-once a b ids r i j hi hj e =
     let p : getD ids i 0 ≡ a + i = ap (λ (l : List ℕ). getD l i 0) (r .row) ∙ range-at a (length ids) i hi in
     let q : getD ids j 0 ≡ a + j = ap (λ (l : List ℕ). getD l j 0) (r .row) ∙ range-at a (length ids) j hj in
@@ -89,8 +89,8 @@ row-once a b ids r i j hi hj e =
 
 -- ---- a group
 -- the bill that is sought has a Scheduled Date
-dated : (id : Identity) (bs : List Bill) → every soundBill bs ≡ true → isNothing (soughtIn id (map termsIn bs)) ≡ false
-    → isDate (termsOf (soughtIn id (map termsIn bs)) .latest .scheduled .0) ≡ true
+dated : (id : Identity) (bs : List Bill) → every soundBill bs ≡ true → isNothing (soughtIn id (map billTerms bs)) ≡ false
+    → isDate (termsOf (soughtIn id (map billTerms bs)) .latest .scheduled .0) ≡ true
 dated id [] a n = absurd (mathlib.Core.Bool.true≢false n)
 dated id (b ∷ bs) a n =
     cases (isOf id (b .terms))
@@ -122,7 +122,7 @@ row-groups before (g ∷ gs) l h f w c n =
     (answer-assigns (view l) g v rest (w .0) (group-dated t l h g f v refl) (omega arith))
     (row-append (l .tracking) (l′ .tracking) (taken (before ++ (g ∷ [])) l′ gs .tracking) (givenTo (l .tracking) g v) (assignedIn rest)
     (row-group l g v)
-    (row-groups (before ++ (g ∷ [])) gs l′ (decided h g (verdictOn before h g gs))
+    (row-groups (before ++ (g ∷ [])) gs l′ (decided h g (verdictNow before h g gs))
     (group-follows t l h g f (omega arith) (omega arith))
     (w .1) (omega (arith, confirmation-up l g v)) (omega (arith, tracking-up l g v))))
 
@@ -132,7 +132,7 @@ row-next : (l : Book) (h : History) (c : Call) → Follows l h → first (causes
     → Row (l .tracking) (assignedIn (nextWritten l c)) (next l c .tracking)
 unfolding nextWritten next causes
 row-next l h (request r room) f e =
-    let a = asks r room (l .today) (l .tracking) (l .confirmation) (length (map termsIn (l .bills))) (soughtIn (r .identity) (map termsIn (l .bills))) e in
+    let a = asks r room (l .today) (l .tracking) (l .confirmation) (length (map billTerms (l .bills))) (soughtIn (r .identity) (map billTerms (l .bills))) e in
     let t = a .left .0 in
     cases (holdsId (r .identity) (l .bills))
     (λ k. rw k (row-is (l .tracking) (l .tracking + 1) _ (l .tracking ∷ []) (bil-assigns _ (omega arith)) (row-one (l .tracking))))
@@ -141,7 +141,7 @@ row-next l h (file s room) f e =
     let a = sends s room (l .tracking) (l .confirmation) e in
     row-groups [] (fileGroups s) l h f (formed-file s) (a .left .1) (a .left .0)
 row-next l h (cancel id room) f e =
-    let t = cancels id room (l .tracking) (l .confirmation) (soughtIn id (map termsIn (l .bills))) e .left .0 in
+    let t = cancels id room (l .tracking) (l .confirmation) (soughtIn id (map billTerms (l .bills))) e .left .0 in
     row-is (l .tracking) (l .tracking + 1) _ (l .tracking ∷ []) (cxl-assigns _ (omega arith)) (row-one (l .tracking))
 row-next l h (close d) f e = row-is (l .tracking) (l .tracking) (assignedIn []) [] none-assigned (row-none (l .tracking))
 

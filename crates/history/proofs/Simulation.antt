@@ -5,7 +5,7 @@ use mathlib.Core.List.{List, [], _∷_, map}
 use lib.IntN.{ℤ, pos, _+ℤ_, _-ℤ_, +ℤ-assoc, +ℤ-comm, +ℤ-idr, -ℤ-+ℤ-cancel}
 use Rattle.ledger.specs.declared.Bill.{Bill}
 use Rattle.rules.specs.Lists.{sum}
-use Rattle.ledger.specs.Books.{Book, View, view, termsIn, totalOf}
+use Rattle.ledger.specs.Books.{Book, View, view, billTerms, totalOf}
 use Rattle.ledger.specs.Sound.{sound}
 use Rattle.ledger.proofs.SoundLaws.{facts-sound}
 use Rattle.rules.specs.declared.Check.{Check}
@@ -13,7 +13,7 @@ use Rattle.rules.specs.declared.Check.the-variants.{Clear, Stop}
 use Rattle.rules.specs.Rules.{first}
 use Rattle.causes.specs.Causes.{Call, causes}
 use Rattle.calls.specs.Machine.{cause, next, total, Outcome, outcome, step, after, outcomes}
-use Rattle.history.specs.History.{Posting, History, chargeIn, historySum, hCause, hMove, hStep, hAfter, hCauses, Decided, callDecisions, hDecisions}
+use Rattle.history.specs.History.{Posting, History, countedCharge, historySum, hCause, hMove, hStep, hAfter, hCauses, Decided, callDecisions, hDecisions}
 use Rattle.history.specs.Claim.{All, changes}
 use Rattle.history.proofs.Follow.{hist, Agrees, Follows, along, same-view, next-follows}
 
@@ -44,13 +44,13 @@ after-follows [] l h f = f
 after-follows (c ∷ cs) l h f = after-follows cs (step l c .ledger) (hStep h c) (step-follows l h c f)
 
 -- ---- the total is the history's sum
-sums-total : (ps : List Posting) (bs : List Bill) → All (Agrees ps) bs → totalOf bs ≡ sum (chargeIn ps) (map termsIn bs)
+sums-total : (ps : List Posting) (bs : List Bill) → All (Agrees ps) bs → totalOf bs ≡ sum (countedCharge ps) (map billTerms bs)
 sums-total ps [] a = refl
 sums-total ps (b ∷ bs) a = rw (a .0, sums-total ps bs (a .1))
 
 pub total-history : (l : Book) (h : History) → Follows l h → total l ≡ historySum h
 unfolding historySum
-total-history l h f = sums-total (h .postings) (l .bills) (f .sums) ∙ ap (λ (v : View). sum (chargeIn (h .postings)) (v .bills)) (sym (f .now))
+total-history l h f = sums-total (h .postings) (l .bills) (f .sums) ∙ ap (λ (v : View). sum (countedCharge (h .postings)) (v .bills)) (sym (f .now))
 
 -- ---- the total is the sum of the changes
 outcome-change : (l : Book) (c : Call) (v : Check) → pos (total l) +ℤ outcome l c v .change ≡ pos (total (outcome l c v .ledger))

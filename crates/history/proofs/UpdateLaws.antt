@@ -10,7 +10,7 @@ use Rattle.ledger.specs.declared.Identity.{Identity}
 use Rattle.ledger.specs.declared.Terms.{Terms}
 use Rattle.rules.specs.Lists.{has, update}
 use Rattle.ledger.specs.Bills.{isOf}
-use Rattle.ledger.specs.Books.{ofId, termsIn}
+use Rattle.ledger.specs.Books.{ofId, billTerms}
 use Rattle.ledger.specs.Sound.{holdsId, distinct}
 use Rattle.verdict.specs.declared.Sought.the-variants as sought
 use Rattle.group.specs.Groups.{soughtIn}
@@ -24,11 +24,11 @@ identity-same id t e =
     let q = eqb-true _ _ (and-right a k e) in
     λ i. record { account = p i; key = q i }
 
-pub has-map : (id : Identity) (bs : List Bill) → has (isOf id) (map termsIn bs) ≡ holdsId id bs
+pub has-map : (id : Identity) (bs : List Bill) → has (isOf id) (map billTerms bs) ≡ holdsId id bs
 has-map id [] = refl
 has-map id (b ∷ bs) = ap (λ (x : Bool). isOf id (b .terms) || x) (has-map id bs)
 
-pub map-append : (bs : List Bill) (b : Bill) → map termsIn (bs ++ (b ∷ [])) ≡ map termsIn bs ++ (b .terms ∷ [])
+pub map-append : (bs : List Bill) (b : Bill) → map billTerms (bs ++ (b ∷ [])) ≡ map billTerms bs ++ (b .terms ∷ [])
 map-append [] b = refl
 map-append (x ∷ bs) b = ap (λ (ts : List Terms). x .terms ∷ ts) (map-append bs b)
 
@@ -38,7 +38,7 @@ all-append Q (x ∷ bs) b a q = (a .0, all-append Q bs b (a .1) q)
 
 module _ (id : Identity) where
   pub map-update : (f : Bill → Bill) (f′ : Terms → Terms) → ((b : Bill) → (f b) .terms ≡ f′ (b .terms)) → (bs : List Bill)
-      → map termsIn (update (ofId id) f bs) ≡ update (isOf id) f′ (map termsIn bs)
+      → map billTerms (update (ofId id) f bs) ≡ update (isOf id) f′ (map billTerms bs)
   map-update f f′ k [] = refl
   map-update f f′ k (b ∷ bs) =
       cases (isOf id (b .terms))
@@ -54,7 +54,7 @@ module _ (id : Identity) where
 
   -- what holds of each bill, where the bill that is sought changes and the others stay
   pub all-update : (Q Q′ : Bill → Type 0) (f : Bill → Bill) (bs : List Bill) → distinct bs ≡ true
-      → ((b : Bill) → ofId id b ≡ true → soughtIn id (map termsIn bs) ≡ sought.Bill (b .terms) → Q b → Q′ (f b))
+      → ((b : Bill) → ofId id b ≡ true → soughtIn id (map billTerms bs) ≡ sought.Bill (b .terms) → Q b → Q′ (f b))
       → ((b : Bill) → ofId id b ≡ false → Q b → Q′ b)
       → All Q bs → All Q′ (update (ofId id) f bs)
   unfolding distinct

@@ -7,8 +7,7 @@ use lib.IntN.{ℤ, pos, negsuc}
 use lib.ListN.{replicate}
 use Rattle.fields.specs.Text.{text}
 use Rattle.fields.specs.Digits.{digits}
-use Rattle.units.specs.declared.Date.{Date}
-use Rattle.units.specs.Calendar.{isDate}
+use Rattle.units.specs.Calendar.{isDate, dateOf}
 use Rattle.ledger.specs.declared.Identity.{Identity}
 use Rattle.ledger.specs.declared.Bill.{Bill}
 use Rattle.ledger.specs.declared.Product.{Product}
@@ -40,16 +39,13 @@ pub record Sent : Type 0 where
   pub applied : ℕ
   pub owed : ℕ
 
-abbrev day : ℕ → Date
-day d = record { 0 = d }
-
 abbrev alikeOf : Sent → Alike
 alikeOf x =
     record {
       code = record { first = 90; second = 90; tens = 52; ones = 48 };
       account = 123456780019;
       tracking = x .tracking;
-      today = day 20171114;
+      today = dateOf 20171114;
     }
 
 abbrev noticeOf : Sent → List ℕ
@@ -106,10 +102,10 @@ asking id p =
       code = record { first = 90; second = 90; third = 67; tens = 52; ones = 48 };
       identity = id;
       product = productByte p;
-      billing = day 20171113;
-      from = day 20171013;
+      billing = dateOf 20171113;
+      from = dateOf 20171013;
       consumption = record { 0 = 85 };
-      scheduled = day 20171116;
+      scheduled = dateOf 20171116;
     }
 
 -- the table's bill, and other bills
@@ -127,14 +123,14 @@ send xs = file (sent xs) 64200
 
 -- a fresh ledger, and one that holds n bills
 abbrev start : Book
-start = fresh (record { today = day 20171113; tracking = 1; confirmation = 1 })
+start = fresh (record { today = dateOf 20171113; tracking = 1; confirmation = 1 })
 
 abbrev held : ℕ → List Bill
 held zero = []
 held (suc n) = newBill (other n) 1 ∷ held n
 
 abbrev holding : ℕ → Book
-holding n = record { today = day 20171113; tracking = 500; confirmation = 500; bills = held n }
+holding n = record { today = dateOf 20171113; tracking = 500; confirmation = 500; bills = held n }
 
 -- ---- the table
 -- a date, or calls on a ledger
@@ -188,10 +184,10 @@ table =
     record { given = date 20000229; result = isOne true }
     ∷ record { given = date 19000229; result = isOne false }
     -- (b) RSP on its Scheduled Date is accepted; (d) 85 = 60 + 25 passes
-    ∷ row start (ask product.BillReady ∷ close (day 20171116) ∷ send (rsp 4250 ∷ []) ∷ [])
+    ∷ row start (ask product.BillReady ∷ close (dateOf 20171116) ∷ send (rsp 4250 ∷ []) ∷ [])
     (Clear ∷ Clear ∷ Clear ∷ []) ([] ∷ [] ∷ (ready 4250 ∷ []) ∷ []) (pos 0 ∷ pos 0 ∷ pos 4250 ∷ []) (1 ∷ []) (1 ∷ [])
-    -- (c) a day later BR09
-    ∷ row start (ask product.BillReady ∷ close (day 20171117) ∷ send (rsp 4250 ∷ []) ∷ [])
+    -- (c) a dateOf later BR09
+    ∷ row start (ask product.BillReady ∷ close (dateOf 20171117) ∷ send (rsp 4250 ∷ []) ∷ [])
     (Clear ∷ Clear ∷ Clear ∷ []) ([] ∷ [] ∷ (Rejected 9 ∷ []) ∷ []) (pos 0 ∷ pos 0 ∷ pos 0 ∷ []) (1 ∷ []) (1 ∷ [])
     -- (e) 60 + 24 is BR25
     ∷ row start (ask product.BillReady ∷ send (short ∷ []) ∷ [])
@@ -209,7 +205,7 @@ table =
     ∷ row start (ask product.BillReady ∷ send (rsp 4250 ∷ rsp 4000 ∷ []) ∷ [])
     (Clear ∷ Clear ∷ []) ([] ∷ (Rejected 14 ∷ Rejected 14 ∷ []) ∷ []) (pos 0 ∷ pos 0 ∷ []) (1 ∷ []) (1 ∷ [])
     -- (k) an accepted SUP: 001 becomes 002
-    ∷ row start (ask product.BillReady ∷ close (day 20171117) ∷ send (sup ∷ []) ∷ [])
+    ∷ row start (ask product.BillReady ∷ close (dateOf 20171117) ∷ send (sup ∷ []) ∷ [])
     (Clear ∷ Clear ∷ Clear ∷ []) ([] ∷ [] ∷ (ready 4250 ∷ []) ∷ []) (pos 0 ∷ pos 0 ∷ pos 4250 ∷ []) (1 ∷ 2 ∷ []) (2 ∷ [])
     -- (l) the 128th bill is taken, the 129th is 3
     ∷ row (holding 127) (request (other 5000) 642 ∷ request (other 5001) 642 ∷ [])

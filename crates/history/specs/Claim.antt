@@ -52,8 +52,8 @@ All P [] = Unit {0}
 All P (x ∷ xs) = P x × All P xs
 
 -- no number stands twice
-abbrev pub Once : List ℕ → Type 0
-Once ns = (i j : ℕ) → i < length ns → j < length ns → getD ns i 0 ≡ getD ns j 0 → i ≡ j
+abbrev pub NoneTwice : List ℕ → Type 0
+NoneTwice ns = (i j : ℕ) → i < length ns → j < length ns → getD ns i 0 ≡ getD ns j 0 → i ≡ j
 
 -- ---- the claim about the calls cs, on the ledger l with the history h
 pub record Claims (l : Book) (h : History) (cs : List Call) : Type 0 where
@@ -72,7 +72,7 @@ pub record Claims (l : Book) (h : History) (cs : List Call) : Type 0 where
   pub acfs : map (λ (o : Outcome). acfsIn (o .written)) (outcomes l cs) ≡ map acfsOf (hDecisions h cs)
   pub lawful : All (All Lawful) (hDecisions h cs)
   -- no Tracking ID twice
-  pub once : Once (assigned (outcomes l cs))
+  pub once : NoneTwice (assigned (outcomes l cs))
   -- the ledger stays sound
   pub kept : sound (after l cs) ≡ true
 

@@ -8,7 +8,7 @@ use Rattle.ledger.specs.declared.Identity.{Identity}
 use Rattle.ledger.specs.declared.Latest.{Latest}
 use Rattle.ledger.specs.declared.Terms.{Terms}
 use Rattle.rules.specs.Lists.{has, sum, update}
-use Rattle.ledger.specs.Bills.{isOf, moved}
+use Rattle.ledger.specs.Bills.{isOf, moved, productOf}
 use Rattle.ledger.specs.Books.{View}
 use Rattle.file.specs.File.{Group, fileGroups, detailOf, asksId}
 use Rattle.rules.specs.declared.Check.{Check}
@@ -21,7 +21,7 @@ use Rattle.group.specs.Groups.{identityOf, verdict}
 use Rattle.causes.specs.declared.Start.{Start}
 use Rattle.causes.specs.declared.Request.{Request}
 use Rattle.causes.specs.Causes.{Call, request, file, cancel, close, causes}
-use Rattle.causes.specs.Requests.{codeOf, productOf}
+use Rattle.causes.specs.Requests.{codeOf}
 
 -- "postings, each a bill and a charge"
 pub record Posting : Type 0 where
@@ -43,11 +43,11 @@ abbrev pub lastCharge : Terms → List Posting → ℕ
 lastCharge t [] = 0
 lastCharge t (p ∷ ps) = cond (isOf (p .identity) t) (p .charge) (lastCharge t ps)
 
-abbrev pub chargeIn : List Posting → Terms → ℕ
-chargeIn ps t = cond (t .cancelled) 0 (lastCharge t ps)
+abbrev pub countedCharge : List Posting → Terms → ℕ
+countedCharge ps t = cond (t .cancelled) 0 (lastCharge t ps)
 
 unfoldable pub historySum : History → ℕ
-historySum h = sum (chargeIn (h .postings)) (h .now .bills)
+historySum h = sum (countedCharge (h .postings)) (h .now .bills)
 
 -- ---- "a request adds or renews its bill, a cancel marks it, a close sets today, .. numbers and sequences move as above"
 -- what a request asks, under its Tracking ID: said here again, so that the machine's way of renewing a bill is held to it
@@ -104,18 +104,18 @@ pub record Decided : Type 0 where
   pub verdict : Verdict
 
 -- before were decided, and gs are to come
-abbrev pub verdictOn : List Group → History → Group → List Group → Verdict
-verdictOn before h g gs = verdict (h .now) (before ++ gs) g
+abbrev pub verdictNow : List Group → History → Group → List Group → Verdict
+verdictNow before h g gs = verdict (h .now) (before ++ gs) g
 
 unfoldable pub decidedAll : List Group → History → List Group → History
 decidedAll before h [] = h
-decidedAll before h (g ∷ gs) = decidedAll (before ++ (g ∷ [])) (decided h g (verdictOn before h g gs)) gs
+decidedAll before h (g ∷ gs) = decidedAll (before ++ (g ∷ [])) (decided h g (verdictNow before h g gs)) gs
 
 unfoldable pub decisions : List Group → History → List Group → List Decided
 decisions before h [] = []
 decisions before h (g ∷ gs) =
-    record { now = h .now; group = g; verdict = verdictOn before h g gs }
-    ∷ decisions (before ++ (g ∷ [])) (decided h g (verdictOn before h g gs)) gs
+    record { now = h .now; group = g; verdict = verdictNow before h g gs }
+    ∷ decisions (before ++ (g ∷ [])) (decided h g (verdictNow before h g gs)) gs
 
 -- ---- the calls
 unfoldable pub hNext : History → Call → History

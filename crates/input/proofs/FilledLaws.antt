@@ -14,21 +14,21 @@ use lib.ListN.{length}
 use Rattle.libc.specs.Io.{Moved}
 use Rattle.input.specs.declared.Filled as filled
 use Rattle.input.specs.declared.Filled.the-variants.{Bytes, Ended, Failed}
-use Rattle.input.specs.Filled.{filledBy, RoomFor, Holds, notEnded}
+use Rattle.input.specs.Filled.{filledBy, RoomFor, HoldsRead, notEnded}
 
 pub ended : (f : filled.Filled) → notEnded f ≡ false → f ≡ Ended
 ended (Bytes n) z = absurd (true≢false z)
 ended Ended z = refl
 ended Failed z = absurd (true≢false z)
 
-by-holds : (have room : ℕ) (got : ℤ) → have ≤ room → Moved (room - have) got → Holds have room (filledBy got have)
+by-holds : (have room : ℕ) (got : ℤ) → have ≤ room → Moved (room - have) got → HoldsRead have room (filledBy got have)
 by-holds have room (negsuc k) h m = tt
 by-holds have room (pos zero) h m = tt
 by-holds have room (pos (suc k)) h m = (omega arith, omega arith)
 
 -- a read holds more than before, and no more than the buffer has
 pub holds : (have room m size : ℕ) (got : ℤ) (r : filled.Filled) → have ≤ room → m ≡ room - have → size ≡ room → Moved m got → r ≡ filledBy got have
-    → Holds have size r
+    → HoldsRead have size r
 holds have room m size got r h e n q c = rw (c, n) (by-holds have room got h (rw e at q))
 
 -- ---- what a read answered, as the code tells it apart

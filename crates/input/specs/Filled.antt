@@ -22,15 +22,15 @@ RoomFor have (negsuc k) = Unit {0}
 RoomFor have (pos k) = have + k < 2 ^ 64
 
 -- a buffer of so many bytes, of which some were held before, holds more than before, and no more than it has
-abbrev pub Holds : ℕ → ℕ → filled.Filled → Type 0
-Holds have room (Bytes n) = (have < n) × (n ≤ room)
-Holds have room Ended = Unit {0}
-Holds have room Failed = Unit {0}
+abbrev pub HoldsRead : ℕ → ℕ → filled.Filled → Type 0
+HoldsRead have room (Bytes n) = (have < n) × (n ≤ room)
+HoldsRead have room Ended = Unit {0}
+HoldsRead have room Failed = Unit {0}
 
 -- the bytes held before stay, whatever the read came to; no contract can say which bytes were read behind them, nor what the read answered
 pub record Fills (have : ℕ) (before after : List ℕ) (r : filled.Filled) : Type 0 where
   pub stay : take have after ≡ take have before
-  pub holds : Holds have (length after) r
+  pub holds : HoldsRead have (length after) r
   -- what the read answered
   pub got : ℤ
   pub moved : Moved (length before - have) got

@@ -24,16 +24,16 @@ use Rattle.journal.specs.declared.Body.the-variants as body
 use Rattle.journal.specs.declared.Head.{Head}
 use Rattle.journal.specs.declared.Head.the-variants.{Cut, Bad, Whole}
 use Rattle.journal.specs.Entries.{digitsIn, requestBody, cancelBody, closeBody, bodyOf, freshTaken, headOf}
-use Rattle.journal.specs.Journal.{Entry, Parsed, onHead, parseUpTo, parse, callOf, callsOf, made, makes, noBook, ledgerOf}
+use Rattle.journal.specs.Journal.{Entry, Parsed, onHead, parseUpTo, parse, callOf, callsOf, afterEntry, afterEntries, firstBook, journalLedger}
 use Rattle.journal.proofs.HeadLaws.{tagIn, lengthIn, WholeAt, whole-is}
 use Rattle.journal.proofs.MadeLaws.{Taken}
 use Rattle.journal.proofs.JournalLaws.{parse-cut, parse-bad, parse-whole}
 
 -- ---- lists of entries and of calls, one behind the other
-pub makes-append : (k : Book) (es fs : List Entry) → makes k (es ++ fs) ≡ makes (makes k es) fs
-unfolding makes
+pub makes-append : (k : Book) (es fs : List Entry) → afterEntries k (es ++ fs) ≡ afterEntries (afterEntries k es) fs
+unfolding afterEntries
 makes-append k [] fs = refl
-makes-append k (e ∷ es) fs = makes-append (made (e .body) (e .bytes) k) es fs
+makes-append k (e ∷ es) fs = makes-append (afterEntry (e .body) (e .bytes) k) es fs
 
 pub after-append : (k : Book) (cs ds : List Call) → after k (cs ++ ds) ≡ after (after k cs) ds
 unfolding after
@@ -107,7 +107,7 @@ unfolding parse
 parse-none seen s l = none-fuel (length s) seen s l
 
 -- ---- they make their calls
-made-after : (b : Body) (bytes : List ℕ) (k : Book) → NoFresh b → made b bytes k ≡ after k (callOf b bytes)
+made-after : (b : Body) (bytes : List ℕ) (k : Book) → NoFresh b → afterEntry b bytes k ≡ after k (callOf b bytes)
 unfolding after
 made-after b bytes k (request r) = refl
 made-after b bytes k file = refl
@@ -115,11 +115,11 @@ made-after b bytes k (cancel id) = refl
 made-after b bytes k (close d) = refl
 made-after b bytes k unread = refl
 
-pub makes-after : (k : Book) (es : List Entry) → NoneFresh es → makes k es ≡ after k (callsOf es)
-unfolding makes after
+pub makes-after : (k : Book) (es : List Entry) → NoneFresh es → afterEntries k es ≡ after k (callsOf es)
+unfolding afterEntries after
 makes-after k [] h = refl
 makes-after k (e ∷ es) h =
-    ap (λ (j : Book). makes j es) (made-after (e .body) (e .bytes) k (h .0))
+    ap (λ (j : Book). afterEntries j es) (made-after (e .body) (e .bytes) k (h .0))
     ∙ makes-after (after k (callOf (e .body) (e .bytes))) es (h .1)
     ∙ sym (after-append k (callOf (e .body) (e .bytes)) (callsOf es))
 
@@ -128,7 +128,7 @@ pub data Begins (s : List ℕ) : Type 0 where
   nothing : parse 0 s .entries ≡ [] → Begins s
   begins : (start : Start) (bytes : List ℕ) (es : List Entry) → first (freshCauses start) ≡ Clear
       → parse 0 s .entries ≡ record { body = body.Fresh start; bytes = bytes } ∷ es
-      → ledgerOf s ≡ after (fresh start) (callsOf es)
+      → journalLedger s ≡ after (fresh start) (callsOf es)
       → Begins s
 
 -- a fresh that is taken
@@ -167,9 +167,9 @@ whole-taken seen s b n e =
 
 ledger-by : (s : List ℕ) (start : Start) (bytes : List ℕ) (es : List Entry)
     → parse 0 s .entries ≡ record { body = body.Fresh start; bytes = bytes } ∷ es → NoneFresh es
-    → ledgerOf s ≡ after (fresh start) (callsOf es)
-unfolding ledgerOf makes
-ledger-by s start bytes es e h = ap (makes noBook) e ∙ makes-after (fresh start) es h
+    → journalLedger s ≡ after (fresh start) (callsOf es)
+unfolding journalLedger afterEntries
+ledger-by s start bytes es e h = ap (afterEntries firstBook) e ∙ makes-after (fresh start) es h
 
 pub journal-begins : (s : List ℕ) → Begins s
 journal-begins s = go (headOf 0 s) refl

@@ -17,8 +17,8 @@ use Rattle.calls.proofs.DayLaws.{fresh-sound}
 use Rattle.calls.proofs.RunLaws.{runs, step-in}
 use Rattle.journal.specs.declared.Body.{Body}
 use Rattle.journal.specs.declared.Body.the-variants as body
-use Rattle.journal.specs.Journal.{callOf, made}
-use Rattle.journal.specs.Made.{madeIn, writtenIn, writtenBy}
+use Rattle.journal.specs.Journal.{callOf, afterEntry}
+use Rattle.journal.specs.EntryCalls.{entryCalled, entryWritten, writtenBy}
 
 -- a fresh that is taken; other bodies make calls, which are taken or refused
 abbrev pub Taken : Body → Type 0
@@ -51,7 +51,7 @@ module _ (l : Ledger) (h : soundLedger l ≡ true) where
       go Clear = refl
       go (Stop n) = refl
 
-  pub made-book : (b : Body) (bytes : List ℕ) → Taken b → book (madeIn 64200 l b bytes .ledger) ≡ made b bytes (book l)
+  pub made-book : (b : Body) (bytes : List ℕ) → Taken b → book (entryCalled 64200 l b bytes .ledger) ≡ afterEntry b bytes (book l)
   unfolding freshCalled freshBy
   made-book (body.Fresh s) bytes t = rw t
   made-book (body.Request r) bytes t = call-book (request r 64200)
@@ -60,7 +60,7 @@ module _ (l : Ledger) (h : soundLedger l ≡ true) where
   made-book (body.Close d) bytes t = call-book (close d)
   made-book body.Unread bytes t = refl
 
-  pub made-sound : (room : ℕ) (b : Body) (bytes : List ℕ) → Taken b → soundLedger (madeIn room l b bytes .ledger) ≡ true
+  pub made-sound : (room : ℕ) (b : Body) (bytes : List ℕ) → Taken b → soundLedger (entryCalled room l b bytes .ledger) ≡ true
   unfolding freshCalled freshBy
   made-sound room (body.Fresh s) bytes t = rw t (fresh-sound s t)
   made-sound room (body.Request r) bytes t = call-sound (request r room)
@@ -69,7 +69,7 @@ module _ (l : Ledger) (h : soundLedger l ≡ true) where
   made-sound room (body.Close d) bytes t = call-sound (close d)
   made-sound room body.Unread bytes t = h
 
-  pub made-written : (b : Body) (bytes : List ℕ) → writtenIn 64200 l b bytes ≡ writtenBy (outcomes (book l) (callOf b bytes))
+  pub made-written : (b : Body) (bytes : List ℕ) → entryWritten 64200 l b bytes ≡ writtenBy (outcomes (book l) (callOf b bytes))
   unfolding outcomes
   made-written (body.Fresh s) bytes = refl
   made-written (body.Request r) bytes = call-written (request r 64200)

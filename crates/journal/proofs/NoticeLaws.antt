@@ -11,8 +11,8 @@ use Rattle.ledger.specs.Sound.{soundLedger}
 use Rattle.journal.specs.declared.Body.{Body}
 use Rattle.journal.specs.declared.Head.the-variants.{Cut, Bad, Whole}
 use Rattle.journal.specs.Entries.{headOf}
-use Rattle.journal.specs.Journal.{Parsed, parse, made}
-use Rattle.journal.specs.Made.{madeIn, writtenIn, noticesOf}
+use Rattle.journal.specs.Journal.{Parsed, parse, afterEntry}
+use Rattle.journal.specs.EntryCalls.{entryCalled, entryWritten, noticesOf}
 use Rattle.journal.proofs.JournalLaws.{parse-cut, parse-bad, parse-whole}
 use Rattle.journal.proofs.BeginLaws.{whole-taken}
 use Rattle.journal.proofs.MadeLaws.{made-book, made-sound, made-written}
@@ -35,13 +35,13 @@ module _ (l : Ledger) (h : soundLedger l ≡ true) (seen : ℕ) (s : List ℕ) w
     abbrev bytes : List ℕ
     bytes = part s 3 (n - 3)
 
-    pub notices-more : ahead ≡ writtenIn 64200 l b bytes ++ noticesOf (book (madeIn 64200 l b bytes .ledger)) (parse (seen + 1) (drop n s) .entries)
+    pub notices-more : ahead ≡ entryWritten 64200 l b bytes ++ noticesOf (book (entryCalled 64200 l b bytes .ledger)) (parse (seen + 1) (drop n s) .entries)
     unfolding noticesOf
     notices-more =
         let rest = parse (seen + 1) (drop n s) .entries in
         ap (λ (p : Parsed). noticesOf (book l) (p .entries)) (parse-whole seen s b n e)
-        ∙ ap (λ (w : List ℕ). w ++ noticesOf (made b bytes (book l)) rest) (sym (made-written l h b bytes))
-        ∙ ap (λ (k : Book). writtenIn 64200 l b bytes ++ noticesOf k rest) (sym (made-book l h b bytes (whole-taken seen s b n e)))
+        ∙ ap (λ (w : List ℕ). w ++ noticesOf (afterEntry b bytes (book l)) rest) (sym (made-written l h b bytes))
+        ∙ ap (λ (k : Book). entryWritten 64200 l b bytes ++ noticesOf k rest) (sym (made-book l h b bytes (whole-taken seen s b n e)))
 
-    pub still-sound : soundLedger (madeIn 64200 l b bytes .ledger) ≡ true
+    pub still-sound : soundLedger (entryCalled 64200 l b bytes .ledger) ≡ true
     still-sound = made-sound l h 64200 b bytes (whole-taken seen s b n e)

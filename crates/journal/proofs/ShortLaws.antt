@@ -19,7 +19,7 @@ use Rattle.calls.proofs.RunLaws.{cause-in}
 use Rattle.calls.proofs.FileCallLaws.{written-within}
 use Rattle.journal.specs.declared.Body.{Body}
 use Rattle.journal.specs.declared.Body.the-variants as body
-use Rattle.journal.specs.Made.{madeIn, writtenIn, lengthOf}
+use Rattle.journal.specs.EntryCalls.{entryCalled, entryWritten, lengthOf}
 
 -- a call writes no more than was lent to it
 call-short : (l : Ledger) (c : Call) → lengthOf (called l c .answer) ≤ roomOf c
@@ -39,7 +39,7 @@ fresh-short l s = go (first (freshCauses s))
     go Clear = omega arith
     go (Stop n) = omega arith
 
-pub made-short : (l : Ledger) (b : Body) (bytes : List ℕ) → lengthOf (madeIn 64200 l b bytes .answer) ≤ 64200
+pub made-short : (l : Ledger) (b : Body) (bytes : List ℕ) → lengthOf (entryCalled 64200 l b bytes .answer) ≤ 64200
 made-short l (body.Fresh s) bytes = fresh-short l s
 made-short l (body.Request r) bytes = call-short l (request r 64200)
 made-short l body.File bytes = call-short l (file bytes 64200)
@@ -64,7 +64,7 @@ fresh-length l s = go (first (freshCauses s))
     go Clear = refl
     go (Stop n) = refl
 
-pub made-length : (room : ℕ) (l : Ledger) (b : Body) (bytes : List ℕ) → length (writtenIn room l b bytes) ≡ lengthOf (madeIn room l b bytes .answer)
+pub made-length : (room : ℕ) (l : Ledger) (b : Body) (bytes : List ℕ) → length (entryWritten room l b bytes) ≡ lengthOf (entryCalled room l b bytes .answer)
 made-length room l (body.Fresh s) bytes = fresh-length l s
 made-length room l (body.Request r) bytes = call-length l (request r room)
 made-length room l body.File bytes = call-length l (file bytes room)

@@ -43,15 +43,15 @@ freshBody s =
     body.Unread
 
 -- "1 request (code 5, account 12, key 4, B or P, Billing 8, From 8, consumption 10, Scheduled 8)"
-abbrev pub codeIn : List ℕ → CodeField
-codeIn s = record { first = byteIn s 1; second = byteIn s 2; third = byteIn s 3; tens = byteIn s 4; ones = byteIn s 5 }
+abbrev pub codeFieldIn : List ℕ → CodeField
+codeFieldIn s = record { first = byteIn s 1; second = byteIn s 2; third = byteIn s 3; tens = byteIn s 4; ones = byteIn s 5 }
 
 unfoldable pub requestBody : List ℕ → Body
 requestBody s =
     cond (digitsIn s 6 17 && digitsIn s 18 21 && digitsIn s 23 30 && digitsIn s 31 38 && digitsIn s 39 48 && digitsIn s 49 56)
     (body.Request
     (record {
-      code = codeIn s;
+      code = codeFieldIn s;
       identity = record { account = numberIn s 6 17; key = numberIn s 18 21 };
       product = byteIn s 22;
       billing = dateIn s 23 30;
@@ -95,13 +95,13 @@ goodLength tag n =
 abbrev pub inTurn : ℕ → ℕ → Bool
 inTurn seen tag = cond (eqb seen 0) (eqb tag 0) (not (eqb tag 0))
 
--- "An empty journal or refused fresh counts as a bad entry": a fresh that is taken
-abbrev taken : Check → Bool
-taken Clear = true
-taken (Stop n) = false
+-- "An empty journal or refused fresh counts as a bad entry": a fresh that is isClear
+abbrev isClear : Check → Bool
+isClear Clear = true
+isClear (Stop n) = false
 
 abbrev pub freshTaken : Body → Bool
-freshTaken (body.Fresh s) = taken (first (freshCauses s))
+freshTaken (body.Fresh s) = isClear (first (freshCauses s))
 freshTaken (body.Request r) = false
 freshTaken body.File = false
 freshTaken (body.Cancel id) = false

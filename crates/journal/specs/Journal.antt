@@ -59,29 +59,29 @@ callsOf [] = []
 callsOf (e ∷ es) = callOf (e .body) (e .bytes) ++ callsOf es
 
 -- the ledger that an entry leaves
-abbrev pub made : Body → List ℕ → Book → Book
-made (body.Fresh s) bytes k = fresh s
-made (body.Request r) bytes k = after k (callOf (body.Request r) bytes)
-made body.File bytes k = after k (callOf body.File bytes)
-made (body.Cancel id) bytes k = after k (callOf (body.Cancel id) bytes)
-made (body.Close d) bytes k = after k (callOf (body.Close d) bytes)
-made body.Unread bytes k = k
+abbrev pub afterEntry : Body → List ℕ → Book → Book
+afterEntry (body.Fresh s) bytes k = fresh s
+afterEntry (body.Request r) bytes k = after k (callOf (body.Request r) bytes)
+afterEntry body.File bytes k = after k (callOf body.File bytes)
+afterEntry (body.Cancel id) bytes k = after k (callOf (body.Cancel id) bytes)
+afterEntry (body.Close d) bytes k = after k (callOf (body.Close d) bytes)
+afterEntry body.Unread bytes k = k
 
-unfoldable pub makes : Book → List Entry → Book
-makes k [] = k
-makes k (e ∷ es) = makes (made (e .body) (e .bytes) k) es
+unfoldable pub afterEntries : Book → List Entry → Book
+afterEntries k [] = k
+afterEntries k (e ∷ es) = afterEntries (afterEntry (e .body) (e .bytes) k) es
 
 -- "A bad entry stops it"; bytes that are left are an entry cut short; "An empty journal .. counts as a bad entry"
 unfoldable pub endsBad : Bool → ℕ → ℕ → Bool
 endsBad stopped left seen = stopped || ltb 0 left || eqb seen 0
 
 -- before the first entry there is no bill
-abbrev pub noBook : Book
-noBook = fresh (record { today = record { 0 = 19000101 }; tracking = 1; confirmation = 1 })
+abbrev pub firstBook : Book
+firstBook = fresh (record { today = record { 0 = 19000101 }; tracking = 1; confirmation = 1 })
 
 -- the ledger that a journal leaves, and whether it ends bad
-unfoldable pub ledgerOf : List ℕ → Book
-ledgerOf s = makes noBook (parse 0 s .entries)
+unfoldable pub journalLedger : List ℕ → Book
+journalLedger s = afterEntries firstBook (parse 0 s .entries)
 
 unfoldable pub isBad : List ℕ → Bool
 isBad s = endsBad (parse 0 s .stopped) (length (parse 0 s .rest)) (length (parse 0 s .entries))

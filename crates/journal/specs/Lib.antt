@@ -1,4 +1,4 @@
 -- "Lookups, journal and table": the entries of a journal, and what a journal comes to.
 pub mod Entries
 pub mod Journal
-pub mod Made
+pub mod EntryCalls

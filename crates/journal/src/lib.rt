@@ -6,7 +6,7 @@ ghost use Prim.Native.Nat.{_+_, _-_, _*_, _≤_, _<_};
 ghost use lib.ListN.{length, getD};
 ghost use Rattle.fields.specs.Put.{part, put};
 ghost use Rattle.journal.specs.Journal.{endsBad};
-ghost use Rattle.journal.specs.Entries.{codeIn, freshBody, requestBody, cancelBody, closeBody, bodyOf, goodLength, inTurn, wholeOf, headBy, headOf, frameOf};
+ghost use Rattle.journal.specs.Entries.{codeFieldIn, freshBody, requestBody, cancelBody, closeBody, bodyOf, goodLength, inTurn, wholeOf, headBy, headOf, frameOf};
 use causes::CodeField;
 use causes::Request;
 use causes::Start;
@@ -63,7 +63,7 @@ fn fresh_body(s: &[u8]) -> Body
 // The rate code's field of a request, as it stands.
 fn code_at(s: &[u8]) -> CodeField
     requires { ⌜ 5 ≤ length (now s) ⌝ }
-    ensures { λ r. ⌜ r ≡ codeIn (now (s .entry)) ⌝ }
+    ensures { λ r. ⌜ r ≡ codeFieldIn (now (s .entry)) ⌝ }
 {
     CodeField {
         first: s[0],

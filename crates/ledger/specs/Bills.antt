@@ -50,6 +50,10 @@ abbrev pub productByte : Product → ℕ
 productByte product.BillReady = 66
 productByte product.Prepay = 80
 
+-- the product that a byte holds
+abbrev pub productOf : ℕ → Product
+productOf x = cond (eqb x (productByte product.Prepay)) product.Prepay product.BillReady
+
 -- ---- its state
 -- "open while today is at or before the Scheduled Date", if it is not cancelled
 abbrev pub isOpen : Date → Terms → Bool

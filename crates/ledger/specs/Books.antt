@@ -48,11 +48,11 @@ pub record View : Type 0 where
   pub confirmation : ℕ
   pub bills : List Terms
 
-abbrev pub termsIn : Bill → Terms
-termsIn b = b .terms
+abbrev pub billTerms : Bill → Terms
+billTerms b = b .terms
 
 abbrev pub view : Book → View
-view l = record { today = l .today; tracking = l .tracking; confirmation = l .confirmation; bills = map termsIn (l .bills) }
+view l = record { today = l .today; tracking = l .tracking; confirmation = l .confirmation; bills = map billTerms (l .bills) }
 
 -- the struct that holds the book k and, past its bills, what l held
 abbrev pub stored : Ledger → Book → Ledger

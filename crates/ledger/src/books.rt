@@ -7,7 +7,7 @@ ghost use lib.IntN.{pos, _-ℤ_};
 ghost use Rattle.rules.specs.Lists.{every};
 ghost use Rattle.ledger.specs.Bills.{blankBill};
 ghost use Rattle.ledger.specs.Books.{emptyLedger, live, placeOf, billCharge, smallCharge, totalOf};
-ghost use Rattle.ledger.specs.parts.Places.{updated, within, slotOf};
+ghost use Rattle.ledger.specs.parts.Places.{updated, within, placeFor};
 use crate::Bill;
 use crate::Identity;
 use crate::Ledger;
@@ -83,7 +83,7 @@ fn within(i: usize) -> usize
 
 // A place of the array: the one that was found, else the next free one, else the last.
 pub fn slot(f: Found, count: usize) -> usize
-    ensures { λ r. ⌜ (r ≡ slotOf f count) × (r < 128) ⌝ }
+    ensures { λ r. ⌜ (r ≡ placeFor f count) × (r < 128) ⌝ }
 {
     match f {
         Found::At(p) => within(p),

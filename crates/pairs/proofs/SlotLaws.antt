@@ -9,11 +9,11 @@ use lib.Seq.{getD-set-same, getD-set-other}
 use lib.Dec.{eqb, ltb}
 use borrow.Author.Tests.{eqb-true, eqb-false, ltb-true, ltb-false, not-true}
 use Rattle.fields.proofs.BoolLaws.{and-left, and-right}
-use Rattle.pairs.specs.parts.GroupNumbers.{slotOf}
+use Rattle.pairs.specs.parts.GroupNumbers.{numberSlot}
 
 -- the slot of record k
 abbrev pub slotAt : List ℕ → ℕ → ℕ
-slotAt id k = slotOf (getD id k 0)
+slotAt id k = numberSlot (getD id k 0)
 
 -- every record before i is noted
 abbrev pub Once : List ℕ → List Bool → ℕ → Type 0
@@ -56,7 +56,7 @@ module _ (id : List ℕ) (i h : ℕ) (s : h ≡ slotAt id i) where
       go : (t : Bool) → eqb k i ≡ t → getD (set m h v) (slotAt id k) false ≡ true
       go true p =
           let q = ap (slotAt id) (eqb-true k i p) ∙ sym s in
-          let z = ap (λ (a : ℕ). getD o a false) (sym q ∙ ap slotOf (sym e)) ∙ u j (omega (arith, eqb-true k i p)) in
+          let z = ap (λ (a : ℕ). getD o a false) (sym q ∙ ap numberSlot (sym e)) ∙ u j (omega (arith, eqb-true k i p)) in
           ap (λ (a : ℕ). getD (set m h v) a false) q ∙ getD-set-same m h v false b ∙ or-right (getD m h false) (getD o h false) z
       go false p =
           let z = w j k d (omega (arith, eqb-false k i p)) e in
@@ -69,7 +69,7 @@ twice-both id m n w j k a b d e = go (ltb j k) refl
   where
     go : (t : Bool) → ltb j k ≡ t → getD m (slotAt id k) false ≡ true
     go true p = w j k (ltb-true j k p) b e
-    go false p = ap (λ (x : ℕ). getD m (slotOf x) false) (sym e) ∙ w k j (omega (arith, ltb-false j k p, d)) a (sym e)
+    go false p = ap (λ (x : ℕ). getD m (numberSlot x) false) (sym e) ∙ w k j (omega (arith, ltb-false j k p, d)) a (sym e)
 
 -- the test of the walk, on the numbers of the records
 abbrev pub meets : List ℕ → ℕ → ℕ → Bool

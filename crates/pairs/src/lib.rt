@@ -5,7 +5,7 @@ ghost use Prim.Native.Nat.{ℕ, _+_, _*_, _≤_, _<_};
 ghost use lib.ListN.{length, getD};
 ghost use Rattle.records.specs.Limits.{recordSize, fileRecords};
 ghost use Rattle.file.specs.parts.Walk.{groupAt, markAt};
-ghost use Rattle.pairs.specs.parts.GroupNumbers.{codeNumber, namedBy, idOf, idAt, slotOf};
+ghost use Rattle.pairs.specs.parts.GroupNumbers.{codeNumber, namedBy, idOf, idAt, numberSlot};
 use file::Form;
 use records::FILE_RECORDS;
 use records::RECORD_SIZE;
@@ -73,7 +73,7 @@ fn ids(s: &[u8], n: usize) -> [u64; FILE_RECORDS]
 
 // The slot of a number.
 fn slot(id: u64) -> usize
-    ensures { λ r. ⌜ (r ≡ slotOf id) × (r < 509) ⌝ }
+    ensures { λ r. ⌜ (r ≡ numberSlot id) × (r < 509) ⌝ }
 {
     (id % 509) as usize
 }
@@ -81,7 +81,7 @@ fn slot(id: u64) -> usize
 // The slots that the numbers of two records share: two equal numbers always do.
 fn shared_slots<'a>(id: &'a [u64; FILE_RECORDS], n: usize) -> [bool; 509]
     requires { ⌜ (n ≤ fileRecords) × (length (now id) ≡ fileRecords) ⌝ }
-    ensures { λ r. ⌜ (length r ≡ 509) × ((j k : ℕ) → j < n → k < n → (j ≡ k → ⊥) → getD (now (id .entry)) j 0 ≡ getD (now (id .entry)) k 0 → getD r (slotOf (getD (now (id .entry)) k 0)) false ≡ true) ⌝ }
+    ensures { λ r. ⌜ (length r ≡ 509) × ((j k : ℕ) → j < n → k < n → (j ≡ k → ⊥) → getD (now (id .entry)) j 0 ≡ getD (now (id .entry)) k 0 → getD r (numberSlot (getD (now (id .entry)) k 0)) false ≡ true) ⌝ }
 {
     let mut once = [false; 509];
     let mut twice = [false; 509];

@@ -18,7 +18,7 @@ use Rattle.ledger.specs.Bills.{blankBill}
 use Rattle.ledger.specs.Books.{ofId}
 use Rattle.ledger.specs.Sound.{holdsId, distinct}
 use Rattle.rules.proofs.ListLaws.{every-append}
-use Rattle.places.specs.parts.Slots.{slots, slotOf}
+use Rattle.places.specs.parts.Slots.{slots, identitySlot}
 
 -- ---- lists
 module _ {A : Type 0} (p : A → Bool) where
@@ -102,7 +102,7 @@ module _ (bs : List Bill) (i : ℕ) (l : i < length bs) where
 -- ---- the slots of the identities met
 -- the slot of the bill at a place
 abbrev pub slotAt : List Bill → ℕ → ℕ
-slotAt bs k = slotOf (getD bs k blankBill .terms .identity)
+slotAt bs k = identitySlot (getD bs k blankBill .terms .identity)
 
 -- every identity before place i is noted in its slot
 abbrev pub Noted : List Bill → List Bool → ℕ → Type 0
@@ -120,15 +120,15 @@ noted-more bs m i s e b w k l = cases (eqb (slotAt bs k) s) here there
         getD-set-other m s (slotAt bs k) true false g
         ∙ cases (eqb k i) (λ h. absurd (g (ap (slotAt bs) (eqb-true k i h) ∙ sym e))) (λ h. w k (omega (arith, eqb-false k i h)))
 
-same-slot : (id : Identity) (b : Bill) → ofId id b ≡ true → slotOf (b .terms .identity) ≡ slotOf id
-unfolding slotOf
+same-slot : (id : Identity) (b : Bill) → ofId id b ≡ true → identitySlot (b .terms .identity) ≡ identitySlot id
+unfolding identitySlot
 same-slot id b e =
     let p = eqb (b .terms .identity .account) (id .account) in
     let q = eqb (b .terms .identity .key) (id .key) in
     ap₂ (λ (a k : ℕ). (a % slots * 329 + k % slots) % slots) (eqb-true _ _ (and-left p q e)) (eqb-true _ _ (and-right p q e))
 
 -- where the slot of an identity was not met, no place before has it
-unmet : (bs : List Bill) (m : List Bool) (i : ℕ) (id : Identity) → Noted bs m i → getD m (slotOf id) false ≡ false → holdsId id (take i bs) ≡ false
+unmet : (bs : List Bill) (m : List Bool) (i : ℕ) (id : Identity) → Noted bs m i → getD m (identitySlot id) false ≡ false → holdsId id (take i bs) ≡ false
 unmet bs m i id w e =
     has-none (ofId id) bs i blankBill
     (λ k l.
@@ -136,7 +136,7 @@ unmet bs m i id w e =
     (λ f. absurd (true≢false (sym (w k l) ∙ ap (λ (o : ℕ). getD m o false) (same-slot id (getD bs k blankBill) f) ∙ e))) (λ f. f))
 
 -- nor where it was met and the walk found none
-pub none-before : (bs : List Bill) (m : List Bool) (i s : ℕ) (id : Identity) → s ≡ slotOf id → Noted bs m i
+pub none-before : (bs : List Bill) (m : List Bool) (i s : ℕ) (id : Identity) → s ≡ identitySlot id → Noted bs m i
     → (getD m s false && holdsId id (take i bs)) ≡ false → holdsId id (take i bs) ≡ false
 none-before bs m i s id e w h =
     cases (getD m s false) (λ f. rw f at h) (λ f. unmet bs m i id w (ap (λ (o : ℕ). getD m o false) (sym e) ∙ f))

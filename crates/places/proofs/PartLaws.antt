@@ -22,7 +22,8 @@ use Rattle.ledger.specs.Bills.{blankBill}
 use Rattle.ledger.specs.Books.{ofId}
 use Rattle.ledger.specs.parts.Places.{billAt, headerOf, replaced, withHeader}
 use Rattle.ledger.proofs.Bill.{the-row}
-use Rattle.words.specs.Layout.{billWords, billsWords, headWords, ledgerWords, holdsCode, holdsBill, holdsBills, holdsLedger, date, codeIn, termsIn, billIn, billsIn, ledgerIn, ledgerOf, byteCode}
+use Rattle.words.specs.Layout.{billWords, billsWords, headWords, ledgerWords, holdsCode, holdsBill, holdsBills, holdsLedger, codeIn, termsIn, billIn, billsIn, ledgerIn, ledgerOf, byteCode}
+use Rattle.units.specs.Calendar.{dateOf}
 use Rattle.words.proofs.WordLaws.{length-bill, words-long, words-bills, of-words, words-ledger, holds-words, ledger-words}
 use Rattle.words.proofs.PlaceLaws.{place-at, next-place}
 use Rattle.words.proofs.ToldLaws.{four-bytes}
@@ -105,7 +106,7 @@ module _ (ws : List ℕ) (h : holdsLedger ws ≡ true) where
   bytes-of = ap (λ (l : Ledger). every byteCode (l .bills)) (of-words ws h) ∙ all-bytes 128 (drop 4 ws) (words-bills ws h)
 
   -- the header
-  pub header-of : headerOf (ledgerOf ws) ≡ record { today = date (getD ws 0 0); tracking = getD ws 1 0; confirmation = getD ws 2 0; count = getD ws 3 0 }
+  pub header-of : headerOf (ledgerOf ws) ≡ record { today = dateOf (getD ws 0 0); tracking = getD ws 1 0; confirmation = getD ws 2 0; count = getD ws 3 0 }
   unfolding ledgerIn
   header-of = ap headerOf (of-words ws h)
 

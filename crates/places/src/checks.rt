@@ -9,7 +9,7 @@ ghost use Rattle.rules.specs.Lists.{every};
 ghost use Rattle.ledger.specs.parts.Places.{billAt};
 ghost use Rattle.ledger.specs.Sound.{isNext, soundBill, holdsId, distinct, soundLedger};
 ghost use Rattle.words.specs.Layout.{ledgerPlaces, holdsLedger, ledgerOf};
-ghost use Rattle.places.specs.parts.Slots.{slots, slotOf};
+ghost use Rattle.places.specs.parts.Slots.{slots, identitySlot};
 use crate::place;
 use ledger::Identity;
 use ledger::LedgerHeader;
@@ -63,7 +63,7 @@ fn identity_at(ws: &[u64], p: usize) -> Identity
 
 // The slot of an identity.
 fn slot(id: Identity) -> usize
-    ensures { λ r. ⌜ (r ≡ slotOf id) × (r < slots) ⌝ }
+    ensures { λ r. ⌜ (r ≡ identitySlot id) × (r < slots) ⌝ }
 {
     ((id.account % SLOTS * ACCOUNT_STEP + id.key % SLOTS) % SLOTS) as usize
 }

@@ -15,14 +15,14 @@ use Rattle.report.specs.Report.{postedOf}
 use Rattle.report.proofs.ReportLaws.{claimed}
 use Rattle.streams.specs.declared.pieces.End.{End}
 use Rattle.streams.specs.declared.output.Output.{Output}
-use Rattle.replay.specs.declared.Tells.the-variants.{Nothing}
+use Rattle.replay.specs.declared.Wanted.the-variants.{Nothing}
 use Rattle.replay.specs.Reading.{Reads}
-use Rattle.posted.specs.Posting.{toPrint, tableBy, Tables, Posts}
+use Rattle.posted.specs.Posting.{toPrint, tableBy, TableWritten, Posts}
 
 -- ---- what is written
 module _ (e : End) (ws before : List ℕ) where
   by-table : (t after : List ℕ) (n : ℕ) (o : Output) → t ≡ tableBy e ws → n ≡ length t → after ≡ put before 0 t → o ≡ toPrint n
-      → Tables e ws before after o
+      → TableWritten e ws before after o
   by-table t after n o p s q w =
       record {
         descriptor = ap (λ (k : Output). k .descriptor) w;
@@ -31,13 +31,13 @@ module _ (e : End) (ws before : List ℕ) where
         within = omega (arith, ap (λ (k : Output). k .length) w, s, ap length q, put-longer before t);
       }
 
-  pub tables-none : (o : Output) → e .failed ≡ true → o ≡ toPrint 0 → Tables e ws before before o
+  pub tables-none : (o : Output) → e .failed ≡ true → o ≡ toPrint 0 → TableWritten e ws before before o
   tables-none o f w =
       by-table [] before 0 o (sym (ap (λ (b : Bool). cond b [] (tableOf (book (ledgerOf ws)) (endsBad (e .stopped) (e .left) (e .seen)))) f)) refl (put-nil before 0) w
 
   pub tables : (bad : Bool) (after : List ℕ) (n : ℕ) (o : Output) → e .failed ≡ false → bad ≡ endsBad (e .stopped) (e .left) (e .seen)
       → n ≡ length (tableOf (book (ledgerOf ws)) bad) → after ≡ put before 0 (tableOf (book (ledgerOf ws)) bad) → o ≡ toPrint n
-      → Tables e ws before after o
+      → TableWritten e ws before after o
   tables bad after n o f b s q w =
       let t : Bool → List ℕ = λ k. tableOf (book (ledgerOf ws)) k in
       by-table (t bad) after n o (ap t b ∙ sym (ap (λ (k : Bool). cond k [] (t (endsBad (e .stopped) (e .left) (e .seen)))) f)) s q w
@@ -48,7 +48,7 @@ posted-is : (ws buf : List ℕ) (e : End) (r : Reads Nothing ws buf e)
 unfolding postedOf
 posted-is ws buf e r = ap₂ tableOf (r .books) (r .bad)
 
-module _ (ws buf out₀ out : List ℕ) (e : End) (o : Output) (x : e .failed ≡ false → Reads Nothing ws buf e) (w : Tables e ws out₀ out o) where
+module _ (ws buf out₀ out : List ℕ) (e : End) (o : Output) (x : e .failed ≡ false → Reads Nothing ws buf e) (w : TableWritten e ws out₀ out o) where
   by-bytes : (f : Bool) (s : List ℕ) → tableBy e ws ≡ cond f [] (postedOf s) → Posts out o
   by-bytes f s t =
       record {

@@ -23,7 +23,7 @@ abbrev pub tableBy : End → List ℕ → List ℕ
 tableBy e ws = cond (e .failed) [] (tableOf (book (ledgerOf ws)) (endsBad (e .stopped) (e .left) (e .seen)))
 
 -- it goes to standard output
-pub record Tables (e : End) (ws before after : List ℕ) (o : Output) : Type 0 where
+pub record TableWritten (e : End) (ws before after : List ℕ) (o : Output) : Type 0 where
   pub descriptor : o .descriptor ≡ pos 1
   pub bytes : after ≡ put before 0 (tableBy e ws)
   pub size : o .length ≡ length (tableBy e ws)

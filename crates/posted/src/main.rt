@@ -5,10 +5,10 @@ ghost use lib.ListN.{length};
 ghost use Rattle.ledger.specs.Sound.{soundLedger};
 ghost use Rattle.words.specs.Layout.{ledgerSize, ledgerOf};
 ghost use Rattle.table.specs.Table.{tableRoom};
-ghost use Rattle.posted.specs.Posting.{toPrint, Tables, Posts};
+ghost use Rattle.posted.specs.Posting.{toPrint, TableWritten, Posts};
 use entries::run;
 use libc::STDOUT_FILENO;
-use replay::Tells;
+use replay::Wanted;
 use streams::output;
 use streams::output::Output;
 use streams::pieces::End;
@@ -26,7 +26,7 @@ fn printed(length: usize) -> Output
 // What is written at the end: to standard output, the table of the ledger in words, in `out`; nothing where a read failed.
 fn table_of(ws: &[u64], out: &mut [u8], e: End) -> Output
     requires { ⌜ (e .failed ≡ false → soundLedger (ledgerOf (now ws)) ≡ true) × (length (now out) ≡ tableRoom) ⌝ }
-    ensures { λ o. ⌜ Tables e (now (ws .entry)) (now (out .entry)) (now (out .exit)) o ⌝ }
+    ensures { λ o. ⌜ TableWritten e (now (ws .entry)) (now (out .entry)) (now (out .exit)) o ⌝ }
 {
     if e.failed {
         return printed(0);
@@ -42,7 +42,7 @@ fn post_input(ws: &mut [u64], buf: &mut [u8], out: &mut [u8]) -> Output
     ensures { λ o. ⌜ Posts (now (out .exit)) o ⌝ }
 {
     run::start(ws);
-    let e = replay::read_all(ws, buf, out, Tells::Nothing);
+    let e = replay::read_all(ws, buf, out, Wanted::Nothing);
     table_of(ws, out, e)
 }
 

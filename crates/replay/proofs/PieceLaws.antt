@@ -12,13 +12,13 @@ use Rattle.entries.specs.declared.run.Ran.{Ran}
 use Rattle.entries.specs.parts.Running.{ranTo, RanIn}
 use Rattle.input.specs.declared.Filled as filled
 use Rattle.input.specs.declared.Filled.the-variants as filled-as
-use Rattle.input.specs.Filled.{Holds, Fills}
-use Rattle.replay.specs.declared.Tells.{Tells}
-use Rattle.replay.specs.declared.Tells.the-variants.{Nothing, Notices}
-use Rattle.replay.specs.parts.Pieces.{HoldsMore, FillsMore, Runs, Made}
+use Rattle.input.specs.Filled.{HoldsRead, Fills}
+use Rattle.replay.specs.declared.Wanted.{Wanted}
+use Rattle.replay.specs.declared.Wanted.the-variants.{Nothing, Notices}
+use Rattle.replay.specs.parts.Pieces.{HoldsMore, FillsMore, PieceRuns, PieceLeaves}
 
 -- ---- a read: no fewer bytes are held
-holds-more : (have : ℕ) (full : Bool) (room : ℕ) (r : filled.Filled) → full ≡ false → Holds have room r → HoldsMore have full room r
+holds-more : (have : ℕ) (full : Bool) (room : ℕ) (r : filled.Filled) → full ≡ false → HoldsRead have room r → HoldsMore have full room r
 holds-more have full room (filled-as.Bytes n) e h = (omega (arith, h .0), h .1)
 holds-more have full room filled-as.Ended e h = e
 holds-more have full room filled-as.Failed e h = tt
@@ -44,7 +44,7 @@ module _ (xs : List ℕ) (m n : ℕ) (h : m ≤ n) (fits : n ≤ length xs) wher
 -- ---- what is asked for
 module _ (seen : ℕ) (src ws₀ out₀ ws out : List ℕ) where
   pub ran-nothing : (r : Ran) → RanIn seen false src ws₀ out₀ ws out r
-      → Runs seen Nothing src ws₀ out₀ ws out (ranTo (r .used) (r .seen) 0 (r .full) (r .stopped))
+      → PieceRuns seen Nothing src ws₀ out₀ ws out (ranTo (r .used) (r .seen) 0 (r .full) (r .stopped))
   ran-nothing r x =
       record {
         done = x .done;
@@ -56,18 +56,18 @@ module _ (seen : ℕ) (src ws₀ out₀ ws out : List ℕ) where
         rest = record { left = x .rest .left; goes = x .rest .goes };
       }
 
-  pub ran-notices : (r : Ran) → RanIn seen true src ws₀ out₀ ws out r → Runs seen Notices src ws₀ out₀ ws out r
+  pub ran-notices : (r : Ran) → RanIn seen true src ws₀ out₀ ws out r → PieceRuns seen Notices src ws₀ out₀ ws out r
   ran-notices r x =
       record { done = x .done; made = x .made; kept = x .kept; bytes = x .bytes; written = x .written; within = x .within refl; rest = x .rest }
 
 -- ---- the piece
-module _ (seen : ℕ) (t : Tells) (n : ℕ) (ws₀ buf₀ out₀ ws out : List ℕ) (r : Ran) (fits : n ≤ length buf₀)
-    (x : Runs seen t (take n buf₀) ws₀ out₀ ws out r) where
+module _ (seen : ℕ) (t : Wanted) (n : ℕ) (ws₀ buf₀ out₀ ws out : List ℕ) (r : Ran) (fits : n ≤ length buf₀)
+    (x : PieceRuns seen t (take n buf₀) ws₀ out₀ ws out r) where
   pub used-within : r .used ≤ n
   used-within = omega (arith, x .made .used, length-take-le n buf₀ fits)
 
   pub made : (buf : List ℕ) (left : ℕ) → left ≡ n - r .used → buf ≡ put buf₀ 0 (part buf₀ (r .used) (n - r .used)) → length buf ≡ length buf₀
-      → Made seen t n ws₀ buf₀ out₀ ws buf out (record { seen = r .seen; left = left; written = r .written; full = r .full; stopped = r .stopped })
+      → PieceLeaves seen t n ws₀ buf₀ out₀ ws buf out (record { seen = r .seen; left = left; written = r .written; full = r .full; stopped = r .stopped })
   made buf left e q k =
       let rest = kept-front buf₀ (r .used) n used-within fits buf left e q in
       record {

@@ -14,8 +14,8 @@ use Rattle.units.specs.Calendar.{isDate, monthDays}
 use Rattle.words.specs.Layout as layout
 use Rattle.causes.specs.Causes.{startTests, freshCauses}
 use Rattle.calls.proofs.DayLaws.{fresh-sound}
-use Rattle.journal.specs.Journal.{Entry, Parsed, parse, parseUpTo, makes, noBook, ledgerOf, isBad}
-use Rattle.journal.specs.Made.{madeAll, noticesOf, firstLedger}
+use Rattle.journal.specs.Journal.{Entry, Parsed, parse, parseUpTo, afterEntries, firstBook, journalLedger, isBad}
+use Rattle.journal.specs.EntryCalls.{ledgerAfterEntries, noticesOf, firstLedger}
 use Rattle.journal.proofs.JournalLaws.{fed, parse-fed}
 use Rattle.journal.proofs.BeginLaws.{makes-append}
 use Rattle.entries.specs.parts.Running.{behind}
@@ -27,12 +27,12 @@ use Rattle.input.specs.declared.Filled as filled
 use Rattle.input.specs.declared.Filled.the-variants.{Ended}
 use Rattle.input.specs.Filled.{notEnded}
 use Rattle.input.proofs.FilledLaws.{ended}
-use Rattle.replay.specs.declared.Tells.{Tells}
-use Rattle.replay.specs.declared.Tells.the-variants.{Nothing, Notices, Lines}
+use Rattle.replay.specs.declared.Wanted.{Wanted}
+use Rattle.replay.specs.declared.Wanted.the-variants.{Nothing, Notices, Lines}
 use Rattle.streams.specs.declared.pieces.End.{End}
 use Rattle.streams.specs.declared.pieces.Piece.{Piece}
-use Rattle.replay.specs.Reading.{toldOf, Reads}
-use Rattle.replay.specs.parts.Pieces.{Waits, Made}
+use Rattle.replay.specs.Reading.{writtenOf, Reads}
+use Rattle.replay.specs.parts.Pieces.{Waits, PieceLeaves}
 use Rattle.streams.specs.Ends.{endOfInput, endOfPiece}
 
 -- ---- entries behind entries
@@ -59,32 +59,32 @@ parse-on s t es e ys =
 
 -- ---- the reading so far
 -- some bytes came in pieces: they parse as the entries that were made, behind which the bytes held are parsed
-pub record Reading (t : Tells) (ws buf : List ℕ) (seen have total : ℕ) : Type 0 where
+pub record Reading (t : Wanted) (ws buf : List ℕ) (seen have total : ℕ) : Type 0 where
   pub bytes : List ℕ
   pub done : List Entry
   pub sound : soundLedger (layout.ledgerOf ws) ≡ true
   pub within : have ≤ length buf
   pub parsed : parse 0 bytes ≡ behind done (parse seen (take have buf))
-  pub ledger : layout.ledgerOf ws ≡ madeAll firstLedger done
-  pub books : book (layout.ledgerOf ws) ≡ makes noBook done
+  pub ledger : layout.ledgerOf ws ≡ ledgerAfterEntries firstLedger done
+  pub books : book (layout.ledgerOf ws) ≡ afterEntries firstBook done
   pub count : seen ≡ length done
-  pub size : total ≡ length (toldOf t 0 noBook done)
+  pub size : total ≡ length (writtenOf t 0 firstBook done)
 
 first-sound : soundLedger firstLedger ≡ true
 unfolding freshCauses startTests isDate monthDays
 first-sound = fresh-sound (record { today = record { 0 = 19000101 }; tracking = 1; confirmation = 1 }) refl
 
-first-book : book firstLedger ≡ noBook
+first-book : book firstLedger ≡ firstBook
 first-book = refl
 
-none-told : (t : Tells) → 0 ≡ length (toldOf t 0 noBook [])
+none-told : (t : Wanted) → 0 ≡ length (writtenOf t 0 firstBook [])
 unfolding noticesOf traceLines
 none-told Nothing = refl
 none-told Notices = refl
 none-told Lines = refl
 
-pub reading-start : (t : Tells) (ws buf : List ℕ) → layout.ledgerOf ws ≡ firstLedger → Reading t ws buf 0 0 0
-unfolding madeAll makes noticesOf
+pub reading-start : (t : Wanted) (ws buf : List ℕ) → layout.ledgerOf ws ≡ firstLedger → Reading t ws buf 0 0 0
+unfolding ledgerAfterEntries afterEntries noticesOf
 reading-start t ws buf e =
     record {
       bytes = [];
@@ -103,7 +103,7 @@ unfolding parse parseUpTo
 waits-start buf = refl
 
 -- the bytes held stay in the buffer
-pub reading-kept : (t : Tells) (ws buf after : List ℕ) (seen have total : ℕ) → Reading t ws buf seen have total → take have after ≡ take have buf
+pub reading-kept : (t : Wanted) (ws buf after : List ℕ) (seen have total : ℕ) → Reading t ws buf seen have total → take have after ≡ take have buf
     → length after ≡ length buf → Reading t ws after seen have total
 reading-kept t ws buf after seen have total x e n =
     record {
@@ -118,19 +118,19 @@ reading-kept t ws buf after seen have total x e n =
       size = x .size;
     }
 
-told-append : (t : Tells) (k : Book) (es fs : List Entry)
-    → length (toldOf t 0 k (es ++ fs)) ≡ length (toldOf t 0 k es) + length (toldOf t (length es) (makes k es) fs)
+told-append : (t : Wanted) (k : Book) (es fs : List Entry)
+    → length (writtenOf t 0 k (es ++ fs)) ≡ length (writtenOf t 0 k es) + length (writtenOf t (length es) (afterEntries k es) fs)
 told-append Nothing k es fs = refl
-told-append Notices k es fs = ap length (notices-append k es fs) ∙ length-append (noticesOf k es) (noticesOf (makes k es) fs)
+told-append Notices k es fs = ap length (notices-append k es fs) ∙ length-append (noticesOf k es) (noticesOf (afterEntries k es) fs)
 told-append Lines k es fs =
     let i : 1 + length es ≡ length es + 1 = omega arith in
     ap length (lines-append 1 k es fs)
-    ∙ length-append (traceLines 1 k es) (traceLines (1 + length es) (makes k es) fs)
-    ∙ ap (λ (n : ℕ). length (traceLines 1 k es) + length (traceLines n (makes k es) fs)) i
+    ∙ length-append (traceLines 1 k es) (traceLines (1 + length es) (afterEntries k es) fs)
+    ∙ ap (λ (n : ℕ). length (traceLines 1 k es) + length (traceLines n (afterEntries k es) fs)) i
 
 -- ---- one piece more
-module _ (t : Tells) (ws buf : List ℕ) (seen have total : ℕ) (x : Reading t ws buf seen have total) (n : ℕ) (h : have ≤ n)
-    (out₀ ws₁ buf₁ out₁ : List ℕ) (p : Piece) (m : Made seen t n ws buf out₀ ws₁ buf₁ out₁ p) where
+module _ (t : Wanted) (ws buf : List ℕ) (seen have total : ℕ) (x : Reading t ws buf seen have total) (n : ℕ) (h : have ≤ n)
+    (out₀ ws₁ buf₁ out₁ : List ℕ) (p : Piece) (m : PieceLeaves seen t n ws buf out₀ ws₁ buf₁ out₁ p) where
   abbrev more : List ℕ
   more = take (n - have) (drop have buf)
 
@@ -146,10 +146,10 @@ module _ (t : Tells) (ws buf : List ℕ) (seen have total : ℕ) (x : Reading t 
       ∙ ap (behind (x .done)) (m .parsed)
       ∙ behind-behind (x .done) (m .done) (parse (p .seen) (take (p .left) buf₁))
 
-  size-more : total + p .written ≡ length (toldOf t 0 noBook all)
+  size-more : total + p .written ≡ length (writtenOf t 0 firstBook all)
   size-more =
-      let e = told-append t noBook (x .done) (m .done) in
-      let w = m .written ∙ ap₂ (λ (i : ℕ) (k : Book). length (toldOf t i k (m .done))) (x .count) (x .books) in
+      let e = told-append t firstBook (x .done) (m .done) in
+      let w = m .written ∙ ap₂ (λ (i : ℕ) (k : Book). length (writtenOf t i k (m .done))) (x .count) (x .books) in
       omega (arith, e, x .size, w)
 
   pub reading-more : Reading t ws₁ buf₁ (p .seen) (p .left) (total + p .written)
@@ -160,18 +160,18 @@ module _ (t : Tells) (ws buf : List ℕ) (seen have total : ℕ) (x : Reading t 
         sound = m .sound;
         within = m .within;
         parsed = whole;
-        ledger = m .ledger ∙ ap (λ (l : Ledger). madeAll l (m .done)) (x .ledger) ∙ sym (made-append firstLedger (x .done) (m .done));
-        books = m .books ∙ ap (λ (k : Book). makes k (m .done)) (x .books) ∙ sym (makes-append noBook (x .done) (m .done));
+        ledger = m .ledger ∙ ap (λ (l : Ledger). ledgerAfterEntries l (m .done)) (x .ledger) ∙ sym (made-append firstLedger (x .done) (m .done));
+        books = m .books ∙ ap (λ (k : Book). afterEntries k (m .done)) (x .books) ∙ sym (makes-append firstBook (x .done) (m .done));
         count = omega (arith, m .count, x .count, length-append (x .done) (m .done));
         size = size-more;
       }
 
 -- ---- the end
 -- where no entry stands whole in the bytes held the reading has come to its end
-pub reading-ended : (t : Tells) (ws buf : List ℕ) (seen have total : ℕ) (stopped failed : Bool) → Reading t ws buf seen have total
+pub reading-ended : (t : Wanted) (ws buf : List ℕ) (seen have total : ℕ) (stopped failed : Bool) → Reading t ws buf seen have total
     → Waits seen (take have buf) stopped
     → Reads t ws buf (record { seen = seen; stopped = stopped; left = have; total = total; failed = failed })
-unfolding ledgerOf isBad
+unfolding journalLedger isBad
 reading-ended t ws buf seen have total stopped failed x w =
     let e = x .parsed ∙ ap (behind (x .done)) w in
     let entries : parse 0 (x .bytes) .entries ≡ x .done = ap (λ (p : Parsed). p .entries) e ∙ append-nil (x .done) in
@@ -182,18 +182,18 @@ reading-ended t ws buf seen have total stopped failed x w =
     record {
       bytes = x .bytes;
       sound = x .sound;
-      ledger = x .ledger ∙ sym (ap (madeAll firstLedger) entries);
-      books = x .books ∙ sym (ap (makes noBook) entries);
+      ledger = x .ledger ∙ sym (ap (ledgerAfterEntries firstLedger) entries);
+      books = x .books ∙ sym (ap (afterEntries firstBook) entries);
       seen = count;
       stopped = bad;
       rest = rest;
       within = x .within;
       bad = rw (bad, left, count);
-      total = x .size ∙ sym (ap (λ (es : List Entry). length (toldOf t 0 noBook es)) entries);
+      total = x .size ∙ sym (ap (λ (es : List Entry). length (writtenOf t 0 firstBook es)) entries);
     }
 
 -- the input has ended
-pub input-ended : (t : Tells) (ws buf : List ℕ) (seen have total : ℕ) (f : filled.Filled) (e : End) → e ≡ endOfInput f seen have total
+pub input-ended : (t : Wanted) (ws buf : List ℕ) (seen have total : ℕ) (f : filled.Filled) (e : End) → e ≡ endOfInput f seen have total
     → Reading t ws buf seen have total → (f ≡ Ended → Waits seen (take have buf) false) → e .failed ≡ false → Reads t ws buf e
 input-ended t ws buf seen have total f e q x w z =
     let none = ended f (sym (ap (λ (k : End). k .failed) q) ∙ z) in
@@ -204,7 +204,7 @@ stopped-by true b h z = h
 stopped-by false b h z = absurd (true≢false z)
 
 -- a bad entry has stopped it
-pub piece-ended : (t : Tells) (ws buf : List ℕ) (total : ℕ) (p : Piece) (written : Bool) (e : End) → e ≡ endOfPiece p total written
+pub piece-ended : (t : Wanted) (ws buf : List ℕ) (total : ℕ) (p : Piece) (written : Bool) (e : End) → e ≡ endOfPiece p total written
     → Reading t ws buf (p .seen) (p .left) total → (p .full ≡ false → Waits (p .seen) (take (p .left) buf) (p .stopped))
     → (p .full ≡ true → p .stopped ≡ false) → (not written || p .stopped) ≡ true → e .failed ≡ false → Reads t ws buf e
 piece-ended t ws buf total p written e q x w goes h z =

@@ -9,8 +9,8 @@ use Rattle.fields.specs.Put.{put}
 use Rattle.table.specs.Table.{stopLine}
 use Rattle.journal.specs.Journal.{endsBad, isBad}
 use Rattle.streams.specs.declared.pieces.End.{End}
-use Rattle.replay.specs.declared.Tells.{Tells}
-use Rattle.replay.specs.declared.Tells.the-variants.{Nothing, Notices, Lines}
+use Rattle.replay.specs.declared.Wanted.{Wanted}
+use Rattle.replay.specs.declared.Wanted.the-variants.{Nothing, Notices, Lines}
 
 -- the line `stopped,13` where the reading ended bad and nothing failed
 abbrev pub stopBy : End → List ℕ
@@ -23,13 +23,13 @@ pub record StopLine (e : End) (before after : List ℕ) (n : ℕ) : Type 0 where
   pub within : n ≤ length after
 
 -- the descriptor that the line goes to: a BRN file has no such line, so where notices are written it is standard error, 2; else standard output, 1
-abbrev pub lastTo : Tells → ℤ
+abbrev pub lastTo : Wanted → ℤ
 lastTo Nothing = pos 1
 lastTo Notices = pos 2
 lastTo Lines = pos 1
 
 -- a read or a write failed, or some bytes came, and the line stands at the start of the output where they end bad; nothing does where a read or a write failed
-pub record Told (out : List ℕ) (n : ℕ) : Type 0 where
+pub record StopLineWritten (out : List ℕ) (n : ℕ) : Type 0 where
   pub failed : Bool
   pub bytes : List ℕ
   pub told : take n out ≡ stopLine (not failed && isBad bytes)

@@ -3,8 +3,8 @@ ghost use mathlib.Core.Path.{_≡_};
 ghost use Prim.Native.Nat.{_≤_};
 ghost use lib.ListN.{length};
 ghost use Rattle.words.specs.Layout.{ledgerSize};
-ghost use Rattle.replay.specs.Ending.{StopLine, lastTo, Told, ToldSize};
-use crate::Tells;
+ghost use Rattle.replay.specs.Ending.{StopLine, lastTo, StopLineWritten, ToldSize};
+use crate::Wanted;
 use entries::run;
 use libc::STDERR_FILENO;
 use libc::STDOUT_FILENO;
@@ -22,9 +22,9 @@ fn stop_line(out: &mut [u8], e: End) -> usize
 }
 
 // Reads standard input and writes what is asked for of its entries; what is left to write is the line in `out`, of so many bytes.
-fn tell_input(ws: &mut [u64], buf: &mut [u8], out: &mut [u8], tells: Tells) -> usize
+fn tell_input(ws: &mut [u64], buf: &mut [u8], out: &mut [u8], tells: Wanted) -> usize
     requires { ⌜ (length (now ws) ≡ ledgerSize) × (length (now buf) ≡ 262144) × (length (now out) ≡ 262144) ⌝ }
-    ensures { λ n. ⌜ Told (now (out .exit)) n ⌝ }
+    ensures { λ n. ⌜ StopLineWritten (now (out .exit)) n ⌝ }
 {
     run::start(ws);
     let e = crate::read_all(ws, buf, out, tells);
@@ -32,20 +32,20 @@ fn tell_input(ws: &mut [u64], buf: &mut [u8], out: &mut [u8], tells: Tells) -> u
 }
 
 // Where that line goes.
-fn last_to(tells: Tells) -> i32
+fn last_to(tells: Wanted) -> i32
     ensures { λ d. ⌜ d ≡ lastTo tells ⌝ }
 {
     match tells {
-        Tells::Nothing => STDOUT_FILENO,
-        Tells::Notices => STDERR_FILENO,
-        Tells::Lines => STDOUT_FILENO,
+        Wanted::Nothing => STDOUT_FILENO,
+        Wanted::Notices => STDERR_FILENO,
+        Wanted::Lines => STDOUT_FILENO,
     }
 }
 
 // What is left to write once standard input is read, and where it goes.
-fn last_of_input(ws: &mut [u64], buf: &mut [u8], out: &mut [u8], tells: Tells) -> Output
+fn last_of_input(ws: &mut [u64], buf: &mut [u8], out: &mut [u8], tells: Wanted) -> Output
     requires { ⌜ (length (now ws) ≡ ledgerSize) × (length (now buf) ≡ 262144) × (length (now out) ≡ 262144) ⌝ }
-    ensures { λ o. ⌜ (o .descriptor ≡ lastTo tells) × Told (now (out .exit)) (o .length) ⌝ }
+    ensures { λ o. ⌜ (o .descriptor ≡ lastTo tells) × StopLineWritten (now (out .exit)) (o .length) ⌝ }
 {
     let length = tell_input(ws, buf, out, tells);
     Output {
@@ -55,7 +55,7 @@ fn last_of_input(ws: &mut [u64], buf: &mut [u8], out: &mut [u8], tells: Tells) -
 }
 
 // Reads standard input and writes what is asked for of its entries, and the line behind; answers what was last to write.
-pub fn tell(tells: Tells) -> Output
+pub fn tell(tells: Wanted) -> Output
     ensures { λ o. ⌜ (o .descriptor ≡ lastTo tells) × ToldSize (o .length) ⌝ }
 {
     let mut ws = [0u64; 2436];

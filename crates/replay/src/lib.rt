@@ -6,10 +6,10 @@ ghost use Prim.Native.Nat.{_≤_};
 ghost use lib.ListN.{length};
 ghost use Rattle.ledger.specs.Sound.{soundLedger};
 ghost use Rattle.words.specs.Layout.{ledgerOf};
-ghost use Rattle.journal.specs.Made.{firstLedger};
-ghost use Rattle.replay.specs.declared.Tells.the-variants.{Lines};
+ghost use Rattle.journal.specs.EntryCalls.{firstLedger};
+ghost use Rattle.replay.specs.declared.Wanted.the-variants.{Lines};
 ghost use Rattle.replay.specs.Reading.{Reads};
-ghost use Rattle.replay.specs.parts.Pieces.{Runs, FillsMore, Made};
+ghost use Rattle.replay.specs.parts.Pieces.{PieceRuns, FillsMore, PieceLeaves};
 use entries::run;
 use entries::run::Ran;
 use input::Filled;
@@ -21,7 +21,7 @@ use streams::pieces::Piece;
 pub mod ending;
 
 // What is written of the entries: nothing, their notices, or lines that say what became of each.
-pub enum Tells {
+pub enum Wanted {
     Nothing,
     Notices,
     Lines,
@@ -41,31 +41,31 @@ fn more(buf: &mut [u8], have: usize, full: bool) -> Filled
 // Makes the entries at the start of src and writes their lines. Their notices stand in a buffer of their own, since a group's line is read off its answer.
 fn run_lines(ws: &mut [u64], out: &mut [u8], src: &[u8], seen: u64) -> Ran
     requires { ⌜ soundLedger (ledgerOf (now ws)) ≡ true ⌝ }
-    ensures { λ r. ⌜ Runs seen Lines (now (src .entry)) (now (ws .entry)) (now (out .entry)) (now (ws .exit)) (now (out .exit)) r ⌝ }
+    ensures { λ r. ⌜ PieceRuns seen Lines (now (src .entry)) (now (ws .entry)) (now (out .entry)) (now (ws .exit)) (now (out .exit)) r ⌝ }
 {
     let mut sent = [0u8; 64200];
     tracing::run(ws, &mut sent, out, src, seen)
 }
 
 // Makes the entries at the start of src and writes what is asked for of them.
-fn run_telling(ws: &mut [u64], out: &mut [u8], tells: Tells, src: &[u8], seen: u64) -> Ran
+fn run_telling(ws: &mut [u64], out: &mut [u8], tells: Wanted, src: &[u8], seen: u64) -> Ran
     requires { ⌜ soundLedger (ledgerOf (now ws)) ≡ true ⌝ }
-    ensures { λ r. ⌜ Runs seen tells (now (src .entry)) (now (ws .entry)) (now (out .entry)) (now (ws .exit)) (now (out .exit)) r ⌝ }
+    ensures { λ r. ⌜ PieceRuns seen tells (now (src .entry)) (now (ws .entry)) (now (out .entry)) (now (ws .exit)) (now (out .exit)) r ⌝ }
 {
     match tells {
-        Tells::Nothing => {
+        Wanted::Nothing => {
             let r = run::run(ws, out, false, src, seen);
             run::ran_to(r.used, r.seen, 0, r.full, r.stopped)
         }
-        Tells::Notices => run::run(ws, out, true, src, seen),
-        Tells::Lines => run_lines(ws, out, src, seen),
+        Wanted::Notices => run::run(ws, out, true, src, seen),
+        Wanted::Lines => run_lines(ws, out, src, seen),
     }
 }
 
 // Makes the entries of the first n bytes and keeps the bytes that are left at the start.
-fn make(ws: &mut [u64], buf: &mut [u8], out: &mut [u8], tells: Tells, n: usize, seen: u64) -> Piece
+fn make(ws: &mut [u64], buf: &mut [u8], out: &mut [u8], tells: Wanted, n: usize, seen: u64) -> Piece
     requires { ⌜ (soundLedger (ledgerOf (now ws)) ≡ true) × (n ≤ length (now buf)) ⌝ }
-    ensures { λ p. ⌜ Made seen tells n (now (ws .entry)) (now (buf .entry)) (now (out .entry)) (now (ws .exit)) (now (buf .exit)) (now (out .exit)) p ⌝ }
+    ensures { λ p. ⌜ PieceLeaves seen tells n (now (ws .entry)) (now (buf .entry)) (now (out .entry)) (now (ws .exit)) (now (buf .exit)) (now (out .exit)) p ⌝ }
 {
     let r = run_telling(ws, out, tells, &buf[..n], seen);
     let left = journal::keep(buf, r.used, n);
@@ -79,7 +79,7 @@ fn make(ws: &mut [u64], buf: &mut [u8], out: &mut [u8], tells: Tells, n: usize, 
 }
 
 // Reads standard input in pieces and makes its entries. A billion entries have fewer bytes than there are turns.
-pub fn read_all(ws: &mut [u64], buf: &mut [u8], out: &mut [u8], tells: Tells) -> End
+pub fn read_all(ws: &mut [u64], buf: &mut [u8], out: &mut [u8], tells: Wanted) -> End
     requires { ⌜ (ledgerOf (now ws) ≡ firstLedger) × (length (now buf) ≡ 262144) × (length (now out) ≤ 262144) ⌝ }
     ensures { λ e. ⌜ (e .failed ≡ false → Reads tells (now (ws .exit)) (now (buf .exit)) e) ⌝ }
 {

@@ -13,15 +13,15 @@ use Rattle.fields.specs.Put.{put, part}
 use Rattle.fields.proofs.PutLaws.{put-nil, put-put, part-put}
 use Rattle.ledger.specs.Books.{Book, book}
 use Rattle.words.specs.Layout as layout
-use Rattle.journal.specs.Journal.{Parsed, parse, noBook, endsBad, isBad}
-use Rattle.journal.specs.Made.{noticesOf, brnOf}
+use Rattle.journal.specs.Journal.{Parsed, parse, firstBook, endsBad, isBad}
+use Rattle.journal.specs.EntryCalls.{noticesOf, brnOf}
 use Rattle.entries.specs.declared.run.Ran.{Ran}
 use Rattle.entries.specs.parts.Running.{RanIn}
 use Rattle.entries.proofs.RanLaws.{ran-split, ran-within, all-notices, all-stopped, all-rest, all-count, journal-notices, journal-written, journal-bad}
 use Rattle.report.specs.declared.Report.the-variants.{Written, TooSmall}
 use Rattle.report.specs.declared.brn_file.Fit.{Fit}
 use Rattle.report.specs.declared.brn_file.Fit.the-variants.{Fits, Short}
-use Rattle.report.specs.NoticesOf.{noticesReport, noticed, ReportsNotices}
+use Rattle.report.specs.NoticesOf.{noticesReport, noticesWritten, ReportsNotices}
 use Rattle.report.specs.parts.Fits.{fitOf}
 use Rattle.room.specs.Room.{mostIn}
 use Rattle.room.proofs.RoomLaws.{brn-within}
@@ -57,20 +57,20 @@ module _ (s : List ℕ) (room : ℕ) where
 -- ---- the answer
 pub too-small : (s out : List ℕ) (f : Fit) (bad : Bool) → f ≡ fitOf (length out) s → f ≡ Short bad
     → ReportsNotices s out out (record { report = TooSmall; stopped = bad })
-unfolding fitOf noticesReport noticed
+unfolding fitOf noticesReport noticesWritten
 too-small s out f bad e h =
     let x = short-by s (length out) (ltb (length out) (length (brnOf s))) (isBad s) bad (sym h ∙ e) in
     record { answer = rw (x .0); stopped = x .1; bytes = rw (x .0) (put-nil out 0) }
 
 given : (s out₀ out : List ℕ) (n : ℕ) (bad : Bool) → n ≡ length (brnOf s) → bad ≡ isBad s → length (brnOf s) ≤ length out₀ → out ≡ put out₀ 0 (brnOf s)
     → ReportsNotices s out₀ out (record { report = Written n; stopped = bad })
-unfolding noticesReport noticed
+unfolding noticesReport noticesWritten
 given s out₀ out n bad all ends h o =
     let e : ltb (length out₀) (length (brnOf s)) ≡ false = le-ltb (length out₀) (length (brnOf s)) h in
     record { answer = rw (e, all); stopped = ends; bytes = rw e o }
 
 -- ---- one run into the output
-module _ (s ws₀ out₀ ws out : List ℕ) (r : Ran) (w : RanIn 0 true s ws₀ out₀ ws out r) (z : book (layout.ledgerOf ws₀) ≡ noBook)
+module _ (s ws₀ out₀ ws out : List ℕ) (r : Ran) (w : RanIn 0 true s ws₀ out₀ ws out r) (z : book (layout.ledgerOf ws₀) ≡ firstBook)
     (fits : length (brnOf s) ≤ length out₀) where
   -- a run that was not held up wrote them all
   pub all-given : r .full ≡ false → (bad : Bool) → bad ≡ endsBad (r .stopped) (length s - r .used) (r .seen)

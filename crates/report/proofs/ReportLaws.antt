@@ -11,7 +11,7 @@ use Rattle.fields.proofs.PutLaws.{put-nil}
 use Rattle.ledger.specs.Books.{Book}
 use Rattle.table.specs.Table.{tableOf}
 use Rattle.history.proofs.ClaimProof.{claim}
-use Rattle.journal.specs.Journal.{Entry, parse, makes, noBook, endsBad, ledgerOf, isBad, callsOf}
+use Rattle.journal.specs.Journal.{Entry, parse, afterEntries, firstBook, endsBad, journalLedger, isBad, callsOf}
 use Rattle.journal.proofs.BeginLaws.{Begins, nothing, begins, journal-begins}
 use Rattle.report.specs.declared.Report.the-variants.{Written, TooSmall}
 use Rattle.report.specs.Report.{postedOf, Claimed, empty, holds, reportOf, reported, Reports}
@@ -26,9 +26,9 @@ none-bad : (s : List ℕ) → parse 0 s .entries ≡ [] → isBad s ≡ true
 unfolding isBad endsBad
 none-bad s e = bad-by (parse 0 s .stopped) (ltb 0 (length (parse 0 s .rest))) _ (ap (λ (es : List Entry). eqb (length es) 0) e)
 
-none-ledger : (s : List ℕ) → parse 0 s .entries ≡ [] → ledgerOf s ≡ noBook
-unfolding ledgerOf makes
-none-ledger s e = ap (makes noBook) e
+none-ledger : (s : List ℕ) → parse 0 s .entries ≡ [] → journalLedger s ≡ firstBook
+unfolding journalLedger afterEntries
+none-ledger s e = ap (afterEntries firstBook) e
 
 pub claimed : (s : List ℕ) → Claimed s
 claimed s = go (journal-begins s)
@@ -39,7 +39,7 @@ claimed s = go (journal-begins s)
 
 -- ---- the table
 -- the table of the ledger that a journal leaves
-pub table-is : (s : List ℕ) (k : Book) (bad : Bool) → k ≡ ledgerOf s → bad ≡ isBad s → tableOf k bad ≡ postedOf s
+pub table-is : (s : List ℕ) (k : Book) (bad : Bool) → k ≡ journalLedger s → bad ≡ isBad s → tableOf k bad ≡ postedOf s
 unfolding postedOf
 table-is s k bad e f = rw (e, f)
 

@@ -7,7 +7,7 @@ use lib.Dec.{ltb}
 use lib.ListN.{length}
 use Rattle.fields.specs.Put.{put}
 use Rattle.journal.specs.Journal.{isBad}
-use Rattle.journal.specs.Made.{brnOf}
+use Rattle.journal.specs.EntryCalls.{brnOf}
 use Rattle.report.specs.declared.Report.{Report}
 use Rattle.report.specs.declared.Report.the-variants.{Written, TooSmall}
 use Rattle.report.specs.declared.Reported.{Reported}
@@ -16,11 +16,11 @@ use Rattle.report.specs.declared.Reported.{Reported}
 unfoldable pub noticesReport : ℕ → List ℕ → Report
 noticesReport room s = cond (ltb room (length (brnOf s))) TooSmall (Written (length (brnOf s)))
 
-unfoldable pub noticed : ℕ → List ℕ → List ℕ
-noticed room s = cond (ltb room (length (brnOf s))) [] (brnOf s)
+unfoldable pub noticesWritten : ℕ → List ℕ → List ℕ
+noticesWritten room s = cond (ltb room (length (brnOf s))) [] (brnOf s)
 
 -- what is answered and left of an output out₀; `stopped` says what `stopped,13` says in the table
 pub record ReportsNotices (s out₀ out : List ℕ) (r : Reported) : Type 0 where
   pub answer : r .report ≡ noticesReport (length out₀) s
   pub stopped : r .stopped ≡ isBad s
-  pub bytes : out ≡ put out₀ 0 (noticed (length out₀) s)
+  pub bytes : out ≡ put out₀ 0 (noticesWritten (length out₀) s)

@@ -15,22 +15,22 @@ use Rattle.calls.specs.Machine.{fresh, after}
 use Rattle.history.specs.History.{begun}
 use Rattle.history.specs.Claim.{Claims}
 use Rattle.journal.specs.declared.Body.the-variants.{Fresh}
-use Rattle.journal.specs.Journal.{Entry, parse, callsOf, noBook, ledgerOf, isBad}
+use Rattle.journal.specs.Journal.{Entry, parse, callsOf, firstBook, journalLedger, isBad}
 use Rattle.report.specs.declared.Report.{Report}
 use Rattle.report.specs.declared.Reported.{Reported}
 use Rattle.report.specs.declared.Report.the-variants.{Written, TooSmall}
 
 -- the bytes of the posted table of a journal
 unfoldable pub postedOf : List ℕ → List ℕ
-postedOf s = tableOf (ledgerOf s) (isBad s)
+postedOf s = tableOf (journalLedger s) (isBad s)
 
 -- what is claimed of a journal: it holds no whole entry, so no fresh that succeeded, and its table has no bill lines and a zero total; or it holds
 -- a fresh that succeeded and the entries es, its ledger is that of their calls after the fresh, and of these calls the claim holds: the total
 -- printed is the sum of the changes and the history's sum
 pub data Claimed (s : List ℕ) : Type 0 where
-  empty : parse 0 s .entries ≡ [] → ledgerOf s ≡ noBook → isBad s ≡ true → Claimed s
+  empty : parse 0 s .entries ≡ [] → journalLedger s ≡ firstBook → isBad s ≡ true → Claimed s
   holds : (start : Start) (bytes : List ℕ) (es : List Entry) → parse 0 s .entries ≡ record { body = Fresh start; bytes = bytes } ∷ es
-      → first (freshCauses start) ≡ Clear → ledgerOf s ≡ after (fresh start) (callsOf es)
+      → first (freshCauses start) ≡ Clear → journalLedger s ≡ after (fresh start) (callsOf es)
       → Claims (fresh start) (begun start) (callsOf es) → Claimed s
 
 -- an output under 10,970 bytes is refused and left as it was

@@ -2,7 +2,7 @@
 ghost use mathlib.Core.Path.{_≡_};
 ghost use Prim.Native.Nat.{_≤_};
 ghost use lib.ListN.{length};
-ghost use Rattle.journal.specs.Made.{brnOf};
+ghost use Rattle.journal.specs.EntryCalls.{brnOf};
 ghost use Rattle.report.specs.NoticesOf.{ReportsNotices};
 ghost use Rattle.report.specs.parts.Fits.{fitOf};
 use crate::Report;

@@ -30,8 +30,8 @@ use Rattle.journal.specs.declared.Head.the-variants.{Cut, Bad, Whole}
 use Rattle.journal.specs.declared.Frame.{Frame}
 use Rattle.journal.specs.declared.Frame.the-variants.{Nothing, Sized}
 use Rattle.journal.specs.Entries.{digitsIn, freshBody, requestBody, cancelBody, closeBody, bodyOf, goodLength, headOf, frameOf}
-use Rattle.journal.specs.Journal.{callOf, made, onHead, parseUpTo, parse, noBook}
-use Rattle.journal.specs.Made.{writtenBy, noticesOf, brnOf}
+use Rattle.journal.specs.Journal.{callOf, afterEntry, onHead, parseUpTo, parse, firstBook}
+use Rattle.journal.specs.EntryCalls.{writtenBy, noticesOf, brnOf}
 use Rattle.journal.proofs.HeadLaws.{tagIn, lengthIn, whole-is, whole-holds, whole-bytes}
 use Rattle.room.specs.Room.{mostOf, mostOn, mostUpTo, mostIn}
 
@@ -114,7 +114,7 @@ module _ (k : Book) where
         go false false false false = close-most
 
 -- ---- what all of them write
--- an entry that is made has its frame
+-- an entry that is afterEntry has its frame
 frame-whole : (seen : ℕ) (s : List ℕ) (b : Body) (n : ℕ) → headOf seen s ≡ Whole b n → frameOf s ≡ Sized (tagIn s) (lengthIn s)
 unfolding frameOf
 frame-whole seen s b n e =
@@ -129,7 +129,7 @@ most-by fuel seen k s ih Cut e = omega arith
 most-by fuel seen k s ih Bad e = omega arith
 most-by fuel seen k s ih (Whole b n) e =
     let bytes = part s 3 (n - 3) in
-    let j = made b bytes k in
+    let j = afterEntry b bytes k in
     let es = parseUpTo fuel (seen + 1) (drop n s) .entries in
     let m : lengthIn s + 3 ≡ n = sym (whole-is seen s b n e .bytes) in
     let l : length bytes ≡ lengthIn s = omega (arith, whole-bytes seen s b n e, m) in
@@ -147,7 +147,7 @@ notices-most (suc fuel) seen k s = most-by fuel seen k s (λ j t. notices-most f
 -- the BRN file of a journal is no longer than its entries' tags and lengths allow
 pub brn-within : (s : List ℕ) → length (brnOf s) ≤ mostIn s
 unfolding brnOf parse mostIn
-brn-within s = notices-most (length s) 0 noBook s
+brn-within s = notices-most (length s) 0 firstBook s
 
 -- ---- the walk
 frame-sized : (t : Bool) (a m tag n : ℕ) → cond t (Sized a m) Nothing ≡ Sized tag n → (t ≡ true) × (m ≡ n)

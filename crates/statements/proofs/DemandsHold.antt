@@ -26,7 +26,7 @@ use Rattle.calls.proofs.CallLaws.{stopped}
 use Rattle.calls.proofs.CountLaws.{groups-returned}
 use Rattle.calls.proofs.FileCallLaws.{written-within}
 use Rattle.table.proofs.TableLaws.{length-table}
-use Rattle.journal.specs.Journal.{isBad, noBook}
+use Rattle.journal.specs.Journal.{isBad, firstBook}
 use Rattle.journal.proofs.StopLaws.{stops}
 use Rattle.history.proofs.ClaimProof.{claim, claim-by-value}
 use Rattle.history.proofs.CaseProofs.{cases-hold}
@@ -77,7 +77,7 @@ unfolding postedOf
 table-room s = go (claimed s)
   where
     go : Claimed s → length (postedOf s) ≤ 10970
-    go (empty e k b) = rw k (length-table noBook (isBad s) (omega arith))
+    go (empty e k b) = rw k (length-table firstBook (isBad s) (omega arith))
     go (holds start bytes es e c k q) = rw k (length-table _ (isBad s) (book-facts _ (q .kept) .few))
 
 demand-1 : Demand1

@@ -17,12 +17,12 @@ use Rattle.causes.specs.Causes.{startTests, requestTests, freshCauses, billCaus
 use Rattle.calls.specs.Machine.{cause, next, outcome, step, after}
 use Rattle.table.specs.Table.{cell, ended, heading, termsCells, amountCells, stateCell, lineOf, totalLine, stopLine, tableOf}
 use Rattle.journal.specs.Entries.{freshBody, requestBody, cancelBody, closeBody, bodyOf, goodLength, headBy, headOf}
-use Rattle.journal.specs.Journal.{parseUpTo, parse, makes, endsBad, ledgerOf, isBad}
+use Rattle.journal.specs.Journal.{parseUpTo, parse, afterEntries, endsBad, journalLedger, isBad}
 use Rattle.report.specs.Report.{postedOf, reported}
 use Rattle.statements.specs.Example.{exampleJournal, refusedJournal, ExamplePosted, ExampleWritten}
 
 pub example-posted : ExamplePosted
-unfolding digits number isDigit numeric part filled sameList fieldOf isLeap monthDays isDate isRateCode stateOf termsTests balanced soundAmounts soundBill distinct bookTests recordsFrom records printable isHeader isDetail goodRecord headed goodFile leading groups fileGroups unfit line1 line2 passes alike line3 line4 line5 line6 line7 line8 tierConsumptions tierCharges line9 line10 amountsOf linesBy verdictOn verdictBy settled taken startTests requestTests freshCauses billCauses requestCauses fileCauses causes cause next outcome step after cell ended heading termsCells amountCells stateCell lineOf totalLine stopLine tableOf freshBody requestBody cancelBody closeBody bodyOf goodLength headBy headOf parseUpTo parse makes endsBad ledgerOf isBad postedOf exampleJournal refusedJournal
+unfolding digits number isDigit numeric part filled sameList fieldOf isLeap monthDays isDate isRateCode stateOf termsTests balanced soundAmounts soundBill distinct bookTests recordsFrom records printable isHeader isDetail goodRecord headed goodFile leading groups fileGroups unfit line1 line2 passes alike line3 line4 line5 line6 line7 line8 tierConsumptions tierCharges line9 line10 amountsOf linesBy verdictOn verdictBy settled taken startTests requestTests freshCauses billCauses requestCauses fileCauses causes cause next outcome step after cell ended heading termsCells amountCells stateCell lineOf totalLine stopLine tableOf freshBody requestBody cancelBody closeBody bodyOf goodLength headBy headOf parseUpTo parse afterEntries endsBad journalLedger isBad postedOf exampleJournal refusedJournal
 example-posted = record { size = refl; table = refl; stopped = refl; empty = refl; refused = refl }
 
 pub example-written : ExampleWritten

@@ -11,8 +11,8 @@ use Rattle.journal.specs.declared.Body.the-variants as body
 use Rattle.journal.specs.declared.Head.{Head}
 use Rattle.journal.specs.declared.Head.the-variants.{Cut, Bad, Whole}
 use Rattle.journal.specs.Entries.{headOf}
-use Rattle.journal.specs.Journal.{Entry, Parsed, parse, callOf, callsOf, made, makes, noBook}
-use Rattle.journal.specs.Made.{writtenBy, noticesOf, brnOf}
+use Rattle.journal.specs.Journal.{Entry, Parsed, parse, callOf, callsOf, afterEntry, afterEntries, firstBook}
+use Rattle.journal.specs.EntryCalls.{writtenBy, noticesOf, brnOf}
 use Rattle.journal.proofs.JournalLaws.{parse-cut, parse-bad, parse-whole}
 use Rattle.journal.proofs.BeginLaws.{NoneFresh, parse-none, makes-after}
 use Rattle.statements.specs.Statements.{NoticesOfCalls}
@@ -27,11 +27,11 @@ written-append k (c ∷ cs) ds =
 
 -- entries that are no fresh make their calls
 notices-after : (k : Book) (es : List Entry) → NoneFresh es → noticesOf k es ≡ writtenBy (outcomes k (callsOf es))
-unfolding noticesOf outcomes makes
+unfolding noticesOf outcomes afterEntries
 notices-after k [] h = refl
 notices-after k (e ∷ es) h =
     let cs = callOf (e .body) (e .bytes) in
-    let m : made (e .body) (e .bytes) k ≡ after k cs =
+    let m : afterEntry (e .body) (e .bytes) k ≡ after k cs =
     makes-after k (e ∷ []) (h .0, tt) ∙ ap (after k) (append-nil cs) in
     ap (λ (j : Book). writtenBy (outcomes k cs) ++ noticesOf j es) m
     ∙ ap (λ (w : List ℕ). writtenBy (outcomes k cs) ++ w) (notices-after (after k cs) es (h .1))
@@ -51,4 +51,4 @@ rest-none s e es q = go (headOf 0 s) refl
 pub notices-of-calls : (s : List ℕ) → NoticesOfCalls s
 unfolding brnOf noticesOf outcomes
 notices-of-calls s start bytes es q =
-    ap (noticesOf noBook) q ∙ notices-after (fresh start) es (rest-none s (record { body = body.Fresh start; bytes = bytes }) es q)
+    ap (noticesOf firstBook) q ∙ notices-after (fresh start) es (rest-none s (record { body = body.Fresh start; bytes = bytes }) es q)

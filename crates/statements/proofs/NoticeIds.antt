@@ -24,11 +24,11 @@ use Rattle.group.specs.Groups.{sought, settled, answer, verdictHere, answers}
 use Rattle.causes.specs.Causes.{Call, request, file, cancel, close}
 use Rattle.calls.specs.Machine.{cause, nextWritten, outcome, step, outcomes}
 use Rattle.history.specs.Written.{keep, assigns, assignedIn}
-use Rattle.history.specs.Claim.{All, assigned, Once}
+use Rattle.history.specs.Claim.{All, assigned, NoneTwice}
 use Rattle.history.proofs.RecordLaws.{Whole, Formed, formed-file, records-cons, records-none}
 use Rattle.history.proofs.WrittenLaws.{none-assigned}
-use Rattle.journal.specs.Journal.{Entry, noBook}
-use Rattle.journal.specs.Made.{writtenBy, noticesOf, brnOf}
+use Rattle.journal.specs.Journal.{Entry, firstBook}
+use Rattle.journal.specs.EntryCalls.{writtenBy, noticesOf, brnOf}
 use Rattle.report.specs.Report.{Claimed, empty, holds}
 use Rattle.report.proofs.ReportLaws.{claimed}
 use Rattle.statements.proofs.NoticeCalls.{notices-of-calls}
@@ -116,14 +116,14 @@ written-ids (c ∷ cs) l =
     ids-append (step l c .written) (writtenBy (outcomes (step l c .ledger) cs)) (step-records l c)
     ∙ ap (λ (ns : List ℕ). assignedIn (step l c .written) ++ ns) (written-ids cs (step l c .ledger))
 
-none-twice : Once []
+none-twice : NoneTwice []
 none-twice i j h k e = absurd (omega arith)
 
-pub ids-once : (s : List ℕ) → Once (assignedIn (brnOf s))
+pub ids-once : (s : List ℕ) → NoneTwice (assignedIn (brnOf s))
 unfolding brnOf noticesOf
 ids-once s = go (claimed s)
   where
-    go : Claimed s → Once (assignedIn (brnOf s))
-    go (empty e k b) = subst Once (sym (ap (λ (es : List Entry). assignedIn (noticesOf noBook es)) e ∙ none-assigned)) none-twice
+    go : Claimed s → NoneTwice (assignedIn (brnOf s))
+    go (empty e k b) = subst NoneTwice (sym (ap (λ (es : List Entry). assignedIn (noticesOf firstBook es)) e ∙ none-assigned)) none-twice
     go (holds start bytes es e c k q) =
-        subst Once (sym (ap assignedIn (notices-of-calls s start bytes es e) ∙ written-ids _ _)) (q .once)
+        subst NoneTwice (sym (ap assignedIn (notices-of-calls s start bytes es e) ∙ written-ids _ _)) (q .once)

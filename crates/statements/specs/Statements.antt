@@ -31,9 +31,9 @@ use Rattle.calls.specs.Machine.{roomOf, step, fresh, outcomes, causeIn, stepIn,
 use Rattle.calls.specs.Counts.{GroupsReturned}
 use Rattle.journal.specs.declared.Body.the-variants.{Fresh}
 use Rattle.journal.specs.Journal.{Entry, parse, callsOf, Stops}
-use Rattle.journal.specs.Made.{writtenBy, brnOf}
+use Rattle.journal.specs.EntryCalls.{writtenBy, brnOf}
 use Rattle.history.specs.Written.{assignedIn}
-use Rattle.history.specs.Claim.{All, Once, SumFromHistory, SumByValue}
+use Rattle.history.specs.Claim.{All, NoneTwice, SumFromHistory, SumByValue}
 use Rattle.history.specs.Cases.{table, Holds}
 use Rattle.room.specs.Room.{mostIn}
 use Rattle.report.specs.Report.{postedOf, Claimed}
@@ -107,7 +107,7 @@ pub record Demand3 : Type 0 where
   pub inWords : SumInWords
   pub journals : (s : List ℕ) → Claimed s
   -- no Tracking ID twice, read off a journal's notices
-  pub ids : (s : List ℕ) → Once (assignedIn (brnOf s))
+  pub ids : (s : List ℕ) → NoneTwice (assignedIn (brnOf s))
   -- cases (a) to (l), and the example
   pub cases : All Holds table
   pub example : ExamplePosted

@@ -1,5 +1,5 @@
 // Reads a journal on standard input and writes what became of each of its entries.
-use replay::Tells;
+use replay::Wanted;
 use replay::ending;
 use streams::output;
 
@@ -12,5 +12,5 @@ fn main() {
         );
         return;
     }
-    ending::tell(Tells::Lines);
+    ending::tell(Wanted::Lines);
 }

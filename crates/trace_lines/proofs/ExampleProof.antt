@@ -20,9 +20,9 @@ use Rattle.journal.specs.Entries.{freshBody, requestBody, cancelBody, closeBody
 use Rattle.journal.specs.Journal.{parseUpTo, parse, endsBad, isBad}
 use Rattle.trace_lines.specs.Lines.{callName, changeText, figureCells, callLine, groupLine, groupLines}
 use Rattle.trace_lines.specs.Trace.{entryAnswer, linesUnder, entryLines, traceLines, traceOf}
-use Rattle.trace_lines.specs.Example.{Example, Mixed, Empty}
+use Rattle.trace_lines.specs.Example.{ExampleTrace, Mixed, EmptyTrace}
 
-pub example-holds : Example
+pub example-holds : ExampleTrace
 unfolding digits number isDigit numeric part filled sameList fieldOf isLeap monthDays isDate isRateCode termsTests balanced soundAmounts soundBill distinct bookTests recordsFrom alikeFields spacesFrom records printable isHeader isDetail goodRecord headed goodFile leading groups fileGroups unfit line1 line2 passes alike line3 line4 line5 line6 line7 line8 tierConsumptions tierCharges line9 line10 amountsOf linesBy verdictOn verdictBy settled taken verdicts startTests requestTests freshCauses billCauses requestCauses fileCauses cancelCauses closeCauses causes cause next nextVerdicts nextClosed outcome step after answerBy sentHeader sentDetail sent cell ended stopLine freshBody requestBody cancelBody closeBody bodyOf goodLength headBy headOf parseUpTo parse endsBad isBad callName changeText figureCells callLine groupLine groupLines entryAnswer linesUnder entryLines traceLines traceOf
 example-holds = refl
 
@@ -30,6 +30,6 @@ pub mixed-holds : Mixed
 unfolding digits number isDigit numeric part filled sameList fieldOf isLeap monthDays isDate isRateCode termsTests balanced soundAmounts soundBill distinct bookTests recordsFrom alikeFields spacesFrom records printable isHeader isDetail goodRecord headed goodFile leading groups fileGroups unfit line1 line2 passes alike line3 line4 line5 line6 line7 line8 tierConsumptions tierCharges line9 line10 amountsOf linesBy verdictOn verdictBy settled taken verdicts startTests requestTests freshCauses billCauses requestCauses fileCauses cancelCauses closeCauses causes cause next nextVerdicts nextClosed outcome step after answerBy sentHeader sentDetail sent cell ended stopLine freshBody requestBody cancelBody closeBody bodyOf goodLength headBy headOf parseUpTo parse endsBad isBad callName changeText figureCells callLine groupLine groupLines entryAnswer linesUnder entryLines traceLines traceOf
 mixed-holds = refl
 
-pub empty-holds : Empty
+pub empty-holds : EmptyTrace
 unfolding digits number isDigit numeric part filled sameList fieldOf isLeap monthDays isDate isRateCode termsTests balanced soundAmounts soundBill distinct bookTests recordsFrom alikeFields spacesFrom records printable isHeader isDetail goodRecord headed goodFile leading groups fileGroups unfit line1 line2 passes alike line3 line4 line5 line6 line7 line8 tierConsumptions tierCharges line9 line10 amountsOf linesBy verdictOn verdictBy settled taken verdicts startTests requestTests freshCauses billCauses requestCauses fileCauses cancelCauses closeCauses causes cause next nextVerdicts nextClosed outcome step after answerBy sentHeader sentDetail sent cell ended stopLine freshBody requestBody cancelBody closeBody bodyOf goodLength headBy headOf parseUpTo parse endsBad isBad callName changeText figureCells callLine groupLine groupLines entryAnswer linesUnder entryLines traceLines traceOf
 empty-holds = (refl, refl)

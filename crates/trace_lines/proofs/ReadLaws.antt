@@ -15,7 +15,7 @@ use Rattle.fields.proofs.HoldLaws.{length-part-le}
 use Rattle.records.specs.Layout.{recordAt, recordsFrom}
 use Rattle.records.proofs.LayoutLaws.{length-records}
 use Rattle.file.specs.File.{Group, leading}
-use Rattle.file.specs.parts.Walk.{after, groupAt}
+use Rattle.file.specs.parts.Walk.{recordsAfter, groupAt}
 use Rattle.file.proofs.FileLaws.{length-details}
 use Rattle.group.proofs.AnswerSizes.{details-are}
 use Rattle.table.specs.Table.{cell, ended}
@@ -84,7 +84,7 @@ module _ (sent : List ℕ) (from k : ℕ) where
   verdict-put xs out at n v e l o =
       (o ∙ ap (λ (z : List ℕ). put xs at (ended z)) (sym e), ap (λ (m : ℕ). at + m) (sym (ap (λ (z : List ℕ). length (ended z)) e ∙ l)))
 
--- a part of a list, a comma or byte 10 after it
+-- a part of a list, a comma or byte 10 recordsAfter it
 pub field-put : (xs o₁ o₂ src : List ℕ) (at from n : ℕ) → at ≤ length xs → from + n ≤ length src → o₁ ≡ put xs at (part src from n)
     → o₂ ≡ put o₁ (at + n) (text ",") → o₂ ≡ put xs at (cell (part src from n))
 unfolding cell
@@ -174,11 +174,11 @@ answer-short b k = go (isAcf b)
     go false = omega arith
 
 -- ---- the group of record i of n, by the number of its details
-group-is : (s : List ℕ) (i n k : ℕ) → k ≡ leading (after s i n) → groupFrom s i k ≡ groupAt s i n
+group-is : (s : List ℕ) (i n k : ℕ) → k ≡ leading (recordsAfter s i n) → groupFrom s i k ≡ groupAt s i n
 unfolding groupAt
 group-is s i n k e = ap (λ (ds : List (List ℕ)). record { header = recordAt s i; details = ds }) (sym (details-are s i n k e))
 
-pub turn-is : (s sent : List ℕ) (i n : ℕ) (xs out : List ℕ) (end from k end′ from′ : ℕ) → k ≡ leading (after s i n)
+pub turn-is : (s sent : List ℕ) (i n : ℕ) (xs out : List ℕ) (end from k end′ from′ : ℕ) → k ≡ leading (recordsAfter s i n)
     → out ≡ put xs end (readLine (drop from sent) (groupFrom s i k)) → end′ ≡ end + length (readLine (drop from sent) (groupFrom s i k))
     → from′ ≡ from + answerLong (drop from sent) k
     → (out ≡ put xs end (readLine (drop from sent) (groupAt s i n)))

@@ -30,8 +30,8 @@ use Rattle.journal.specs.declared.Body.{Body}
 use Rattle.journal.specs.declared.Body.the-variants as body
 use Rattle.journal.specs.declared.Head.the-variants.{Cut, Bad, Whole}
 use Rattle.journal.specs.Entries.{digitsIn, freshBody, requestBody, cancelBody, closeBody, bodyOf, goodLength, freshTaken, headOf}
-use Rattle.journal.specs.Journal.{Parsed, Entry, parse, made}
-use Rattle.journal.specs.Made.{madeIn}
+use Rattle.journal.specs.Journal.{Parsed, Entry, parse, afterEntry}
+use Rattle.journal.specs.EntryCalls.{entryCalled}
 use Rattle.journal.proofs.HeadLaws.{tagIn, lengthIn, whole-is, whole-holds, whole-bytes}
 use Rattle.journal.proofs.JournalLaws.{parse-cut, parse-bad, parse-whole}
 use Rattle.journal.proofs.BeginLaws.{whole-taken}
@@ -45,7 +45,7 @@ module _ (l : Ledger) (h : soundLedger l ≡ true) where
   unfolding eachCalled outcomes
   call-answer c = let e = runs l h (c ∷ []) .answers in cc
 
-  pub answer-in : (b : Body) (bytes : List ℕ) → Taken b → madeIn 64200 l b bytes .answer ≡ entryAnswer (book l) b bytes
+  pub answer-in : (b : Body) (bytes : List ℕ) → Taken b → entryCalled 64200 l b bytes .answer ≡ entryAnswer (book l) b bytes
   unfolding entryAnswer freshCalled freshBy
   answer-in (body.Fresh s) bytes t = rw t
   answer-in (body.Request r) bytes t = call-answer (request r 64200)
@@ -147,18 +147,18 @@ module _ (l : Ledger) (h : soundLedger l ≡ true) (seen number : ℕ) (s : List
     bytes = part s 3 (n - 3)
 
     pub trace-more : ahead
-        ≡ callLine number (tagIn s) (madeIn 64200 l b bytes .answer)
+        ≡ callLine number (tagIn s) (entryCalled 64200 l b bytes .answer)
         ++ linesUnder (book l) b bytes
-        ++ traceLines (number + 1) (book (madeIn 64200 l b bytes .ledger)) (parse (seen + 1) (drop n s) .entries)
+        ++ traceLines (number + 1) (book (entryCalled 64200 l b bytes .ledger)) (parse (seen + 1) (drop n s) .entries)
     unfolding traceLines entryLines
     trace-more =
         let rest : List Entry = parse (seen + 1) (drop n s) .entries in
         let t : Taken b = whole-taken seen s b n e in
         let under : List ℕ = linesUnder (book l) b bytes in
         ap (λ (p : Parsed). traceLines number (book l) (p .entries)) (parse-whole seen s b n e)
-        ∙ ap (λ (m : ℕ). callLine number m (entryAnswer (book l) b bytes) ++ under ++ traceLines (number + 1) (made b bytes (book l)) rest) (tag-is seen s b n e)
-        ∙ ap (λ (a : Answer). callLine number (tagIn s) a ++ under ++ traceLines (number + 1) (made b bytes (book l)) rest) (sym (answer-in l h b bytes t))
-        ∙ ap (λ (k : Book). callLine number (tagIn s) (madeIn 64200 l b bytes .answer) ++ under ++ traceLines (number + 1) k rest) (sym (made-book l h b bytes t))
+        ∙ ap (λ (m : ℕ). callLine number m (entryAnswer (book l) b bytes) ++ under ++ traceLines (number + 1) (afterEntry b bytes (book l)) rest) (tag-is seen s b n e)
+        ∙ ap (λ (a : Answer). callLine number (tagIn s) a ++ under ++ traceLines (number + 1) (afterEntry b bytes (book l)) rest) (sym (answer-in l h b bytes t))
+        ∙ ap (λ (k : Book). callLine number (tagIn s) (entryCalled 64200 l b bytes .answer) ++ under ++ traceLines (number + 1) k rest) (sym (made-book l h b bytes t))
 
 -- what was put at the start of a list begins it: the answers that a file's call wrote at the start of its output
 pub put-begins : (xs ys : List ℕ) → put xs 0 ys ≡ ys ++ drop (0 + length ys) xs

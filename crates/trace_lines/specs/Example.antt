@@ -32,13 +32,13 @@ exampleTrace =
     ++ ended (text "0000000003,file,00,00000000000004250,001,000,000")
     ++ ended (text "group,000000002,123456780019,0007,RSP,ACF")
 
-abbrev pub Example : Type 0
-Example = traceOf exampleJournal ≡ exampleTrace
+abbrev pub ExampleTrace : Type 0
+ExampleTrace = traceOf exampleJournal ≡ exampleTrace
 
 -- ---- a journal with rejected groups, refused calls and negative changes
 -- the same with another charge, and a SUP
-abbrev replaced : Sent
-replaced =
+abbrev replacement : Sent
+replacement =
     record { sup = false; tracking = 1; sequence = 1; first = 60; second = 25; charge = 4000; applied = 0; owed = 0 }
 
 abbrev supplement : Sent
@@ -54,7 +54,7 @@ mixedJournal =
     ++ sent (response ∷ supplement ∷ [])
     ++ (2 ∷ 3 ∷ 195 ∷ [])
     ++ sentHeader response
-    ++ sent (replaced ∷ [])
+    ++ sent (replacement ∷ [])
     ++ (4 ∷ 0 ∷ 8 ∷ [])
     ++ text "20171117"
     ++ (3 ∷ 0 ∷ 16 ∷ [])
@@ -88,5 +88,5 @@ Mixed = traceOf mixedJournal ≡ mixedTrace
 abbrev pub refusedFresh : List ℕ
 refusedFresh = (0 ∷ 0 ∷ 26 ∷ []) ++ text "20171132000000001000000001"
 
-abbrev pub Empty : Type 0
-Empty = (traceOf [] ≡ ended (text "stopped,13")) × (traceOf refusedFresh ≡ ended (text "stopped,13"))
+abbrev pub EmptyTrace : Type 0
+EmptyTrace = (traceOf [] ≡ ended (text "stopped,13")) × (traceOf refusedFresh ≡ ended (text "stopped,13"))

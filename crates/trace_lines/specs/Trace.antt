@@ -11,7 +11,7 @@ use Rattle.calls.specs.Machine.{step, answerBy}
 use Rattle.calls.specs.Days.{quietAnswer}
 use Rattle.journal.specs.declared.Body.{Body}
 use Rattle.journal.specs.declared.Body.the-variants as body
-use Rattle.journal.specs.Journal.{Entry, parse, made, noBook, isBad}
+use Rattle.journal.specs.Journal.{Entry, parse, afterEntry, firstBook, isBad}
 use Rattle.trace_lines.specs.Lines.{entryLine, groupLines}
 
 -- what a call answers on a ledger, by the machine
@@ -44,8 +44,8 @@ entryLines k number e =
 -- those of entries in order
 unfoldable pub traceLines : ℕ → Book → List Entry → List ℕ
 traceLines number k [] = []
-traceLines number k (e ∷ es) = entryLines k number e ++ traceLines (number + 1) (made (e .body) (e .bytes) k) es
+traceLines number k (e ∷ es) = entryLines k number e ++ traceLines (number + 1) (afterEntry (e .body) (e .bytes) k) es
 
 -- the trace of a journal: "A bad entry (or an entry cut short, or an empty journal, or a refused fresh) ends the lines with `stopped,13`."
 unfoldable pub traceOf : List ℕ → List ℕ
-traceOf s = traceLines 1 noBook (parse 0 s .entries) ++ stopLine (isBad s)
+traceOf s = traceLines 1 firstBook (parse 0 s .entries) ++ stopLine (isBad s)

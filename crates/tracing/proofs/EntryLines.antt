@@ -26,7 +26,7 @@ use Rattle.journal.specs.declared.Body.{Body}
 use Rattle.journal.specs.declared.Body.the-variants as body
 use Rattle.journal.specs.declared.Head.the-variants.{Cut, Bad, Whole}
 use Rattle.journal.specs.Entries.{bodyOf, headOf}
-use Rattle.journal.specs.Made.{madeIn, writtenIn}
+use Rattle.journal.specs.EntryCalls.{entryCalled, entryWritten}
 use Rattle.journal.proofs.HeadLaws.{tagIn, whole-fits, whole-small, whole-holds, whole-bytes}
 use Rattle.journal.proofs.BeginLaws.{whole-taken}
 use Rattle.entries.specs.declared.entry.Stepped.{Stepped}
@@ -69,7 +69,7 @@ module _ (number : ℕ) (src : List ℕ) (n : ℕ) (a : Answer) (seen : ℕ) (l 
   abbrev first-line : List ℕ
   first-line = callLine number (tagIn src) a
 
-  module _ (b : Body) (e : headOf seen src ≡ Whole b n) (q : a ≡ madeIn 64200 l b bytes .answer) where
+  module _ (b : Body) (e : headOf seen src ≡ Whole b n) (q : a ≡ entryCalled 64200 l b bytes .answer) where
     answered : a ≡ entryAnswer (book l) b bytes
     answered = q ∙ answer-in l h b bytes (whole-taken seen src b n e)
 
@@ -88,7 +88,7 @@ module _ (number : ℕ) (src : List ℕ) (n : ℕ) (a : Answer) (seen : ℕ) (l 
     is-file t = whole-holds seen src b n e ∙ ap (λ (tag : ℕ). bodyOf tag bytes) (eqb-true (tagIn src) 2 t)
 
   -- a file that was carried out
-  module _ (e : headOf seen src ≡ Whole body.File n) (q : a ≡ madeIn 64200 l body.File bytes .answer) (d : isDone a ≡ true) where
+  module _ (e : headOf seen src ≡ Whole body.File n) (q : a ≡ entryCalled 64200 l body.File bytes .answer) (d : isDone a ≡ true) where
     abbrev gs : List Group
     gs = groups (recordsFrom bytes 0 ((n - 3) / 321))
 
@@ -103,7 +103,7 @@ module _ (number : ℕ) (src : List ℕ) (n : ℕ) (a : Answer) (seen : ℕ) (l 
     unfolding entryAnswer
     out-of = carried (book l) bytes a (sym (answered body.File e q)) d
 
-    begins : writtenIn 64200 l body.File bytes ≡ answers [] (book l) gs
+    begins : entryWritten 64200 l body.File bytes ≡ answers [] (book l) gs
     begins =
         ap (λ (o : Outcome). o .written) (step-in l (file bytes 64200) h)
         ∙ out-of .written
@@ -117,7 +117,7 @@ module _ (number : ℕ) (src : List ℕ) (n : ℕ) (a : Answer) (seen : ℕ) (l 
         (out-of .lines ∙ ap (λ (x : List Group). groupLines (book l .confirmation) x (verdicts [] (book l) x)) groups-are))
 
     pub file-lines : (sent rest out₀ out₁ out : List ℕ) (at end r : ℕ) → at ≤ length out₀
-        → sent ≡ writtenIn 64200 l body.File bytes ++ rest
+        → sent ≡ entryWritten 64200 l body.File bytes ++ rest
         → out₁ ≡ put out₀ at first-line → end ≡ at + length first-line → Lined gs sent out₁ end out r
         → (out ≡ put out₀ at (entryLines (book l) number (entryAt src body.File n)))
         × (r ≡ at + length (entryLines (book l) number (entryAt src body.File n)))
@@ -151,7 +151,7 @@ module _ (number : ℕ) (src : List ℕ) (n : ℕ) (a : Answer) (sent out₀ : L
         lines =
             λ seen l b rest e h q w.
             subst
-            (λ (x : Body). headOf seen src ≡ Whole x n → a ≡ madeIn 64200 l x (part src 3 (n - 3)) .answer → sent ≡ writtenIn 64200 l x (part src 3 (n - 3)) ++ rest
+            (λ (x : Body). headOf seen src ≡ Whole x n → a ≡ entryCalled 64200 l x (part src 3 (n - 3)) .answer → sent ≡ entryWritten 64200 l x (part src 3 (n - 3)) ++ rest
             → (out ≡ put out₀ at (entryLines (book l) number (entryAt src x n))) × (r ≡ at + length (entryLines (book l) number (entryAt src x n))))
             (sym (is-file number src n a seen l h b e q (t .0)))
             (λ e′ q′ w′. file-lines number src n a seen l h e′ q′ (sym z ∙ t .1) sent rest out₀ out₁ out at end r fits w′ o i g)
@@ -179,7 +179,7 @@ module _ (seen : ℕ) (src ws₀ o₀ ws o : List ℕ) (r : Stepped) (x : Steppe
     entry-made h m a q out end p =
         let w = stood-whole true 0 seen src ws₀ o₀ ws o r x m a q in
         let y = w .2 in
-        let s : List ℕ = writtenIn 64200 (ledgerOf ws₀) (w .0) (part src 3 (m - 3)) in
+        let s : List ℕ = entryWritten 64200 (ledgerOf ws₀) (w .0) (part src 3 (m - 3)) in
         let g = p .lines seen (ledgerOf ws₀) (w .0) (drop (0 + length s) o₀) (w .1) h (y .answer) (y .bytes ∙ put-begins o₀ s) in
         rw (w .1)
         (end, refl, record { sound = y .sound; ledger = y .ledger; bytes = g .0; long = g .1; within = p .within })

@@ -17,7 +17,7 @@ use Rattle.journal.specs.declared.Body.{Body}
 use Rattle.journal.specs.declared.Head.{Head}
 use Rattle.journal.specs.declared.Head.the-variants.{Cut, Bad, Whole}
 use Rattle.journal.specs.Entries.{headOf}
-use Rattle.journal.specs.Journal.{Entry, parse, made, makes}
+use Rattle.journal.specs.Journal.{Entry, parse, afterEntry, afterEntries}
 use Rattle.journal.proofs.JournalLaws.{parse-cut, parse-bad}
 use Rattle.entries.specs.parts.Running.{entryAt, ranTo}
 use Rattle.entries.proofs.FirstMadeLaws.{first-none, left-full, left-none, next-fits, first-more}
@@ -28,16 +28,16 @@ use Rattle.tracing.specs.parts.Tracing.{EntryMade, EntryOn, EntryIn, Tra
 
 -- ---- entries one after another
 pub lines-append : (number : ℕ) (k : Book) (es fs : List Entry)
-    → traceLines number k (es ++ fs) ≡ traceLines number k es ++ traceLines (number + length es) (makes k es) fs
-unfolding traceLines makes
+    → traceLines number k (es ++ fs) ≡ traceLines number k es ++ traceLines (number + length es) (afterEntries k es) fs
+unfolding traceLines afterEntries
 lines-append number k [] fs = ap (λ (i : ℕ). traceLines i k fs) (sym (add-zero number))
 lines-append number k (e ∷ es) fs =
     let w = entryLines k number e in
-    let j = made (e .body) (e .bytes) k in
+    let j = afterEntry (e .body) (e .bytes) k in
     let i : number + 1 + length es ≡ number + suc (length es) = omega arith in
     ap (λ (x : List ℕ). w ++ x) (lines-append (number + 1) j es fs)
-    ∙ sym (append-assoc w (traceLines (number + 1) j es) (traceLines (number + 1 + length es) (makes j es) fs))
-    ∙ ap (λ (x : ℕ). (w ++ traceLines (number + 1) j es) ++ traceLines x (makes j es) fs) i
+    ∙ sym (append-assoc w (traceLines (number + 1) j es) (traceLines (number + 1 + length es) (afterEntries j es) fs))
+    ∙ ap (λ (x : ℕ). (w ++ traceLines (number + 1) j es) ++ traceLines x (afterEntries j es) fs) i
 
 pub rest-is : (src : List ℕ) (at : ℕ) → take (length src - at) (drop at src) ≡ drop at src
 rest-is src at = take-all (length src - at) (drop at src) (omega (arith, length-drop at src))

@@ -4,6 +4,7 @@ use mathlib.Core.Bool.{Bool, cond, not, _&&_, _||_}
 use mathlib.Core.List.{List, [], _∷_}
 use lib.Dec.{leb, eqb}
 use lib.ListN.{getD}
+use Rattle.units.specs.declared.Date.{Date}
 
 -- yyyy, mm and dd of yyyymmdd
 abbrev pub year : ℕ → ℕ
@@ -30,3 +31,7 @@ monthDays y m = getD (months (cond (isLeap y) 29 28)) m 0
 -- d is yyyymmdd of a date in the years 1900 to 2999
 unfoldable pub isDate : ℕ → Bool
 isDate d = leb 1900 (year d) && leb (year d) 2999 && leb 1 (day d) && leb (day d) (monthDays (year d) (month d))
+
+-- the date of yyyymmdd
+abbrev pub dateOf : ℕ → Date
+dateOf n = record { 0 = n }

@@ -13,8 +13,8 @@ use Rattle.fields.proofs.PutLaws.{first, next}
 use Rattle.fields.proofs.BoolLaws.{and-left, and-right}
 use Rattle.ledger.specs.declared.Bill.{Bill}
 use Rattle.ledger.specs.declared.Ledger.{Ledger}
-use Rattle.words.specs.Layout.{termsWords, latestWords, postedWords}
-use Rattle.words.specs.Layout.{billWords, billsWords, headWords, ledgerWords, holdsBill, holdsBills, date, billIn, billsIn, ledgerIn}
+use Rattle.words.specs.Layout.{termsWords, latestWords, postedWords, billWords, billsWords, headWords, ledgerWords, holdsBill, holdsBills, billIn, billsIn, ledgerIn}
+use Rattle.units.specs.Calendar.{dateOf}
 use Rattle.words.proofs.WordLaws.{length-posted, length-bill, length-bills}
 
 -- what a part that reaches to the end holds
@@ -68,7 +68,7 @@ in-suc (suc i) ws =
 -- l has the four words' fields and, in its first i places, the bills of the first i places of the words
 pub record Built (ws : List ℕ) (l : Ledger) (i : ℕ) : Type 0 where
   pub within : i ≤ 128
-  pub today : l .today ≡ date (getD ws 0 0)
+  pub today : l .today ≡ dateOf (getD ws 0 0)
   pub tracking : l .«next_tracking» ≡ getD ws 1 0
   pub confirmation : l .«next_confirmation» ≡ getD ws 2 0
   pub count : l .count ≡ getD ws 3 0

@@ -16,11 +16,9 @@ use Rattle.ledger.specs.declared.Posted.the-variants as posted
 use Rattle.ledger.specs.declared.Bill.{Bill}
 use Rattle.ledger.specs.declared.Ledger.{Ledger}
 use Rattle.rules.specs.Lists.{every}
-use Rattle.ledger.specs.Bills.{productByte}
+use Rattle.ledger.specs.Bills.{productByte, productOf}
 use Rattle.ledger.specs.Sound.{soundLedger}
-use Rattle.words.specs.Layout.{markWord, postedWords, termsWords, billWords, billsWords, headWords, ledgerWords}
-use Rattle.words.specs.Layout.{holdsPosted, holdsCode, holdsBill, holdsBills, holdsLedger}
-use Rattle.words.specs.Layout.{productIn, postedIn, codeIn, termsIn, billIn, billsIn, ledgerIn, noLedger, ledgerOf, byteCode}
+use Rattle.words.specs.Layout.{markWord, postedWords, termsWords, billWords, billsWords, headWords, ledgerWords, holdsPosted, holdsCode, holdsBill, holdsBills, holdsLedger, postedIn, codeIn, termsIn, billIn, billsIn, ledgerIn, noLedger, ledgerOf, byteCode}
 
 -- ---- one place
 -- n elements from index i on, one by one
@@ -34,7 +32,7 @@ reads-part (suc n) i ws h =
     ap (λ (xs : List ℕ). getD ws i 0 ∷ xs) (reads-part n (suc i) ws (omega arith))
     ∙ ap (take (suc n)) (sym (drop-cons ws i 0 (omega arith)))
 
-product-word : (w : ℕ) → (eqb w 66 || eqb w 80) ≡ true → productByte (productIn w) ≡ w
+product-word : (w : ℕ) → (eqb w 66 || eqb w 80) ≡ true → productByte (productOf w) ≡ w
 product-word w h =
     cases (eqb w 80) (λ e. rw e (sym (eqb-true w 80 e)))
     (λ e. cases (eqb w 66) (λ f. rw e (sym (eqb-true w 66 f))) (λ f. absurd (false≢true (rw (f, e) at h))))
@@ -123,7 +121,7 @@ unfolding billWords termsWords
 length-bill b = rw (length-posted (b .posted))
 
 -- the bill of a bill's words is the bill
-product-in : (p : Product) → productIn (productByte p) ≡ p
+product-in : (p : Product) → productOf (productByte p) ≡ p
 product-in product.BillReady = refl
 product-in product.Prepay = refl
 

@@ -7,9 +7,8 @@ use mathlib.Core.Bool.{Bool, true, cond, _&&_, _||_}
 use mathlib.Core.List.{List, [], _∷_, _++_}
 use lib.Dec.{leb, ltb, eqb}
 use lib.ListN.{length, drop, getD, replicate}
-use Rattle.units.specs.declared.Date.{Date}
+use Rattle.units.specs.Calendar.{dateOf}
 use Rattle.ledger.specs.declared.RateCode.{RateCode}
-use Rattle.ledger.specs.declared.Product.{Product}
 use Rattle.ledger.specs.declared.Product.the-variants as product
 use Rattle.ledger.specs.declared.Posted.{Posted}
 use Rattle.ledger.specs.declared.Posted.the-variants as posted
@@ -17,7 +16,7 @@ use Rattle.ledger.specs.declared.Latest.{Latest}
 use Rattle.ledger.specs.declared.Terms.{Terms}
 use Rattle.ledger.specs.declared.Bill.{Bill}
 use Rattle.ledger.specs.declared.Ledger.{Ledger}
-use Rattle.ledger.specs.Bills.{productByte, cents, blankBill}
+use Rattle.ledger.specs.Bills.{productByte, cents, blankBill, productOf}
 
 -- ---- the sizes: the words before the first place, those of a place, the places, and the words of a ledger
 abbrev pub headerSize : ℕ
@@ -108,14 +107,6 @@ unfoldable pub holdsLedger : List ℕ → Bool
 holdsLedger ws = eqb (length ws) ledgerSize && holdsBills ledgerPlaces (drop headerSize ws)
 
 -- ---- the ledger whose words they are
--- the date of a word
-abbrev pub date : ℕ → Date
-date n = record { 0 = n }
-
--- 80 is P, 66 is B
-abbrev pub productIn : ℕ → Product
-productIn w = cond (eqb w 80) product.Prepay product.BillReady
-
 -- the posted amounts of a kind, a charge, an applied and an owed amount
 abbrev pub postedIn : ℕ → ℕ → ℕ → ℕ → Posted
 postedIn kind charge applied owed =
@@ -129,9 +120,9 @@ latestIn ws =
     record {
       tracking = getD ws 10 0;
       consumption = record { 0 = getD ws 11 0 };
-      billing = date (getD ws 12 0);
-      from = date (getD ws 13 0);
-      scheduled = date (getD ws 14 0);
+      billing = dateOf (getD ws 12 0);
+      from = dateOf (getD ws 13 0);
+      scheduled = dateOf (getD ws 14 0);
     }
 
 -- words 2 to 5 of a place
@@ -144,7 +135,7 @@ termsIn ws =
     record {
       identity = record { account = getD ws 0 0; key = getD ws 1 0 };
       code = codeIn ws;
-      product = productIn (getD ws 6 0);
+      product = productOf (getD ws 6 0);
       sequence = getD ws 7 0;
       requests = getD ws 8 0;
       cancelled = eqb (getD ws 9 0) 1;
@@ -165,7 +156,7 @@ billsIn (suc n) ws = billIn ws ∷ billsIn n (drop placeSize ws)
 unfoldable pub ledgerIn : List ℕ → Ledger
 ledgerIn ws =
     record {
-      today = date (getD ws 0 0);
+      today = dateOf (getD ws 0 0);
       «next_tracking» = getD ws 1 0;
       «next_confirmation» = getD ws 2 0;
       count = getD ws 3 0;
@@ -174,7 +165,7 @@ ledgerIn ws =
 
 -- a ledger that is not sound: its count is past the 128 places, so every call answers 2
 unfoldable pub noLedger : Ledger
-noLedger = record { today = date 0; «next_tracking» = 0; «next_confirmation» = 0; count = 129; bills = replicate ledgerPlaces blankBill }
+noLedger = record { today = dateOf 0; «next_tracking» = 0; «next_confirmation» = 0; count = 129; bills = replicate ledgerPlaces blankBill }
 
 -- any words at all give a ledger, or one that is not sound
 unfoldable pub ledgerOf : List ℕ → Ledger

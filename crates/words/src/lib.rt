@@ -5,7 +5,9 @@ ghost use Prim.Native.Nat.{_+_, _≤_, _<_};
 ghost use lib.ListN.{length, drop};
 ghost use Rattle.fields.specs.Put.{put};
 ghost use Rattle.ledger.specs.Books.{emptyLedger};
-ghost use Rattle.words.specs.Layout.{placeSize, ledgerSize, markWord, termsWords, latestWords, postedWords, billWords, ledgerWords, holdsCode, holdsPosted, holdsBill, holdsLedger, productIn, postedIn, codeIn, latestIn, termsIn, billIn, ledgerOf, date};
+ghost use Rattle.words.specs.Layout.{placeSize, ledgerSize, markWord, termsWords, latestWords, postedWords, billWords, ledgerWords, holdsCode, holdsPosted, holdsBill, holdsLedger, postedIn, codeIn, latestIn, termsIn, billIn, ledgerOf};
+ghost use Rattle.ledger.specs.Bills.{productOf};
+ghost use Rattle.units.specs.Calendar.{dateOf};
 use ledger::Bill;
 use ledger::Identity;
 use ledger::Latest;
@@ -73,7 +75,7 @@ pub fn fits(words: &[u64]) -> bool
 // ---- the ledger whose words they are
 // B or P.
 fn product_in(w: u64) -> Product
-    ensures { λ r. ⌜ r ≡ productIn w ⌝ }
+    ensures { λ r. ⌜ r ≡ productOf w ⌝ }
 {
     if w == 80 {
         return Product::Prepay;
@@ -262,8 +264,8 @@ pub fn put_bill(words: &mut [u64], at: usize, b: Bill)
 // Writes the words of a ledger with no bills, which read back as that ledger; none is made.
 pub fn write_empty(words: &mut [u64], today: u64, tracking: u64, confirmation: u64)
     requires { ⌜ length (now words) ≡ ledgerSize ⌝ }
-    ensures { λ _. ⌜ now (words .exit) ≡ ledgerWords (emptyLedger (date today) tracking confirmation) ⌝ }
-    ensures { λ _. ⌜ ledgerOf (now (words .exit)) ≡ emptyLedger (date today) tracking confirmation ⌝ }
+    ensures { λ _. ⌜ now (words .exit) ≡ ledgerWords (emptyLedger (dateOf today) tracking confirmation) ⌝ }
+    ensures { λ _. ⌜ ledgerOf (now (words .exit)) ≡ emptyLedger (dateOf today) tracking confirmation ⌝ }
 {
     words[0] = today;
     words[1] = tracking;

@@ -26,9 +26,9 @@ CanRenew (At p) b = (b .terms .requests ≤ b .terms .sequence) × (b .terms .se
 CanRenew Nothing b = Unit {0}
 
 -- the bill as a request leaves it: "A new identity is added .. A known one takes the new values"
-abbrev pub askedBy : Request → ℕ → Found → Bill → Bill
-askedBy r tracking Nothing b = newBill r tracking
-askedBy r tracking (At p) b = renewed (latestOf r tracking) b
+abbrev pub requestedBy : Request → ℕ → Found → Bill → Bill
+requestedBy r tracking Nothing b = newBill r tracking
+requestedBy r tracking (At p) b = renewed (latestOf r tracking) b
 
 -- one bill more, where none was found
 abbrev pub grown : Found → ℕ → ℕ
@@ -40,16 +40,16 @@ abbrev pub usedBy : LedgerHeader → ℕ → LedgerHeader
 usedBy h n = record { today = h .today; tracking = h .tracking + 1; confirmation = h .confirmation + 1; count = n }
 
 -- what the check came to, with the header and the bill that are left: as they were, where there is a cause
-abbrev pub decided : Check → LedgerHeader → Bill → Decision
-decided k h b = record { check = k; update = record { header = h; bill = b } }
+abbrev pub decision : Check → LedgerHeader → Bill → Decision
+decision k h b = record { check = k; update = record { header = h; bill = b } }
 
 abbrev pub requestBy : Check → Request → LedgerHeader → Found → Bill → Decision
-requestBy Clear r h f b = decided Clear (usedBy h (grown f (h .count))) (askedBy r (h .tracking) f b)
-requestBy (Stop n) r h f b = decided (Stop n) h b
+requestBy Clear r h f b = decision Clear (usedBy h (grown f (h .count))) (requestedBy r (h .tracking) f b)
+requestBy (Stop n) r h f b = decision (Stop n) h b
 
 abbrev pub cancelBy : Check → LedgerHeader → Bill → Decision
-cancelBy Clear h b = decided Clear (usedBy h (h .count)) (cancelledBill b)
-cancelBy (Stop n) h b = decided (Stop n) h b
+cancelBy Clear h b = decision Clear (usedBy h (h .count)) (cancelledBill b)
+cancelBy (Stop n) h b = decision (Stop n) h b
 
 -- the consumption before a request, 0 on the first
 abbrev pub previousBy : Found → Bill → Ccf

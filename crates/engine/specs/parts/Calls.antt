@@ -5,7 +5,7 @@ use mathlib.Core.Bool.{Bool, true}
 use mathlib.Core.List.{List}
 use Rattle.fields.specs.Put.{put}
 use Rattle.words.specs.Layout.{holdsLedger, ledgerOf}
-use Rattle.group.specs.parts.Turns.{said}
+use Rattle.group.specs.parts.Turns.{ifWritten}
 use Rattle.causes.specs.Causes.{Call}
 use Rattle.calls.specs.declared.Answer.{Answer}
 use Rattle.calls.specs.declared.Answer.the-variants as answer
@@ -17,4 +17,4 @@ pub record CalledIn (writes : Bool) (c : Call) (ws₀ out₀ ws out : List ℕ) 
   pub holds : holdsLedger ws ≡ true
   pub ledger : ledgerOf ws ≡ called (ledgerOf ws₀) c .ledger
   pub answer : a ≡ called (ledgerOf ws₀) c .answer
-  pub bytes : out ≡ put out₀ 0 (said writes (stepIn (ledgerOf ws₀) c .written))
+  pub bytes : out ≡ put out₀ 0 (ifWritten writes (stepIn (ledgerOf ws₀) c .written))

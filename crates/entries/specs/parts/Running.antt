@@ -9,9 +9,9 @@ use Rattle.fields.specs.Put.{put, part}
 use Rattle.ledger.specs.Books.{book}
 use Rattle.ledger.specs.Sound.{soundLedger}
 use Rattle.words.specs.Layout.{ledgerOf}
-use Rattle.group.specs.parts.Turns.{said}
-use Rattle.journal.specs.Journal.{Entry, Parsed, parse, makes}
-use Rattle.journal.specs.Made.{madeAll, noticesOf}
+use Rattle.group.specs.parts.Turns.{ifWritten}
+use Rattle.journal.specs.Journal.{Entry, Parsed, parse, afterEntries}
+use Rattle.journal.specs.EntryCalls.{ledgerAfterEntries, noticesOf}
 use Rattle.journal.specs.declared.Body.{Body}
 use Rattle.entries.specs.declared.run.Ran.{Ran}
 
@@ -31,8 +31,8 @@ pub record FirstMade (seen : ℕ) (src ws₀ ws : List ℕ) (at k : ℕ) (done :
   pub sound : soundLedger (ledgerOf ws) ≡ true
   pub used : at ≤ length src
   pub parsed : parse seen src ≡ behind done (parse k (drop at src))
-  pub ledger : ledgerOf ws ≡ madeAll (ledgerOf ws₀) done
-  pub books : book (ledgerOf ws) ≡ makes (book (ledgerOf ws₀)) done
+  pub ledger : ledgerOf ws ≡ ledgerAfterEntries (ledgerOf ws₀) done
+  pub books : book (ledgerOf ws) ≡ afterEntries (book (ledgerOf ws₀)) done
   pub count : k ≡ seen + length done
 
 -- no entry is left unless the output is full, and then no bad one was met
@@ -47,7 +47,7 @@ pub record RanIn (seen : ℕ) (writes : Bool) (src ws₀ out₀ ws out : List �
   pub done : List Entry
   pub made : FirstMade seen src ws₀ ws (r .used) (r .seen) done
   pub kept : length out ≡ length out₀
-  pub bytes : out ≡ put out₀ 0 (said writes (noticesOf (book (ledgerOf ws₀)) done))
+  pub bytes : out ≡ put out₀ 0 (ifWritten writes (noticesOf (book (ledgerOf ws₀)) done))
   pub written : r .written ≡ length (noticesOf (book (ledgerOf ws₀)) done)
   pub within : writes ≡ true → r .written ≤ length out₀
   pub full : r .full ≡ (writes && ltb (length out₀ - r .written) 64200)

@@ -5,13 +5,13 @@ use native.Mathlib.Omega.{arith}
 use borrow.Author.Needs.{needs}
 use Rattle.records.specs.Layout.{recordsFrom}
 use Rattle.file.specs.File.{leading}
-use Rattle.file.specs.parts.Walk.{after}
+use Rattle.file.specs.parts.Walk.{recordsAfter}
 use Rattle.file.proofs.FileLaws.{leading-header, leading-detail, leading-end}
 use Rattle.file.proofs.detail_count.Statement.{statement}
 use Rattle.file.proofs.detail_count.Tie as tie
 
 abbrev Inv-loop : tie.InvT-loop
-Inv-loop s i n j₀ j = (i + 1 ≤ j) × (j ≤ n) × (leading (after s i n) ≡ j - (i + 1) + leading (recordsFrom s j (n - j)))
+Inv-loop s i n j₀ j = (i + 1 ≤ j) × (j ≤ n) × (leading (recordsAfter s i n) ≡ j - (i + 1) + leading (recordsFrom s j (n - j)))
 
 abbrev μ-loop : tie.MeasureT-loop
 μ-loop s i n j₀ j = n - j

@@ -8,21 +8,21 @@ use Rattle.file.specs.File.{isHeader, Group, leading, groups, unfit, pas
 use Rattle.file.specs.declared.Form.{Form}
 use Rattle.file.specs.declared.Form.the-variants.{Broken, Unknown, Response, Supplement}
 
--- the records of a file of n after record i
-abbrev pub after : List ℕ → ℕ → ℕ → List (List ℕ)
-after s i n = recordsFrom s (i + 1) (n - (i + 1))
+-- the records of a file of n recordsAfter record i
+abbrev pub recordsAfter : List ℕ → ℕ → ℕ → List (List ℕ)
+recordsAfter s i n = recordsFrom s (i + 1) (n - (i + 1))
 
 -- the group whose header is record i
 unfoldable pub groupAt : List ℕ → ℕ → ℕ → Group
-groupAt s i n = record { header = recordAt s i; details = take (leading (after s i n)) (after s i n) }
+groupAt s i n = record { header = recordAt s i; details = take (leading (recordsAfter s i n)) (recordsAfter s i n) }
 
--- the groups whose headers stand before record i, and those after it
+-- the groups whose headers stand before record i, and those recordsAfter it
 unfoldable pub before : List ℕ → ℕ → ℕ → List Group
 before s n zero = []
 before s n (suc i) = before s n i ++ cond (isHeader (recordAt s i)) (groupAt s i n ∷ []) []
 
 abbrev pub later : List ℕ → ℕ → ℕ → List Group
-later s n i = groups (after s i n)
+later s n i = groups (recordsAfter s i n)
 
 -- line 3 for the group whose header is record i, if it passes lines 1 and 2
 unfoldable pub markAt : List ℕ → ℕ → ℕ → Bool

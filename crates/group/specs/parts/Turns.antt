@@ -16,7 +16,7 @@ use Rattle.rules.specs.declared.Found.the-variants as found
 use Rattle.ledger.specs.Bills.{chargeOf, posting}
 use Rattle.rules.specs.Lists.{every, count}
 use Rattle.ledger.specs.Books.{book, live, stored, placeOf, totalOf, billCharge, smallCharge}
-use Rattle.ledger.specs.parts.Places.{billAt, headerOf, updated, slotOf}
+use Rattle.ledger.specs.parts.Places.{billAt, headerOf, updated, placeFor}
 use Rattle.records.specs.Limits.{fileRecords, fileSize}
 use Rattle.records.specs.Layout.{accountIn, keyIn, recordAt}
 use Rattle.file.specs.File.{Group, asksId}
@@ -27,7 +27,7 @@ use Rattle.verdict.specs.declared.Verdict.{Verdict}
 use Rattle.verdict.specs.declared.Verdict.the-variants.{Accepted, Rejected}
 use Rattle.notices.specs.Answers.{acf, rej}
 use Rattle.group.specs.declared.Tally.{Tally}
-use Rattle.group.specs.declared.Turned.{Turned}
+use Rattle.group.specs.declared.TurnResult.{TurnResult}
 use Rattle.group.specs.Groups.{verdictOn, taken, answers, verdicts, isAccepted, isRejected}
 
 -- ---- the bill that a group names
@@ -45,17 +45,17 @@ soughtBy found.Nothing b = sought.Nothing
 soughtBy (found.At p) b = sought.Bill (b .terms)
 
 -- what a turn asks of a bill that was found: a sound one has it
-unfoldable pub calm : bill.Bill → Bool
-calm b = leb (b .terms .sequence) 999 && smallCharge b
+unfoldable pub inWidths : bill.Bill → Bool
+inWidths b = leb (b .terms .sequence) 999 && smallCharge b
 
-abbrev pub CalmAt : Found → bill.Bill → Type 0
-CalmAt (found.At p) b = calm b ≡ true
-CalmAt found.Nothing b = Unit {0}
+abbrev pub InWidthsAt : Found → bill.Bill → Type 0
+InWidthsAt (found.At p) b = inWidths b ≡ true
+InWidthsAt found.Nothing b = Unit {0}
 
 -- what a walk over a file's groups asks of a ledger: a sound one has it
 pub record Ready (l : Ledger) : Type 0 where
   pub count : l .count ≤ 128
-  pub bills : every calm (live l) ≡ true
+  pub bills : every inWidths (live l) ≡ true
   pub tracking : l .«next_tracking» ≤ 1000000000
   pub confirmation : l .«next_confirmation» ≤ 1000000000
 
@@ -81,8 +81,8 @@ CanPost (Rejected n) b = Unit {0}
 
 -- ---- the answer
 -- the bytes that go out, if notices are written
-abbrev pub said : Bool → List ℕ → List ℕ
-said writes ys = cond writes ys []
+abbrev pub ifWritten : Bool → List ℕ → List ℕ
+ifWritten writes ys = cond writes ys []
 
 unfoldable pub answerAt : Verdict → LedgerHeader → bill.Bill → Group → List ℕ
 answerAt (Accepted amounts) h b g =
@@ -120,7 +120,7 @@ tallied c v b size =
     }
 
 -- within a file there are at most 200 groups
-pub record Few (c : Tally) : Type 0 where
+pub record WithinFile (c : Tally) : Type 0 where
   pub accepted : c .accepted ≤ fileRecords
   pub rejected : c .rejected ≤ fileRecords
   pub written : c .written ≤ fileSize
@@ -128,43 +128,43 @@ pub record Few (c : Tally) : Type 0 where
   pub went : c .went ≤ fileRecords * 10 ^ 13
 
 -- ---- one group's turn: v is its verdict
-pub record TurnedBy (v : Verdict) (g : Group) (h : LedgerHeader) (b : bill.Bill) (c : Tally) (writes : Bool) (out₀ out : List ℕ) (r : Turned) : Type 0 where
+pub record TurnLeaves (v : Verdict) (g : Group) (h : LedgerHeader) (b : bill.Bill) (c : Tally) (writes : Bool) (out₀ out : List ℕ) (r : TurnResult) : Type 0 where
   pub header : r .update .header ≡ headerBy v (asksId g) h
   pub bill : r .update .bill ≡ billBy v (asksId g) b
   pub tally : r .tally ≡ tallied c v b (length (answerAt v h b g))
-  pub bytes : out ≡ put out₀ (c .written) (said writes (answerAt v h b g))
+  pub bytes : out ≡ put out₀ (c .written) (ifWritten writes (answerAt v h b g))
 
 -- ---- the same on a struct, wherever it is held
 -- what a turn asks of it
-pub record Fine (l : Ledger) (c : Tally) : Type 0 where
+pub record FitForTurn (l : Ledger) (c : Tally) : Type 0 where
   pub places : length (l .bills) ≡ 128
   pub count : l .count ≤ 128
-  pub bills : every calm (live l) ≡ true
+  pub bills : every inWidths (live l) ≡ true
   pub tracking : l .«next_tracking» ≤ 1000000200
   pub confirmation : l .«next_confirmation» ≤ 1000000200
-  pub few : Few c
+  pub few : WithinFile c
 
 -- the turn of the group of record i on l: its bill was found, and what the turn left is stored in k
-pub record TurnedOn (s : List ℕ) (i n : ℕ) (duplicate : Bool) (l : Ledger) (c : Tally) (writes : Bool) (out₀ : List ℕ) (k : Ledger) (out : List ℕ) (d : Tally) : Type 0 where
+pub record TurnLeavesOn (s : List ℕ) (i n : ℕ) (duplicate : Bool) (l : Ledger) (c : Tally) (writes : Bool) (out₀ : List ℕ) (k : Ledger) (out : List ℕ) (d : Tally) : Type 0 where
   pub found : Found
   pub place : ℕ
-  pub turned : Turned
+  pub turned : TurnResult
   pub finds : found ≡ placeOf (identityAt s i n) (live l)
-  pub stands : place ≡ slotOf found (l .count)
+  pub stands : place ≡ placeFor found (l .count)
   pub turns :
-      TurnedBy (verdictOn duplicate (l .today) (soughtBy found (billAt l place)) (groupAt s i n)) (groupAt s i n) (headerOf l) (billAt l place) c writes
+      TurnLeaves (verdictOn duplicate (l .today) (soughtBy found (billAt l place)) (groupAt s i n)) (groupAt s i n) (headerOf l) (billAt l place) c writes
       out₀ out turned
   pub ledger : k ≡ updated l place (turned .update)
   pub tally : d ≡ turned .tally
 
 -- ---- a file's groups gs, taken on l: k is the struct now. The ledger, the counts and the bytes are those of the rules, the places past the count are as they were,
 -- and what came and went makes up the change of the total
-pub record TookBy (l : Ledger) (gs : List Group) (writes : Bool) (out₀ : List ℕ) (k : Ledger) (out : List ℕ) (c : Tally) : Type 0 where
+pub record FileTaken (l : Ledger) (gs : List Group) (writes : Bool) (out₀ : List ℕ) (k : Ledger) (out : List ℕ) (c : Tally) : Type 0 where
   pub ledger : k ≡ stored l (taken [] (book l) gs)
   pub accepted : c .accepted ≡ count isAccepted (verdicts [] (book l) gs)
   pub rejected : c .rejected ≡ count isRejected (verdicts [] (book l) gs)
   pub written : c .written ≡ length (answers [] (book l) gs)
-  pub bytes : out ≡ put out₀ 0 (said writes (answers [] (book l) gs))
+  pub bytes : out ≡ put out₀ 0 (ifWritten writes (answers [] (book l) gs))
   pub came : c .came ≤ fileRecords * 10 ^ 13
   pub went : c .went ≤ fileRecords * 10 ^ 13
   pub sums : totalOf (live k) + c .went ≡ totalOf (live l) + c .came

@@ -42,6 +42,6 @@ updated l p u = withHeader (replaced l p (u .bill)) (u .header)
 abbrev pub within : ℕ → ℕ
 within i = cond (ltb i 128) i 127
 
-abbrev pub slotOf : Found → ℕ → ℕ
-slotOf (At p) count = within p
-slotOf Nothing count = within count
+abbrev pub placeFor : Found → ℕ → ℕ
+placeFor (At p) count = within p
+placeFor Nothing count = within count

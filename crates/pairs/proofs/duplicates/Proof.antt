@@ -9,7 +9,7 @@ use borrow.Author.Needs.{needs}
 use lib.ListN.{length, getD, set, length-set}
 use lib.Dec.{eqb}
 use Rattle.file.specs.parts.Walk.{markAt}
-use Rattle.pairs.specs.parts.GroupNumbers.{idAt, slotOf}
+use Rattle.pairs.specs.parts.GroupNumbers.{idAt, numberSlot}
 use Rattle.pairs.proofs.MarkLaws.{matches, mark-hit, mark-miss, mark-none, Marked, marked-stay, marked-set, unmarked, fails-more}
 use Rattle.pairs.proofs.SlotLaws.{meets, unmet, guard-on, guard-off}
 use Rattle.pairs.proofs.duplicates.Statement.{statement}
@@ -92,7 +92,7 @@ loop-again c =
     λ k h. ap₂ (λ (x y : ℕ). eqb x y && not (eqb k i)) (sym (at k h)) (sym (at i (omega arith))) in
     let shared = c .before .before .before .before .shared-slots .result in
     let h = c .before .slot .ensures .0 in
-    let twice : (j : ℕ) → j < n → (j ≡ i → ⊥) → getD id j 0 ≡ getD id i 0 → getD shared (slotOf (getD id i 0)) false ≡ true =
+    let twice : (j : ℕ) → j < n → (j ≡ i → ⊥) → getD id j 0 ≡ getD id i 0 → getD shared (numberSlot (getD id i 0)) false ≡ true =
     λ j l d e. c .before .before .before .before .shared-slots .ensures .1 j i l (omega arith) d e in
     ⊎-elim
     (λ w.

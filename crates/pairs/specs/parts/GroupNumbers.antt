@@ -29,5 +29,5 @@ unfoldable pub idAt : List ℕ → ℕ → ℕ → ℕ
 idAt s n i = cond (isHeader (recordAt s i)) (idOf (groupAt s i n)) 0
 
 -- where a number is noted: equal numbers have one slot (of a prime number of slots, so that the account counts in full)
-unfoldable pub slotOf : ℕ → ℕ
-slotOf id = id % 509
+unfoldable pub numberSlot : ℕ → ℕ
+numberSlot id = id % 509

@@ -7,5 +7,5 @@ abbrev pub slots : ℕ
 slots = 509
 
 -- account and key as one number (account * 10000 + key, of which 10000 is 329 past a multiple of 509), taken so that nothing wraps
-unfoldable pub slotOf : Identity → ℕ
-slotOf id = (id .account % slots * 329 + id .key % slots) % slots
+unfoldable pub identitySlot : Identity → ℕ
+identitySlot id = (id .account % slots * 329 + id .key % slots) % slots

@@ -8,13 +8,13 @@ use mathlib.Core.List.{List}
 use lib.ListN.{length, take}
 use Rattle.fields.proofs.BoolLaws.{or-both}
 use Rattle.streams.specs.declared.output.Output.{Output}
-use Rattle.replay.specs.declared.Tells.{Tells}
+use Rattle.replay.specs.declared.Wanted.{Wanted}
 use Rattle.replay.specs.parts.Pieces.{Waits}
 use Rattle.replay.proofs.ReadingLaws.{Reading, reading-start, waits-start, reading-kept, reading-more, input-ended, piece-ended}
 use Rattle.replay.proofs.read_all.Statement.{statement}
 use Rattle.replay.proofs.read_all.Tie as tie
 
-record Inv (ws₀ out₀ : List ℕ) (t : Tells) (ws buf out : List ℕ) (seen left total : ℕ) (full : Bool) (turns : ℕ) : Type 0 where
+record Inv (ws₀ out₀ : List ℕ) (t : Wanted) (ws buf out : List ℕ) (seen left total : ℕ) (full : Bool) (turns : ℕ) : Type 0 where
   same-words : length ws ≡ length ws₀
   room : length buf ≡ 262144
   same-out : length out ≡ length out₀

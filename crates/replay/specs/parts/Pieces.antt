@@ -8,15 +8,15 @@ use Rattle.fields.specs.Put.{put}
 use Rattle.ledger.specs.Books.{book}
 use Rattle.ledger.specs.Sound.{soundLedger}
 use Rattle.words.specs.Layout as layout
-use Rattle.journal.specs.Journal.{Entry, parse, makes, ledgerOf}
-use Rattle.journal.specs.Made.{madeAll}
+use Rattle.journal.specs.Journal.{Entry, parse, afterEntries, journalLedger}
+use Rattle.journal.specs.EntryCalls.{ledgerAfterEntries}
 use Rattle.entries.specs.declared.run.Ran.{Ran}
 use Rattle.entries.specs.parts.Running.{behind, FirstMade, NoneLeft}
 use Rattle.input.specs.declared.Filled as filled
 use Rattle.input.specs.declared.Filled.the-variants as filled-as
-use Rattle.replay.specs.declared.Tells.{Tells}
+use Rattle.replay.specs.declared.Wanted.{Wanted}
 use Rattle.streams.specs.declared.pieces.Piece.{Piece}
-use Rattle.replay.specs.Reading.{toldOf}
+use Rattle.replay.specs.Reading.{writtenOf}
 
 -- a buffer of so many bytes, of which some were held before, holds no fewer than before, and no more than it has; where entries are left to be
 -- made the input does not end
@@ -32,12 +32,12 @@ pub record FillsMore (have : ℕ) (full : Bool) (before after : List ℕ) (r : f
 
 -- the first entries of src were made, after so many entries, and what is asked for of them stands at the start of the output; none is left unless the output
 -- is full
-pub record Runs (seen : ℕ) (t : Tells) (src ws₀ out₀ ws out : List ℕ) (r : Ran) : Type 0 where
+pub record PieceRuns (seen : ℕ) (t : Wanted) (src ws₀ out₀ ws out : List ℕ) (r : Ran) : Type 0 where
   pub done : List Entry
   pub made : FirstMade seen src ws₀ ws (r .used) (r .seen) done
   pub kept : length out ≡ length out₀
-  pub bytes : out ≡ put out₀ 0 (toldOf t seen (book (layout.ledgerOf ws₀)) done)
-  pub written : r .written ≡ length (toldOf t seen (book (layout.ledgerOf ws₀)) done)
+  pub bytes : out ≡ put out₀ 0 (writtenOf t seen (book (layout.ledgerOf ws₀)) done)
+  pub written : r .written ≡ length (writtenOf t seen (book (layout.ledgerOf ws₀)) done)
   pub within : r .written ≤ length out₀
   pub rest : NoneLeft src r
 
@@ -47,17 +47,17 @@ Waits seen s stopped = parse seen s ≡ record { entries = []; stopped = stopped
 
 -- the first entries of the first n bytes were made, after so many entries; the bytes behind them stand at the start of the buffer and what is asked for of
 -- them at the start of the output. No entry is left unless the output is full.
-pub record Made (seen : ℕ) (t : Tells) (n : ℕ) (ws₀ buf₀ out₀ ws buf out : List ℕ) (p : Piece) : Type 0 where
+pub record PieceLeaves (seen : ℕ) (t : Wanted) (n : ℕ) (ws₀ buf₀ out₀ ws buf out : List ℕ) (p : Piece) : Type 0 where
   -- the entries that were made
   pub done : List Entry
   pub parsed : parse seen (take n buf₀) ≡ behind done (parse (p .seen) (take (p .left) buf))
   pub sound : soundLedger (layout.ledgerOf ws) ≡ true
-  pub ledger : layout.ledgerOf ws ≡ madeAll (layout.ledgerOf ws₀) done
-  pub books : book (layout.ledgerOf ws) ≡ makes (book (layout.ledgerOf ws₀)) done
+  pub ledger : layout.ledgerOf ws ≡ ledgerAfterEntries (layout.ledgerOf ws₀) done
+  pub books : book (layout.ledgerOf ws) ≡ afterEntries (book (layout.ledgerOf ws₀)) done
   pub count : p .seen ≡ seen + length done
   pub within : p .left ≤ length buf
-  pub bytes : out ≡ put out₀ 0 (toldOf t seen (book (layout.ledgerOf ws₀)) done)
-  pub written : p .written ≡ length (toldOf t seen (book (layout.ledgerOf ws₀)) done)
+  pub bytes : out ≡ put out₀ 0 (writtenOf t seen (book (layout.ledgerOf ws₀)) done)
+  pub written : p .written ≡ length (writtenOf t seen (book (layout.ledgerOf ws₀)) done)
   pub room : p .written ≤ length out
   pub waits : p .full ≡ false → Waits (p .seen) (take (p .left) buf) (p .stopped)
   pub goes : p .full ≡ true → p .stopped ≡ false

@@ -5,7 +5,7 @@ use mathlib.Core.List.{List}
 use lib.Dec.{ltb}
 use lib.ListN.{length}
 use Rattle.journal.specs.Journal.{isBad}
-use Rattle.journal.specs.Made.{brnOf}
+use Rattle.journal.specs.EntryCalls.{brnOf}
 use Rattle.report.specs.declared.brn_file.Fit.{Fit}
 use Rattle.report.specs.declared.brn_file.Fit.the-variants.{Fits, Short}
 

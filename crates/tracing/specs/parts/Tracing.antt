@@ -17,7 +17,7 @@ use Rattle.journal.specs.declared.Head.{Head}
 use Rattle.journal.specs.declared.Head.the-variants.{Cut, Bad, Whole}
 use Rattle.journal.specs.Entries.{headOf}
 use Rattle.journal.specs.Journal.{Entry}
-use Rattle.journal.specs.Made.{madeIn, writtenIn}
+use Rattle.journal.specs.EntryCalls.{entryCalled, entryWritten}
 use Rattle.entries.specs.declared.run.Ran.{Ran}
 use Rattle.entries.specs.parts.Running.{entryAt, FirstMade, NoneLeft}
 use Rattle.trace_lines.specs.Trace.{entryLines, traceLines}
@@ -37,7 +37,7 @@ entryRoom = 8652
 pub record LinesOf (number : ℕ) (src : List ℕ) (n : ℕ) (a : Answer) (sent out₀ : List ℕ) (at : ℕ) (out : List ℕ) (r : ℕ) : Type 0 where
   pub lines :
       (seen : ℕ) (l : Ledger) (b : Body) (rest : List ℕ) → headOf seen src ≡ Whole b n → soundLedger l ≡ true
-      → a ≡ madeIn 64200 l b (part src 3 (n - 3)) .answer → sent ≡ writtenIn 64200 l b (part src 3 (n - 3)) ++ rest
+      → a ≡ entryCalled 64200 l b (part src 3 (n - 3)) .answer → sent ≡ entryWritten 64200 l b (part src 3 (n - 3)) ++ rest
       → (out ≡ put out₀ at (entryLines (book l) number (entryAt src b n))) × (r ≡ at + length (entryLines (book l) number (entryAt src b n)))
   pub within : r ≤ at + entryRoom
 
@@ -45,7 +45,7 @@ pub record LinesOf (number : ℕ) (src : List ℕ) (n : ℕ) (a : Answer) (sent 
 -- the entry of n bytes at the start of src was made, after so many entries, and its lines were put at `at` and end at `end`
 pub record EntryMade (b : Body) (n seen : ℕ) (src : List ℕ) (at : ℕ) (ws₀ out₀ ws out : List ℕ) (end : ℕ) : Type 0 where
   pub sound : soundLedger (ledgerOf ws) ≡ true
-  pub ledger : ledgerOf ws ≡ madeIn 64200 (ledgerOf ws₀) b (part src 3 (n - 3)) .ledger
+  pub ledger : ledgerOf ws ≡ entryCalled 64200 (ledgerOf ws₀) b (part src 3 (n - 3)) .ledger
   pub bytes : out ≡ put out₀ at (entryLines (book (ledgerOf ws₀)) (seen + 1) (entryAt src b n))
   pub long : end ≡ at + length (entryLines (book (ledgerOf ws₀)) (seen + 1) (entryAt src b n))
   pub within : end ≤ at + entryRoom

@@ -6,7 +6,7 @@ use mathlib.Core.Path.{_≡_, refl, ap, _∙_}
 use lib.ListN.{length, length-set}
 use Rattle.fields.proofs.PutLaws.{length-put}
 use Rattle.ledger.specs.Books.{emptyLedger}
-use Rattle.words.specs.Layout.{date}
+use Rattle.units.specs.Calendar.{dateOf}
 use Rattle.words.proofs.WordLaws.{length-bill}
 use Rattle.words.proofs.PlaceLaws.{written, written-none}
 use Rattle.words.proofs.EmptyLaws.{blank-more, blank-all}
@@ -14,7 +14,7 @@ use Rattle.words.proofs.write_empty.Statement.{statement}
 use Rattle.words.proofs.write_empty.Tie as tie
 
 abbrev Inv-loop : tie.InvT-loop
-Inv-loop words₀ today tracking confirmation i₀ words i = (i ≤ 128) × (length words₀ ≡ 2436) × (length words ≡ 2436) × (words ≡ written (emptyLedger (date today) tracking confirmation) i words₀)
+Inv-loop words₀ today tracking confirmation i₀ words i = (i ≤ 128) × (length words₀ ≡ 2436) × (length words ≡ 2436) × (words ≡ written (emptyLedger (dateOf today) tracking confirmation) i words₀)
 
 abbrev μ-loop : tie.MeasureT-loop
 μ-loop words₀ today tracking confirmation i₀ words i = 128 - i
@@ -32,7 +32,7 @@ slice-write-words-4 : tie.Need-slice-write-words-4 Inv-loop μ-loop
 slice-write-words-4 c = search needs
 
 loop-holds : tie.Need-loop-holds Inv-loop μ-loop
-loop-holds c = let k : length (c .before .args .words .now) ≡ 2436 = c .before .pre in (omega arith, simp length-set k, simp length-set k, written-none (emptyLedger (date (c .before .args .today)) (c .before .args .tracking) (c .before .args .confirmation)) (c .before .args .words .now) _ (omega arith) refl)
+loop-holds c = let k : length (c .before .args .words .now) ≡ 2436 = c .before .pre in (omega arith, simp length-set k, simp length-set k, written-none (emptyLedger (dateOf (c .before .args .today)) (c .before .args .tracking) (c .before .args .confirmation)) (c .before .args .words .now) _ (omega arith) refl)
 
 blank-requires : tie.Need-blank-requires Inv-loop μ-loop
 blank-requires c κs = search needs
@@ -53,13 +53,13 @@ loop-less : tie.Need-loop-less Inv-loop μ-loop
 loop-less c = omega arith
 
 loop-again : tie.Need-loop-again Inv-loop μ-loop
-loop-again c = let v = c .before .before .before .before .before .before .loop .inv in (omega arith, v .1, ap length (c .before .before .put-bill .ensures) ∙ length-put _ _ _ (rw length-bill (omega arith)) ∙ v .2, blank-more (emptyLedger (date (c .before .before .before .before .before .before .before .before .args .today)) (c .before .before .before .before .before .before .before .before .args .tracking) (c .before .before .before .before .before .before .before .before .args .confirmation)) refl _ _ _ (c .before .before .before .before .before .before .loop .i) _ (omega arith) (c .before .before .before .before .blank .ensures) (v .3) (c .before .before .put-bill .ensures))
+loop-again c = let v = c .before .before .before .before .before .before .loop .inv in (omega arith, v .1, ap length (c .before .before .put-bill .ensures) ∙ length-put _ _ _ (rw length-bill (omega arith)) ∙ v .2, blank-more (emptyLedger (dateOf (c .before .before .before .before .before .before .before .before .args .today)) (c .before .before .before .before .before .before .before .before .args .tracking) (c .before .before .before .before .before .before .before .before .args .confirmation)) refl _ _ _ (c .before .before .before .before .before .before .loop .i) _ (omega arith) (c .before .before .before .before .blank .ensures) (v .3) (c .before .before .put-bill .ensures))
 
 same-length : tie.Need-same-length Inv-loop μ-loop
 same-length c = omega (arith, c .before .loop .inv .2, c .before .before .before .pre)
 
 returns : tie.Need-returns Inv-loop μ-loop
-returns c = let v = c .before .loop .inv in blank-all (emptyLedger (date (c .before .before .before .args .today)) (c .before .before .before .args .tracking) (c .before .before .before .args .confirmation)) refl _ _ (c .before .loop .i) (v .1) (omega arith) (v .3)
+returns c = let v = c .before .loop .inv in blank-all (emptyLedger (dateOf (c .before .before .before .args .today)) (c .before .before .before .args .tracking) (c .before .before .before .args .confirmation)) refl _ _ (c .before .loop .i) (v .1) (omega arith) (v .3)
 
 pub write-empty-spec : {M : Type 1} → statement M
 write-empty-spec =

@@ -5,7 +5,7 @@ use mathlib.Core.List.{List}
 use native.Mathlib.Omega.{arith}
 use Rattle.fields.specs.Put.{put}
 use Rattle.file.specs.File.{leading}
-use Rattle.file.specs.parts.Walk.{after, groupAt}
+use Rattle.file.specs.parts.Walk.{recordsAfter, groupAt}
 use Rattle.file.proofs.FileLaws.{header-is, length-details}
 use Rattle.group.specs.parts.Turns.{answerAt, recordsBy}
 use Rattle.group.proofs.AnswerSizes.{details-are}
@@ -41,7 +41,7 @@ same-length-2 c = search needs
 returns-2 : tie.Need-returns-2
 unfolding answerAt
 returns-2 c = let k = rw (c .before .before .before .before .before .v .given .1) at (c .before .before .before .before .before .before .before .before .before .before .pre .1 .0) in
-    let j : c .before .before .before .before .before .before .before .before .before .before .args .k - 1 ≡ leading (after (c .before .before .before .before .before .before .before .before .before .before .args .s .now) (c .before .before .before .before .before .before .before .before .before .before .args .i) (c .before .before .before .before .before .before .before .before .before .before .args .n)) = omega (arith, k, length-details (c .before .before .before .before .before .before .before .before .before .before .args .s .now) (c .before .before .before .before .before .before .before .before .before .before .args .i) (c .before .before .before .before .before .before .before .before .before .before .args .n)) in
+    let j : c .before .before .before .before .before .before .before .before .before .before .args .k - 1 ≡ leading (recordsAfter (c .before .before .before .before .before .before .before .before .before .before .args .s .now) (c .before .before .before .before .before .before .before .before .before .before .args .i) (c .before .before .before .before .before .before .before .before .before .before .args .n)) = omega (arith, k, length-details (c .before .before .before .before .before .before .before .before .before .before .args .s .now) (c .before .before .before .before .before .before .before .before .before .before .args .i) (c .before .before .before .before .before .before .before .before .before .before .args .n)) in
     rw (c .before .before .before .before .before .v .given .1, header-is (c .before .before .before .before .before .before .before .before .before .before .args .s .now) (c .before .before .before .before .before .before .before .before .before .before .args .i) (c .before .before .before .before .before .before .before .before .before .before .args .n), details-are (c .before .before .before .before .before .before .before .before .before .before .args .s .now) (c .before .before .before .before .before .before .before .before .before .before .args .i) (c .before .before .before .before .before .before .before .before .before .before .args .n) _ j) (c .before .before .write .ensures)
 
 pub write-answer-spec : {M : Type 1} → statement M

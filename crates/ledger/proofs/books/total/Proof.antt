@@ -160,16 +160,16 @@ module _ {M : Type 1} (𝓤 : URA M) (H : Heap 𝓤) (A : Atoms 𝓤) (W : Given
         ∷ ‵ (fat fullShare U′.mir l₂ 0 (c .val)) ∷ ‵ (fdies U′.mir l₂) ∷ ‵ (fat fullShare slice l₁ 0 s) ∷ ‵ (fdies slice l₁) ∷ ‵ (froom U′.mir l₀ 0) ∷ ‵ (fdies U′.mir l₀) ∷ (‵ (flft κ q) ⊛ ‵ ftrue) ∷ ‵ Own ∷ []
 
     -- a turn's postcondition: it ends nearer to n, or the loop is left and the rest of the body runs
-    abbrev Turned : Far ys → Out → SProp 𝓤
-    Turned c = afterTurn 𝓤 H (Below 𝓤 H A Nearer At c) (afterBlock 𝓤 H (afterSeq 𝓤 H (Wp 𝓤 H C Λ En mir.t-4 (atReturn 𝓤 H En Post)) (atReturn 𝓤 H En Post)))
+    abbrev TurnResult : Far ys → Out → SProp 𝓤
+    TurnResult c = afterTurn 𝓤 H (Below 𝓤 H A Nearer At c) (afterBlock 𝓤 H (afterSeq 𝓤 H (Wp 𝓤 H C Λ En mir.t-4 (atReturn 𝓤 H En Post)) (atReturn 𝓤 H En Post)))
 
-    turns : (c : Far ys) → Sq W (At c) (runs C Λ En mir.turn-1 (anyQ (Turned c)))
+    turns : (c : Far ys) → Sq W (At c) (runs C Λ En mir.turn-1 (anyQ (TurnResult c)))
     unfolding afterTurn
     turns c =
         assigns ! (of-opd ! (load ! (from ! (fld ! refl (stop !))) (look-in ! 10 (sub ! 1 refl (whole !))))) (from ! (stop !)) (init ! 4 refl (tt, record { fits = room .0 })) $
         assigns ! (bin ! (load ! (from ! (stop !)) (look ! 6 refl)) (load ! (from ! (stop !)) (look ! 4 refl)) tt) (from ! (stop !)) (init ! 2 refl (tt, tt)) $
         first ! $ branches ! (load ! (from ! (stop !)) (look ! 2 refl))
-        (λ less. skips ! $ exec ! C Λ En (after-test mir.turn-1) (anyQ (Turned c)) $
+        (λ less. skips ! $ exec ! C Λ En (after-test mir.turn-1) (anyQ (TurnResult c)) $
         move ! (15 ∷ []) $ use1 W (‵ Own ⊛ ‵ Own) (shr-slice-copy 𝓤 H A W (named 0) κ B.the-row .twice y (s ∷ [])) $ split ! $
         move ! (16 ∷ 0 ∷ []) $ use2 W (raw (BillAt 𝓤 H A mem run .pre (to-at κ b o γ ys 𝓤 H A mem run q (c .i)))) (goes-at κ b o γ ys 𝓤 H A mem run q (c .i) W room (ltb→lt (c .i) n less)) $
         -- [what `bill_at` asks; what the slice owns; _6; …; _5; …; _4; …; _3; …; _2; …; _1; …; room for _0; …]

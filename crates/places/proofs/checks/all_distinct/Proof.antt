@@ -10,7 +10,7 @@ use Rattle.fields.proofs.BoolLaws.{and-right}
 use Rattle.ledger.specs.declared.Identity.{Identity}
 use Rattle.ledger.specs.Sound.{holdsId, distinct}
 use Rattle.words.specs.Layout.{ledgerOf}
-use Rattle.places.specs.parts.Slots.{slots, slotOf}
+use Rattle.places.specs.parts.Slots.{slots, identitySlot}
 use Rattle.places.proofs.PartLaws.{places-of}
 use Rattle.places.proofs.DistinctLaws.{Noted, noted-more, none-before, distinct-good, distinct-bad}
 use Rattle.places.proofs.checks.all_distinct.Statement.{statement}
@@ -70,7 +70,7 @@ loop-again c =
     let fits : h < length (l .met) = omega (arith, c .before .before .slot .ensures .1) in (
       omega arith,
       length-set (l .met) h true ∙ l .inv .1,
-      noted-more bs (l .met) (l .i) h (c .before .before .slot .ensures .0 ∙ ap slotOf same) fits (l .inv .2),
+      noted-more bs (l .met) (l .i) h (c .before .before .slot .ensures .0 ∙ ap identitySlot same) fits (l .inv .2),
       distinct-good bs (l .i) (omega (arith, s .pre .1, places-of (s .args .ws .now) (s .pre .0))) (l .inv .3)
           (ap (λ (x : Identity). holdsId x (take (l .i) bs)) (sym same) ∙ none),
     )

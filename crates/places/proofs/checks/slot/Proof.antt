@@ -1,5 +1,5 @@
 -- `places::checks::slot` meets its contract.
-use Rattle.places.specs.parts.Slots.{slotOf}
+use Rattle.places.specs.parts.Slots.{identitySlot}
 use borrow.Author.Needs.{needs}
 use Rattle.places.proofs.checks.slot.Statement.{statement}
 use Rattle.places.proofs.checks.slot.Tie as tie
@@ -11,7 +11,7 @@ add-result : tie.Need-add-result
 add-result c = search needs
 
 returns : tie.Need-returns
-unfolding slotOf
+unfolding identitySlot
 returns c = search needs
 
 pub slot-spec : {M : Type 1} → statement M
