@@ -9,6 +9,7 @@ ghost use Rattle.causes.specs.Causes.{request, cancel};
 ghost use Rattle.calls.specs.declared.Answer.the-variants.{Refused};
 ghost use Rattle.calls.specs.Machine.{stepIn, called};
 ghost use Rattle.bill_calls.specs.parts.Standing.{StandsIn};
+ghost use Rattle.ledger.specs.Limits.{ledgerPlaces};
 use calls::Answer;
 use calls::Called;
 use calls::carried_out;
@@ -30,7 +31,7 @@ struct Standing {
 }
 
 fn read_for(l: Ledger, id: Identity) -> Standing
-    requires { ⌜ l .count ≤ 128 ⌝ }
+    requires { ⌜ l .count ≤ ledgerPlaces ⌝ }
     ensures { λ s. ⌜ StandsIn l id s ⌝ }
 {
     let today = l.today;

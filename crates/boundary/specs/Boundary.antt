@@ -10,7 +10,7 @@ use Rattle.fields.specs.Put.{put, part}
 use Rattle.units.specs.Calendar.{dateOf}
 use Rattle.ledger.specs.declared.Identity.{Identity}
 use Rattle.ledger.specs.declared.Ledger.{Ledger}
-use Rattle.words.specs.Layout.{ledgerOf}
+use Rattle.words.specs.Layout.{ledgerOf, ledgerSize}
 use Rattle.causes.specs.declared.Start.{Start}
 use Rattle.causes.specs.declared.CodeField.{CodeField}
 use Rattle.causes.specs.declared.Request.{Request}
@@ -90,7 +90,7 @@ pub record Gives (c : Called) (ws : List ℕ) (x : ℤ) (ks ws₁ : List ℕ) (x
 
 -- "fresh reads none", but words of another length can hold no ledger: 2
 unfoldable pub freshIn : List ℕ → Start → Called
-freshIn ws s = cond (eqb (length ws) 2436) (freshCalled (ledgerOf ws) s) (record { ledger = ledgerOf ws; answer = answer.Refused 2 })
+freshIn ws s = cond (eqb (length ws) ledgerSize) (freshCalled (ledgerOf ws) s) (record { ledger = ledgerOf ws; answer = answer.Refused 2 })
 
 -- the call of an entry on any words, with so much room: a fresh as above; any other refuses a ledger that isn't sound (2)
 abbrev pub entryIn : ℕ → List ℕ → Body → List ℕ → Called

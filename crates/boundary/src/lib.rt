@@ -15,7 +15,7 @@ fn make(ledger: &mut [u64], out: &mut [u8], body: Body, s: &[u8]) -> Answer
     ensures { λ a. ⌜ Leaves (entryIn (length (now (out .entry))) (now (ledger .entry)) body (now (s .entry))) (entryWritten (length (now (out .entry))) (ledgerOf (now (ledger .entry))) body (now (s .entry))) (now (ledger .entry)) (now (out .entry)) (now (ledger .exit)) (now (out .exit)) a ⌝ }
 {
     if let Body::Fresh(start) = body {
-        if ledger.len() != 2436 {
+        if ledger.len() != words::LEDGER_SIZE {
             return Answer::Refused(2);
         }
         return call::fresh_in(ledger, start);

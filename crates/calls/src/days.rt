@@ -9,6 +9,7 @@ ghost use Rattle.causes.specs.Causes.{close};
 ghost use Rattle.causes.specs.Requests.{closes};
 ghost use Rattle.calls.specs.Machine.{called};
 ghost use Rattle.calls.specs.Days.{freshCalled};
+ghost use Rattle.ledger.specs.Limits.{ledgerPlaces};
 use crate::Answer;
 use crate::Called;
 use crate::carried_out;
@@ -37,7 +38,7 @@ pub fn fresh(l: Ledger, s: Start) -> Called
 
 // How many bills a close closes.
 fn closed_by(l: Ledger, d: Date) -> u64
-    requires { ⌜ l .count ≤ 128 ⌝ }
+    requires { ⌜ l .count ≤ ledgerPlaces ⌝ }
     ensures { λ r. ⌜ r ≡ count (closes (l .today) d) (live l) ⌝ }
 {
     let today = l.today;

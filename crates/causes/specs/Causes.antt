@@ -23,6 +23,7 @@ use Rattle.group.specs.Groups.{soughtIn}
 use Rattle.causes.specs.declared.Start.{Start}
 use Rattle.causes.specs.declared.CodeField.{CodeField}
 use Rattle.causes.specs.declared.Request.{Request}
+use Rattle.ledger.specs.Limits.{ledgerPlaces, lastSequence, lastNumber, usedUp}
 
 -- "The list holds each call with its arguments, file bytes and the length of the output lent to it": room is that length
 pub data Call : Type 0 where
@@ -33,7 +34,7 @@ pub data Call : Type 0 where
 
 -- ---- 2: "a field too wide or not digits, no date, a bad rate code, a product neither B nor P, at fresh a next number 0 or over 999,999,999"
 abbrev pub isNumber : ℕ → Bool
-isNumber n = leb 1 n && leb n 999999999
+isNumber n = leb 1 n && leb n lastNumber
 
 unfoldable pub startTests : Start → List Bool
 startTests s = isDate (s .today .0) ∷ isNumber (s .tracking) ∷ isNumber (s .confirmation) ∷ []
@@ -61,7 +62,7 @@ requestTests r =
 
 -- ---- 12: "fewer numbers left than the request, cancel or file .. needs": t Tracking IDs and c Confirmation Numbers
 abbrev pub lacks : ℕ → ℕ → ℕ → ℕ → Bool
-lacks tracking confirmation t c = ltb 1000000000 (tracking + t) || ltb 1000000000 (confirmation + c)
+lacks tracking confirmation t c = ltb usedUp (tracking + t) || ltb usedUp (confirmation + c)
 
 -- ---- the causes of each call in their order
 -- "Fresh: 2."
@@ -74,9 +75,9 @@ billCauses r held (Bill t) =
     rule (t .cancelled) 5
     ∷ rule (not (sameList (fiveOf (r .code)) (codeBytes (t .code)) && eqb (r .product) (productByte (t .product)))) 6
     ∷ rule (eqb (r .consumption .0) (t .latest .consumption .0)) 7
-    ∷ rule (eqb (t .sequence) 999) 8
+    ∷ rule (eqb (t .sequence) lastSequence) 8
     ∷ []
-billCauses r held Nothing = rule (leb 128 held) 3 ∷ []
+billCauses r held Nothing = rule (leb ledgerPlaces held) 3 ∷ []
 
 -- "Request: 2, 1, 9, then 5, 6, 7, 8 for a known bill or 3 for a new one, 12."
 unfoldable pub requestCauses : Request → ℕ → Date → ℕ → ℕ → ℕ → Sought → List Rule

@@ -8,6 +8,7 @@ ghost use Rattle.ledger.specs.Bills.{isRateCode, codeBytes};
 ghost use Rattle.rules.specs.Rules.{first};
 ghost use Rattle.causes.specs.Causes.{isNumber, goodIdentity, fiveOf, isProduct, requestTests, lacks, freshCauses, billCauses, requestCauses, fileCauses, cancelCauses, closeCauses};
 ghost use Rattle.causes.specs.Requests.{codeOf, closes};
+ghost use Rattle.ledger.specs.Limits.{usedUp};
 use crate::CodeField;
 use crate::Request;
 use crate::Start;
@@ -20,10 +21,10 @@ use verdict::Sought;
 
 // Whether t Tracking IDs and c Confirmation Numbers are more than are left.
 pub fn lacks(tracking: u64, confirmation: u64, t: u64, c: u64) -> bool
-    requires { ⌜ (tracking ≤ 1000000000) × (confirmation ≤ 1000000000) × (t ≤ 200) × (c ≤ 200) ⌝ }
+    requires { ⌜ (tracking ≤ usedUp) × (confirmation ≤ usedUp) × (t ≤ 200) × (c ≤ 200) ⌝ }
     ensures { λ r. ⌜ r ≡ lacks tracking confirmation t c ⌝ }
 {
-    (1000000000 < tracking + t) | (1000000000 < confirmation + c)
+    (ledger::USED_UP < tracking + t) | (ledger::USED_UP < confirmation + c)
 }
 
 // Whether account and Bill Key are in their widths.
@@ -93,7 +94,7 @@ fn bill_check(r: Request, held: usize, b: Sought) -> Check
     ensures { λ a. ⌜ a ≡ first (billCauses r held b) ⌝ }
 {
     let Sought::Bill(t) = b else {
-        if 128 <= held {
+        if ledger::PLACES <= held {
             return Check::Stop(3);
         }
         return Check::Clear;
@@ -111,7 +112,7 @@ fn bill_check(r: Request, held: usize, b: Sought) -> Check
     if consumption.same(t.latest.consumption) {
         return Check::Stop(7);
     }
-    if t.sequence == 999 {
+    if t.sequence == ledger::LAST_SEQUENCE {
         return Check::Stop(8);
     }
     Check::Clear
@@ -127,7 +128,7 @@ pub fn request_check(
     held: usize,
     b: Sought,
 ) -> Check
-    requires { ⌜ (tracking ≤ 1000000000) × (confirmation ≤ 1000000000) ⌝ }
+    requires { ⌜ (tracking ≤ usedUp) × (confirmation ≤ usedUp) ⌝ }
     ensures { λ a. ⌜ a ≡ first (requestCauses r room today tracking confirmation held b) ⌝ }
 {
     if !good_request(r) {
@@ -152,7 +153,7 @@ pub fn request_check(
 
 // The first cause against a cancel of a sound ledger.
 pub fn cancel_check(id: Identity, room: usize, tracking: u64, confirmation: u64, b: Sought) -> Check
-    requires { ⌜ (tracking ≤ 1000000000) × (confirmation ≤ 1000000000) ⌝ }
+    requires { ⌜ (tracking ≤ usedUp) × (confirmation ≤ usedUp) ⌝ }
     ensures { λ a. ⌜ a ≡ first (cancelCauses id room tracking confirmation b) ⌝ }
 {
     if !good_identity(id) {
@@ -176,7 +177,7 @@ pub fn cancel_check(id: Identity, room: usize, tracking: u64, confirmation: u64,
 
 // Causes 11, 1 and 12 of a file: room is the length of the output lent for its answers.
 pub fn file_check(s: &[u8], room: usize, tracking: u64, confirmation: u64) -> Check
-    requires { ⌜ (tracking ≤ 1000000000) × (confirmation ≤ 1000000000) ⌝ }
+    requires { ⌜ (tracking ≤ usedUp) × (confirmation ≤ usedUp) ⌝ }
     ensures { λ r. ⌜ r ≡ first (fileCauses (now (s .entry)) room tracking confirmation) ⌝ }
 {
     if !file::good_file(s) {
@@ -202,7 +203,7 @@ pub fn file_check(s: &[u8], room: usize, tracking: u64, confirmation: u64) -> Ch
 fn is_number(n: u64) -> bool
     ensures { λ r. ⌜ r ≡ isNumber n ⌝ }
 {
-    (1 <= n) & (n <= 999999999)
+    (1 <= n) & (n <= ledger::LAST_NUMBER)
 }
 
 // The cause against a fresh, if there is one.

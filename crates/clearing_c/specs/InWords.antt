@@ -8,7 +8,7 @@ use lib.ListN.{length, getD}
 use lib.IntN.{ℤ, pos, _+ℤ_}
 use Rattle.fields.specs.Put.{part, put}
 use Rattle.ledger.specs.Books.{book}
-use Rattle.words.specs.Layout.{ledgerOf}
+use Rattle.words.specs.Layout.{ledgerOf, ledgerSize}
 use Rattle.rules.specs.declared.Check.{Check}
 use Rattle.rules.specs.declared.Check.the-variants.{Clear, Stop}
 use Rattle.rules.specs.Rules.{first}
@@ -83,5 +83,5 @@ pub record ClaimsInWords (s : Start) (ws₁ : List ℕ) (cs : List Call) (hs : L
 -- after a fresh that succeeded on any 2,436 words and any list of calls
 abbrev pub SumInWords : Type 0
 SumInWords =
-    (ws ws₁ ws₂ : List ℕ) (s : Start) (cs : List Call) (hs : List Held) → length ws ≡ 2436 → first (freshCauses s) ≡ Clear
+    (ws ws₁ ws₂ : List ℕ) (s : Start) (cs : List Call) (hs : List Held) → length ws ≡ ledgerSize → first (freshCauses s) ≡ Clear
     → ledgerOf ws₁ ≡ freshIn ws s .ledger → CallsMade ws₁ cs hs ws₂ → ClaimsInWords s ws₁ cs hs ws₂

@@ -7,6 +7,7 @@ ghost use Rattle.causes.specs.Causes.{requestCauses, cancelCauses};
 ghost use Rattle.causes.specs.Requests.{latestOf, newBill};
 ghost use Rattle.ledger.specs.Bills.{productOf};
 ghost use Rattle.causes.specs.parts.Decisions.{SoundAt, CanRenew, requestedBy, grown, usedBy, requestBy, cancelBy};
+ghost use Rattle.ledger.specs.Limits.{ledgerPlaces, usedUp};
 use causes::Decision;
 use causes::Request;
 use causes::checks;
@@ -69,7 +70,7 @@ fn asked(r: Request, tracking: u64, f: Found, b: Bill) -> Bill
 
 // One bill more, where none was found.
 fn grown(f: Found, n: usize) -> usize
-    requires { ⌜ n ≤ 128 ⌝ }
+    requires { ⌜ n ≤ ledgerPlaces ⌝ }
     ensures { λ r. ⌜ r ≡ grown f n ⌝ }
 {
     match f {
@@ -80,7 +81,7 @@ fn grown(f: Found, n: usize) -> usize
 
 // One of each number used, with so many bills.
 fn use_numbers(h: LedgerHeader, n: usize) -> LedgerHeader
-    requires { ⌜ (h .tracking ≤ 1000000000) × (h .confirmation ≤ 1000000000) ⌝ }
+    requires { ⌜ (h .tracking ≤ usedUp) × (h .confirmation ≤ usedUp) ⌝ }
     ensures { λ r. ⌜ r ≡ usedBy h n ⌝ }
 {
     let today = h.today;
@@ -94,7 +95,7 @@ fn use_numbers(h: LedgerHeader, n: usize) -> LedgerHeader
 
 // A request, where b stands at the place that was found.
 pub fn request(r: Request, room: usize, h: LedgerHeader, f: Found, b: Bill) -> Decision
-    requires { ⌜ (h .tracking ≤ 1000000000) × (h .confirmation ≤ 1000000000) × (h .count ≤ 128) ⌝ }
+    requires { ⌜ (h .tracking ≤ usedUp) × (h .confirmation ≤ usedUp) × (h .count ≤ ledgerPlaces) ⌝ }
     requires { ⌜ SoundAt f b ⌝ }
     ensures { λ a. ⌜ a ≡ requestBy (first (requestCauses r room (h .today) (h .tracking) (h .confirmation) (h .count) (soughtBy f b))) r h f b ⌝ }
 {
@@ -125,7 +126,7 @@ pub fn request(r: Request, room: usize, h: LedgerHeader, f: Found, b: Bill) -> D
 
 // A cancel, where b stands at the place that was found.
 pub fn cancel(id: Identity, room: usize, h: LedgerHeader, f: Found, b: Bill) -> Decision
-    requires { ⌜ (h .tracking ≤ 1000000000) × (h .confirmation ≤ 1000000000) ⌝ }
+    requires { ⌜ (h .tracking ≤ usedUp) × (h .confirmation ≤ usedUp) ⌝ }
     ensures { λ a. ⌜ a ≡ cancelBy (first (cancelCauses id room (h .tracking) (h .confirmation) (soughtBy f b))) h b ⌝ }
 {
     let check = checks::cancel_check(id, room, h.tracking, h.confirmation, group::sought_by(f, b));

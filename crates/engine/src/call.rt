@@ -5,13 +5,14 @@ ghost use Prim.Native.Nat.{_+_, _≤_};
 ghost use lib.ListN.{length, take};
 ghost use Rattle.rules.specs.Lists.{count};
 ghost use Rattle.ledger.specs.Sound.{soundLedger};
-ghost use Rattle.words.specs.Layout.{holdsLedger, ledgerOf};
+ghost use Rattle.words.specs.Layout.{holdsLedger, ledgerOf, ledgerSize};
 ghost use Rattle.causes.specs.Causes.{request, cancel, close, file};
 ghost use Rattle.causes.specs.Requests.{closes};
 ghost use Rattle.calls.specs.Machine.{called};
 ghost use Rattle.calls.specs.Days.{freshCalled};
 ghost use Rattle.engine.specs.InWords.{wordsLeft};
 ghost use Rattle.engine.specs.parts.Calls.{CalledIn};
+ghost use Rattle.ledger.specs.Limits.{ledgerPlaces};
 use crate::file_groups;
 use calls::Answer;
 use causes::Request;
@@ -87,7 +88,7 @@ pub fn file_in(ws: &mut [u64], out: &mut [u8], writes: bool, room: usize, s: &[u
 
 // How many of the first n bills a close closes.
 fn closed_by(ws: &[u64], n: usize, old: Date, new: Date) -> u64
-    requires { ⌜ (holdsLedger (now ws) ≡ true) × (n ≤ 128) ⌝ }
+    requires { ⌜ (holdsLedger (now ws) ≡ true) × (n ≤ ledgerPlaces) ⌝ }
     ensures { λ r. ⌜ r ≡ count (closes old new) (take n (ledgerOf (now (ws .entry)) .bills)) ⌝ }
 {
     let mut closed = 0;
@@ -124,7 +125,7 @@ pub fn close_in(ws: &mut [u64], d: Date) -> Answer
 
 // Fresh: whatever the words held is gone; a fresh that is refused leaves each as it was.
 pub fn fresh_in(ws: &mut [u64], s: Start) -> Answer
-    requires { ⌜ length (now ws) ≡ 2436 ⌝ }
+    requires { ⌜ length (now ws) ≡ ledgerSize ⌝ }
     ensures { λ a. ⌜ (ledgerOf (now (ws .exit)) ≡ freshCalled (ledgerOf (now (ws .entry))) s .ledger) × (a ≡ freshCalled (ledgerOf (now (ws .entry))) s .answer) × (now (ws .exit) ≡ wordsLeft (now (ws .entry)) (freshCalled (ledgerOf (now (ws .entry))) s .ledger) (freshCalled (ledgerOf (now (ws .entry))) s .answer)) ⌝ }
 {
     let check = checks::fresh_check(s);

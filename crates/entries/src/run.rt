@@ -6,7 +6,7 @@ ghost use lib.Dec.{ltb};
 ghost use lib.ListN.{length, drop};
 ghost use Rattle.ledger.specs.Books.{book};
 ghost use Rattle.ledger.specs.Sound.{soundLedger};
-ghost use Rattle.words.specs.Layout.{ledgerOf};
+ghost use Rattle.words.specs.Layout.{ledgerOf, ledgerSize};
 ghost use Rattle.journal.specs.Journal.{firstBook};
 ghost use Rattle.journal.specs.EntryCalls.{lengthOf, firstLedger};
 ghost use Rattle.entries.specs.parts.Stepping.{SteppedIn};
@@ -113,7 +113,7 @@ pub fn run(ws: &mut [u64], out: &mut [u8], writes: bool, src: &[u8], seen: u64) 
 
 // Writes the words of the ledger before the first entry of a journal: no bill, both numbers 1.
 pub fn start(ws: &mut [u64])
-    requires { ⌜ length (now ws) ≡ 2436 ⌝ }
+    requires { ⌜ length (now ws) ≡ ledgerSize ⌝ }
     ensures { λ _. ⌜ (soundLedger (ledgerOf (now (ws .exit))) ≡ true) × (ledgerOf (now (ws .exit)) ≡ firstLedger) × (book (ledgerOf (now (ws .exit))) ≡ firstBook) ⌝ }
 {
     words::write_empty(ws, 19000101, 1, 1);

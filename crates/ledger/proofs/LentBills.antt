@@ -54,10 +54,14 @@ module _ {M : Type 1} (𝓤 : URA M) (H : Heap 𝓤) (A : Atoms 𝓤) (W : Given
   pub bills-typed : (xs : List Bill) (v : Val) → Is Bills xs (v ∷ []) → Typed (Bills .mir) (v ∷ [])
   bills-typed xs v is = array-typed B.the-row (λ x vs p. LL.lawful B.the-type B′.the-laws 𝓤 H A W .typed x vs p) 128 xs (v ∷ []) is
 
-some-room : (m n : ℕ) → m ≡ n → n ≤ 128 → (m < 2 ^ 64) × (m * 120 < 2 ^ 63)
+-- the bytes of a Bill in memory
+abbrev pub billSize : ℕ
+billSize = 120
+
+some-room : (m n : ℕ) → m ≡ n → n ≤ 128 → (m < 2 ^ 64) × (m * billSize < 2 ^ 63)
 some-room m n e l = (omega (arith, e, l), omega (arith, e, l))
 
--- the number of bills lent, and that there is room for them: a bill is 120 bytes
+-- the number of bills lent, and that there is room for them
 module _ (xs : List Bill) (v : Val) (is : Is Bills xs (v ∷ [])) (n : ℕ) (within : n ≤ 128) where
   pub lent-count : length (take n xs) ≡ n
   lent-count = length-take-le n xs (subst (λ (k : ℕ). n ≤ k) (sym (is .1 .0 .1)) within)

@@ -14,6 +14,7 @@ use Rattle.ledger.specs.declared.LedgerHeader.{LedgerHeader}
 use Rattle.rules.specs.declared.Found.{Found}
 use Rattle.rules.specs.Lists.{sum, find}
 use Rattle.ledger.specs.Bills.{isOf, chargeOf, blankBill}
+use Rattle.ledger.specs.Limits.{ledgerPlaces}
 
 -- what document 01 calls a ledger
 pub record Book : Type 0 where
@@ -83,4 +84,4 @@ totalOf bs = sum billCharge bs
 -- with no bills
 abbrev pub emptyLedger : Date → ℕ → ℕ → Ledger
 emptyLedger today tracking confirmation =
-    withBills (record { today = today; tracking = tracking; confirmation = confirmation; count = 0 }) (replicate 128 blankBill)
+    withBills (record { today = today; tracking = tracking; confirmation = confirmation; count = 0 }) (replicate ledgerPlaces blankBill)

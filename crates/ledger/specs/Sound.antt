@@ -19,10 +19,11 @@ use Rattle.ledger.specs.declared.Ledger.{Ledger}
 use Rattle.rules.specs.Lists.{all, every, has}
 use Rattle.ledger.specs.Bills.{isRateCode, codeBytes, isPrepay}
 use Rattle.ledger.specs.Books.{Book, book, ofId}
+use Rattle.ledger.specs.Limits.{ledgerPlaces, lastSequence, lastNumber, usedUp}
 
 -- a next number: "1 to 999,999,999; 1,000,000,000 when used up"
 abbrev pub isNext : ℕ → Bool
-isNext n = leb 1 n && leb n 1000000000
+isNext n = leb 1 n && leb n usedUp
 
 -- a bill's fields but its posted amounts: widths, ranges and dates
 unfoldable pub termsTests : Terms → List Bool
@@ -32,9 +33,9 @@ termsTests t =
     ∷ isRateCode (codeBytes (t .code))
     ∷ leb 1 (t .requests)
     ∷ leb (t .requests) (t .sequence)
-    ∷ leb (t .sequence) 999
+    ∷ leb (t .sequence) lastSequence
     ∷ leb 1 (t .latest .tracking)
-    ∷ leb (t .latest .tracking) 999999999
+    ∷ leb (t .latest .tracking) lastNumber
     ∷ fitsCcf (t .latest .consumption)
     ∷ isDate (t .latest .billing .0)
     ∷ isDate (t .latest .from .0)
@@ -71,7 +72,7 @@ bookTests l =
     isDate (l .today .0)
     ∷ isNext (l .tracking)
     ∷ isNext (l .confirmation)
-    ∷ leb (length (l .bills)) 128
+    ∷ leb (length (l .bills)) ledgerPlaces
     ∷ every soundBill (l .bills)
     ∷ distinct (l .bills)
     ∷ []
@@ -81,4 +82,4 @@ sound l = all (bookTests l)
 
 -- a struct is sound if its count is in range and its book is sound; the places past the count play no part
 unfoldable pub soundLedger : Ledger → Bool
-soundLedger l = leb (l .count) 128 && sound (book l)
+soundLedger l = leb (l .count) ledgerPlaces && sound (book l)

@@ -5,6 +5,7 @@ ghost use Prim.Native.Nat.{_+_, _<_, _≤_};
 ghost use lib.ListN.{length};
 ghost use Rattle.fields.specs.Put.{put};
 ghost use Rattle.ledger.specs.Bills.{codeBytes, isPrepay, productByte, chargeOf, appliedOf, owedOf, isOf, isOpen, stateOf, blankBill, firstBill, renewed, posting, cancelledBill};
+ghost use Rattle.ledger.specs.Limits.{lastSequence};
 use crate::Bill;
 use crate::Identity;
 use crate::Latest;
@@ -169,7 +170,7 @@ impl Bill {
 
     // The bill after another request.
     pub fn request(mut self, latest: Latest) -> Bill
-        requires { ⌜ (self .terms .requests ≤ self .terms .sequence) × (self .terms .sequence < 999) ⌝ }
+        requires { ⌜ (self .terms .requests ≤ self .terms .sequence) × (self .terms .sequence < lastSequence) ⌝ }
         ensures { λ r. ⌜ r ≡ renewed latest self ⌝ }
     {
         let mut terms = self.terms;
@@ -182,7 +183,7 @@ impl Bill {
 
     // The bill with these amounts in the place of the posted ones; a SUP raises the sequence too.
     pub fn post(mut self, amounts: Posted, sup: bool) -> Bill
-        requires { ⌜ self .terms .sequence ≤ 999 ⌝ }
+        requires { ⌜ self .terms .sequence ≤ lastSequence ⌝ }
         ensures { λ r. ⌜ r ≡ posting amounts sup self ⌝ }
     {
         if sup {

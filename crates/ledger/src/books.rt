@@ -8,6 +8,7 @@ ghost use Rattle.rules.specs.Lists.{every};
 ghost use Rattle.ledger.specs.Bills.{blankBill};
 ghost use Rattle.ledger.specs.Books.{emptyLedger, live, placeOf, billCharge, smallCharge, totalOf};
 ghost use Rattle.ledger.specs.parts.Places.{updated, within, placeFor};
+ghost use Rattle.ledger.specs.Limits.{ledgerPlaces};
 use crate::Bill;
 use crate::Identity;
 use crate::Ledger;
@@ -27,13 +28,13 @@ impl Ledger {
             next_tracking: tracking,
             next_confirmation: confirmation,
             count: 0,
-            bills: [blank; 128],
+            bills: [blank; crate::PLACES],
         }
     }
 
     // The place of the bill with this identity.
     pub fn find(self, id: Identity) -> Found
-        requires { ⌜ self .count ≤ 128 ⌝ }
+        requires { ⌜ self .count ≤ ledgerPlaces ⌝ }
         ensures { λ r. ⌜ r ≡ placeOf id (live self) ⌝ }
     {
         let n = self.count;
@@ -50,7 +51,7 @@ impl Ledger {
 
     // The ledger with a header, and a bill at a place.
     pub fn updated(mut self, i: usize, u: Update) -> Ledger
-        requires { ⌜ i < 128 ⌝ }
+        requires { ⌜ i < ledgerPlaces ⌝ }
         ensures { λ r. ⌜ r ≡ updated self i u ⌝ }
     {
         let h = u.header;
@@ -66,7 +67,7 @@ impl Ledger {
 
     // The sum of the posted charges.
     pub fn total(self) -> Cents
-        requires { ⌜ (self .count ≤ 128) × (every smallCharge (live self) ≡ true) ⌝ }
+        requires { ⌜ (self .count ≤ ledgerPlaces) × (every smallCharge (live self) ≡ true) ⌝ }
         ensures { λ r. ⌜ r .0 ≡ totalOf (live self) ⌝ }
     {
         let b = self.bills;
@@ -76,14 +77,14 @@ impl Ledger {
 }
 
 fn within(i: usize) -> usize
-    ensures { λ r. ⌜ (r ≡ within i) × (r < 128) ⌝ }
+    ensures { λ r. ⌜ (r ≡ within i) × (r < ledgerPlaces) ⌝ }
 {
-    if i < 128 { i } else { 127 }
+    if i < crate::PLACES { i } else { 127 }
 }
 
 // A place of the array: the one that was found, else the next free one, else the last.
 pub fn slot(f: Found, count: usize) -> usize
-    ensures { λ r. ⌜ (r ≡ placeFor f count) × (r < 128) ⌝ }
+    ensures { λ r. ⌜ (r ≡ placeFor f count) × (r < ledgerPlaces) ⌝ }
 {
     match f {
         Found::At(p) => within(p),
@@ -110,7 +111,7 @@ pub fn add_charge(sum: Cents, b: Bill) -> Cents
 
 // The sum of the posted charges of lent bills.
 pub fn total(bills: &[Bill]) -> Cents
-    requires { ⌜ (length (now bills) ≤ 128) × (every smallCharge (now bills) ≡ true) ⌝ }
+    requires { ⌜ (length (now bills) ≤ ledgerPlaces) × (every smallCharge (now bills) ≡ true) ⌝ }
     ensures { λ r. ⌜ r .0 ≡ totalOf (now (bills .entry)) ⌝ }
 {
     let mut sum = Cents(0);
@@ -123,8 +124,8 @@ pub fn total(bills: &[Bill]) -> Cents
 }
 
 // The same of an array's first n bills, which it lends. It takes no slice, so callers need no walk by hand.
-fn total_first(bills: [Bill; 128], n: usize) -> Cents
-    requires { ⌜ (n ≤ 128) × (every smallCharge (take n bills) ≡ true) ⌝ }
+fn total_first(bills: [Bill; crate::PLACES], n: usize) -> Cents
+    requires { ⌜ (n ≤ ledgerPlaces) × (every smallCharge (take n bills) ≡ true) ⌝ }
     ensures { λ r. ⌜ r .0 ≡ totalOf (take n bills) ⌝ }
 {
     total(&bills[..n])

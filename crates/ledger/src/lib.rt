@@ -8,6 +8,17 @@ use units::Ccf;
 use units::Cents;
 use units::Date;
 
+// "up to 128 bills".
+pub const PLACES: usize = 128;
+
+// The last sequence of a bill.
+pub const LAST_SEQUENCE: u64 = 999;
+
+// The last Tracking ID or Confirmation Number, and what the next number is when all are used up.
+pub const LAST_NUMBER: u64 = 999999999;
+
+pub const USED_UP: u64 = 1000000000;
+
 // What identifies a bill: Customer Account Number (12 digits) and Bill Key (4).
 pub struct Identity {
     pub account: u64,
@@ -69,7 +80,7 @@ pub struct Ledger {
     pub next_tracking: u64,
     pub next_confirmation: u64,
     pub count: usize,
-    pub bills: [Bill; 128],
+    pub bills: [Bill; PLACES],
 }
 
 // A ledger but for its bills.

@@ -30,7 +30,7 @@ impl RateCode {
 pub fn is_next(n: u64) -> bool
     ensures { λ r. ⌜ r ≡ isNext n ⌝ }
 {
-    (1 <= n) & (n <= 1000000000)
+    (1 <= n) & (n <= crate::USED_UP)
 }
 
 impl Terms {
@@ -46,9 +46,9 @@ impl Terms {
             & code.valid()
             & (1 <= self.requests)
             & (self.requests <= self.sequence)
-            & (self.sequence <= 999)
+            & (self.sequence <= crate::LAST_SEQUENCE)
             & (1 <= latest.tracking)
-            & (latest.tracking <= 999999999)
+            & (latest.tracking <= crate::LAST_NUMBER)
             & latest.consumption.fits()
             & latest.billing.valid()
             & latest.from.valid()

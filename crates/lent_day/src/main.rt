@@ -97,7 +97,7 @@ fn main() {
     let mut out = [32u8; 642];
     let l = day(empty, s, q, Date(20171114), &mut out);
     io::write_all(STDOUT_FILENO, &out);
-    let mut lines = [0u8; 10970];
+    let mut lines = [0u8; table::TABLE_ROOM];
     let n = table::write(&mut lines, l, false);
     io::write_all(STDOUT_FILENO, &lines[..n]);
     show_answer(l, id);

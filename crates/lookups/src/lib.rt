@@ -4,6 +4,7 @@ ghost use Prim.Native.Nat.{_≤_};
 ghost use Rattle.rules.specs.Lists.{find};
 ghost use Rattle.ledger.specs.Books.{live};
 ghost use Rattle.lookups.specs.Lookups.{isOpenOf, OpenBill, countedBy, amountsIn};
+ghost use Rattle.ledger.specs.Limits.{ledgerPlaces};
 use causes::checks;
 use ledger::Bill;
 use ledger::Identity;
@@ -38,7 +39,7 @@ pub fn is_open_of(b: Bill, account: u64, today: Date) -> bool
 
 // The place of the first open bill of an account.
 fn find_open(l: Ledger, account: u64) -> Found
-    requires { ⌜ l .count ≤ 128 ⌝ }
+    requires { ⌜ l .count ≤ ledgerPlaces ⌝ }
     ensures { λ r. ⌜ r ≡ find (isOpenOf account (l .today)) 0 (live l) ⌝ }
 {
     let today = l.today;

@@ -14,7 +14,8 @@ use Rattle.ledger.specs.Books.{live}
 use Rattle.ledger.specs.parts.Places.{headerOf}
 use Rattle.ledger.specs.Sound.{isNext, soundBill, distinct, soundLedger}
 use Rattle.ledger.proofs.SoundLaws.{walked, split}
-use Rattle.words.specs.Layout.{ledgerPlaces, holdsLedger, ledgerOf}
+use Rattle.words.specs.Layout.{holdsLedger, ledgerOf}
+use Rattle.ledger.specs.Limits.{ledgerPlaces}
 use Rattle.places.proofs.PartLaws.{places-of}
 
 -- the test of a header

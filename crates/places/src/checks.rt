@@ -8,15 +8,16 @@ ghost use Rattle.units.specs.Calendar.{isDate};
 ghost use Rattle.rules.specs.Lists.{every};
 ghost use Rattle.ledger.specs.parts.Places.{billAt};
 ghost use Rattle.ledger.specs.Sound.{isNext, soundBill, holdsId, distinct, soundLedger};
-ghost use Rattle.words.specs.Layout.{ledgerPlaces, holdsLedger, ledgerOf};
+ghost use Rattle.words.specs.Layout.{holdsLedger, ledgerOf};
+ghost use Rattle.ledger.specs.Limits.{ledgerPlaces};
 ghost use Rattle.places.specs.parts.Slots.{slots, identitySlot};
 use crate::place;
 use ledger::Identity;
 use ledger::LedgerHeader;
+use ledger::PLACES;
 use rules::Found;
 use words::HEADER_SIZE;
 use words::PLACE_SIZE;
-use words::PLACES;
 
 // How many slots there are, and by what a step of the account moves the slot: 10000, which is 329 past a multiple of the slots.
 const SLOTS: u64 = 509;

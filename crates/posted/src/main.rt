@@ -55,9 +55,9 @@ fn main() {
         );
         return;
     }
-    let mut ws = [0u64; 2436];
+    let mut ws = [0u64; words::LEDGER_SIZE];
     let mut buf = [0u8; 262144];
-    let mut out = [0u8; 10970];
+    let mut out = [0u8; table::TABLE_ROOM];
     let o = post_input(&mut ws, &mut buf, &mut out);
     output::send(o, &out);
 }

@@ -58,7 +58,7 @@ fn last_of_input(ws: &mut [u64], buf: &mut [u8], out: &mut [u8], tells: Wanted) 
 pub fn tell(tells: Wanted) -> Output
     ensures { λ o. ⌜ (o .descriptor ≡ lastTo tells) × ToldSize (o .length) ⌝ }
 {
-    let mut ws = [0u64; 2436];
+    let mut ws = [0u64; words::LEDGER_SIZE];
     let mut buf = [0u8; 262144];
     let mut out = [0u8; 262144];
     let o = last_of_input(&mut ws, &mut buf, &mut out, tells);

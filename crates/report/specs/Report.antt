@@ -6,7 +6,7 @@ use mathlib.Core.List.{List, [], _∷_}
 use lib.Dec.{ltb}
 use lib.ListN.{length}
 use Rattle.fields.specs.Put.{put}
-use Rattle.table.specs.Table.{tableOf}
+use Rattle.table.specs.Table.{tableOf, tableRoom}
 use Rattle.rules.specs.declared.Check.the-variants.{Clear}
 use Rattle.rules.specs.Rules.{first}
 use Rattle.causes.specs.declared.Start.{Start}
@@ -35,14 +35,14 @@ pub data Claimed (s : List ℕ) : Type 0 where
 
 -- an output under 10,970 bytes is refused and left as it was
 unfoldable pub reportOf : ℕ → List ℕ → Report
-reportOf room s = cond (ltb room 10970) TooSmall (Written (length (postedOf s)))
+reportOf room s = cond (ltb room tableRoom) TooSmall (Written (length (postedOf s)))
 
 unfoldable pub reported : ℕ → List ℕ → List ℕ
-reported room s = cond (ltb room 10970) [] (postedOf s)
+reported room s = cond (ltb room tableRoom) [] (postedOf s)
 
 -- a table has at most 10,970 bytes
 abbrev pub Within : Report → Type 0
-Within (Written n) = n ≤ 10970
+Within (Written n) = n ≤ tableRoom
 Within TooSmall = Unit {0}
 
 -- what is answered and left of an output out₀; `stopped` says what `stopped,13` says in the table

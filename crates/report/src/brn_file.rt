@@ -22,7 +22,7 @@ fn fit_in(src: &[u8], room: usize) -> Fit
     if room::has_room_for_any(src, room) {
         return Fit::Fits;
     }
-    let mut ws = [0u64; 2436];
+    let mut ws = [0u64; words::LEDGER_SIZE];
     let mut none = [0u8; 1];
     run::start(&mut ws);
     let r = run::run(&mut ws, &mut none, false, src, 0);
@@ -38,7 +38,7 @@ fn write_notices(src: &[u8], out: &mut [u8]) -> Reported
     requires { ⌜ length (brnOf (now src)) ≤ length (now out) ⌝ }
     ensures { λ r. ⌜ ReportsNotices (now (src .entry)) (now (out .entry)) (now (out .exit)) r ⌝ }
 {
-    let mut ws = [0u64; 2436];
+    let mut ws = [0u64; words::LEDGER_SIZE];
     run::start(&mut ws);
     let r = run::run(&mut ws, out, true, src, 0);
     let left = src.len() - r.used;

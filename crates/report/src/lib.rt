@@ -22,12 +22,12 @@ pub struct Reported {
 pub fn post_table(src: &[u8], out: &mut [u8]) -> Reported
     ensures { λ r. ⌜ Reports (now (src .entry)) (now (out .entry)) (now (out .exit)) r ⌝ }
 {
-    let mut ws = [0u64; 2436];
+    let mut ws = [0u64; words::LEDGER_SIZE];
     let mut none = [0u8; 1];
     run::start(&mut ws);
     let r = run::run(&mut ws, &mut none, false, src, 0);
     let stopped = journal::ends_bad(r.stopped, src.len() - r.used, r.seen);
-    if out.len() < 10970 {
+    if out.len() < table::TABLE_ROOM {
         return Reported {
             report: Report::TooSmall,
             stopped,

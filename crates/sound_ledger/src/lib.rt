@@ -12,7 +12,7 @@ pub fn sound(l: Ledger) -> bool
     let head = today.valid()
         & ledger::sound::is_next(l.next_tracking)
         & ledger::sound::is_next(l.next_confirmation)
-        & (n <= 128);
+        & (n <= ledger::PLACES);
     if !head {
         return false;
     }

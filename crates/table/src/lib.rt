@@ -10,6 +10,7 @@ ghost use Rattle.rules.specs.Lists.{every};
 ghost use Rattle.ledger.specs.Bills.{codeBytes, productByte};
 ghost use Rattle.ledger.specs.Books.{book, live, smallCharge};
 ghost use Rattle.table.specs.Table.{cell, stateByte, termsCells, amountCells, stateCell, heading, lineOf, linesOf, totalLine, stopLine, tableOf, tableRoom, printedBy, printed};
+ghost use Rattle.ledger.specs.Limits.{ledgerPlaces};
 use ledger::Bill;
 use ledger::Ledger;
 use ledger::Posted;
@@ -137,8 +138,14 @@ fn put_lines(bills: &[Bill], out: &mut [u8], at: usize, today: Date) -> usize
 }
 
 // The same of an array's first n bills, which it lends. It takes no slice of bills, so callers need no walk by hand.
-fn lines_first(bills: [Bill; 128], n: usize, out: &mut [u8], at: usize, today: Date) -> usize
-    requires { ⌜ (n ≤ 128) × (at + 85 * n ≤ length (now out)) ⌝ }
+fn lines_first(
+    bills: [Bill; ledger::PLACES],
+    n: usize,
+    out: &mut [u8],
+    at: usize,
+    today: Date,
+) -> usize
+    requires { ⌜ (n ≤ ledgerPlaces) × (at + 85 * n ≤ length (now out)) ⌝ }
     ensures { λ r. ⌜ (r ≡ at + 85 * n) × (now (out .exit) ≡ put (now (out .entry)) at (linesOf today (take n bills))) ⌝ }
 {
     put_lines(&bills[..n], out, at, today)
@@ -181,7 +188,7 @@ pub fn put_heading(out: &mut [u8])
 
 // Writes the table, and answers how many bytes it has.
 pub fn write(out: &mut [u8], l: Ledger, stopped: bool) -> usize
-    requires { ⌜ (l .count ≤ 128) × (every smallCharge (live l) ≡ true) × (tableRoom ≤ length (now out)) ⌝ }
+    requires { ⌜ (l .count ≤ ledgerPlaces) × (every smallCharge (live l) ≡ true) × (tableRoom ≤ length (now out)) ⌝ }
     ensures { λ r. ⌜ r ≡ length (tableOf (book l) stopped) ⌝ }
     ensures { λ _. ⌜ now (out .exit) ≡ put (now (out .entry)) 0 (tableOf (book l) stopped) ⌝ }
     ensures { λ r. ⌜ r ≤ tableRoom ⌝ }

@@ -30,6 +30,7 @@ use Rattle.verdict.specs.declared.TierRate.the-variants as rate
 use Rattle.verdict.specs.declared.Verdict.{Verdict}
 use Rattle.verdict.specs.declared.Verdict.the-variants.{Accepted, Rejected}
 use Rattle.rules.specs.Rules.{Rule, rule, first, only}
+use Rattle.ledger.specs.Limits.{lastSequence}
 
 -- ---- the bill that a group names
 abbrev pub isNothing : Sought → Bool
@@ -60,7 +61,7 @@ line6 Response today h d t =
 line6 Supplement today h d t =
     rule (t .cancelled) 9
     ∷ rule (isOpen today t) 11
-    ∷ rule (not (sameList (sequenceIn d) (text "000")) || eqb (t .sequence) 999) 5
+    ∷ rule (not (sameList (sequenceIn d) (text "000")) || eqb (t .sequence) lastSequence) 5
     ∷ []
 
 -- "7. BR08 consumption not numeric; BR06 not the bill's; BR10 charge not numeric."

@@ -87,7 +87,7 @@ fn line_6_supplement(h: &[u8], d: &[u8], t: Terms, today: Date) -> Check
         return Check::Stop(5);
     }
     let sequence = t.sequence;
-    if sequence == 999 {
+    if sequence == ledger::LAST_SEQUENCE {
         return Check::Stop(5);
     }
     Check::Clear

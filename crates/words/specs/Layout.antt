@@ -17,6 +17,7 @@ use Rattle.ledger.specs.declared.Terms.{Terms}
 use Rattle.ledger.specs.declared.Bill.{Bill}
 use Rattle.ledger.specs.declared.Ledger.{Ledger}
 use Rattle.ledger.specs.Bills.{productByte, cents, blankBill, productOf}
+use Rattle.ledger.specs.Limits.{ledgerPlaces}
 
 -- ---- the sizes: the words before the first place, those of a place, the places, and the words of a ledger
 abbrev pub headerSize : ℕ
@@ -24,9 +25,6 @@ headerSize = 4
 
 abbrev pub placeSize : ℕ
 placeSize = 19
-
-abbrev pub ledgerPlaces : ℕ
-ledgerPlaces = 128
 
 abbrev pub ledgerSize : ℕ
 ledgerSize = 2436

@@ -24,8 +24,6 @@ pub const HEADER_SIZE: usize = 4;
 
 pub const PLACE_SIZE: usize = 19;
 
-pub const PLACES: usize = 128;
-
 pub const LEDGER_SIZE: usize = 2436;
 
 // ---- which words are those of a ledger
@@ -65,7 +63,7 @@ pub fn fits(words: &[u64]) -> bool
     }
     let mut good = true;
     let mut i = 0;
-    while i < PLACES {
+    while i < ledger::PLACES {
         good = good & fits_in(words, HEADER_SIZE + PLACE_SIZE * i);
         i += 1;
     }
@@ -272,7 +270,7 @@ pub fn write_empty(words: &mut [u64], today: u64, tracking: u64, confirmation: u
     words[2] = confirmation;
     words[3] = 0;
     let mut i = 0;
-    while i < PLACES {
+    while i < ledger::PLACES {
         let blank = Bill::blank();
         put_bill(words, HEADER_SIZE + PLACE_SIZE * i, blank);
         i += 1;

@@ -14,10 +14,11 @@ use Rattle.rules.specs.declared.Check.the-variants.{Clear, Stop}
 use Rattle.causes.specs.declared.Request.{Request}
 use Rattle.causes.specs.declared.Decision.{Decision}
 use Rattle.causes.specs.Requests.{latestOf, newBill}
+use Rattle.ledger.specs.Limits.{lastSequence}
 
 -- a bill held is as a sound ledger has it
 abbrev pub SoundAt : Found → Bill → Type 0
-SoundAt (At p) b = (b .terms .requests ≤ b .terms .sequence) × (b .terms .sequence ≤ 999)
+SoundAt (At p) b = (b .terms .requests ≤ b .terms .sequence) × (b .terms .sequence ≤ lastSequence)
 SoundAt Nothing b = Unit {0}
 
 -- the same, with room for one request more

@@ -29,6 +29,7 @@ use Rattle.notices.specs.Answers.{acf, rej}
 use Rattle.group.specs.declared.Tally.{Tally}
 use Rattle.group.specs.declared.TurnResult.{TurnResult}
 use Rattle.group.specs.Groups.{verdictOn, taken, answers, verdicts, isAccepted, isRejected}
+use Rattle.ledger.specs.Limits.{ledgerPlaces, lastSequence, usedUp}
 
 -- ---- the bill that a group names
 -- the identity that a header and a detail name
@@ -46,7 +47,7 @@ soughtBy (found.At p) b = sought.Bill (b .terms)
 
 -- what a turn asks of a bill that was found: a sound one has it
 unfoldable pub inWidths : bill.Bill → Bool
-inWidths b = leb (b .terms .sequence) 999 && smallCharge b
+inWidths b = leb (b .terms .sequence) lastSequence && smallCharge b
 
 abbrev pub InWidthsAt : Found → bill.Bill → Type 0
 InWidthsAt (found.At p) b = inWidths b ≡ true
@@ -54,10 +55,10 @@ InWidthsAt found.Nothing b = Unit {0}
 
 -- what a walk over a file's groups asks of a ledger: a sound one has it
 pub record Ready (l : Ledger) : Type 0 where
-  pub count : l .count ≤ 128
+  pub count : l .count ≤ ledgerPlaces
   pub bills : every inWidths (live l) ≡ true
-  pub tracking : l .«next_tracking» ≤ 1000000000
-  pub confirmation : l .«next_confirmation» ≤ 1000000000
+  pub tracking : l .«next_tracking» ≤ usedUp
+  pub confirmation : l .«next_confirmation» ≤ usedUp
 
 -- ---- what a verdict leaves
 -- an accepted SUP takes a Tracking ID, any other group none
@@ -76,7 +77,7 @@ headerBy v sup h =
 
 -- a bill that is posted to has a sequence that can rise
 abbrev pub CanPost : Verdict → bill.Bill → Type 0
-CanPost (Accepted amounts) b = b .terms .sequence ≤ 999
+CanPost (Accepted amounts) b = b .terms .sequence ≤ lastSequence
 CanPost (Rejected n) b = Unit {0}
 
 -- ---- the answer
@@ -137,8 +138,8 @@ pub record TurnLeaves (v : Verdict) (g : Group) (h : LedgerHeader) (b : bill.Bil
 -- ---- the same on a struct, wherever it is held
 -- what a turn asks of it
 pub record FitForTurn (l : Ledger) (c : Tally) : Type 0 where
-  pub places : length (l .bills) ≡ 128
-  pub count : l .count ≤ 128
+  pub places : length (l .bills) ≡ ledgerPlaces
+  pub count : l .count ≤ ledgerPlaces
   pub bills : every inWidths (live l) ≡ true
   pub tracking : l .«next_tracking» ≤ 1000000200
   pub confirmation : l .«next_confirmation» ≤ 1000000200

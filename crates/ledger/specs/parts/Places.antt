@@ -11,6 +11,7 @@ use Rattle.rules.specs.declared.Found.{Found}
 use Rattle.rules.specs.declared.Found.the-variants.{At, Nothing}
 use Rattle.ledger.specs.Bills.{blankBill}
 use Rattle.ledger.specs.Books.{withBills}
+use Rattle.ledger.specs.Limits.{ledgerPlaces}
 
 -- the bill at a place of the struct
 abbrev pub billAt : Ledger → ℕ → Bill
@@ -40,7 +41,7 @@ updated l p u = withHeader (replaced l p (u .bill)) (u .header)
 
 -- the place that was found or, where none was, the next free one; the last one stands where all are taken
 abbrev pub within : ℕ → ℕ
-within i = cond (ltb i 128) i 127
+within i = cond (ltb i ledgerPlaces) i 127
 
 abbrev pub placeFor : Found → ℕ → ℕ
 placeFor (At p) count = within p

@@ -39,7 +39,7 @@ use denote.Triple.Walked.{says, needs, Stays, stay-none, stay-none-slice, walkOf
 use denote.Exit.{yes}
 use Rattle.ledger.specs.Bills.{blankBill}
 use Rattle.ledger.specs.declared.Bill.{Bill}
-use Rattle.ledger.proofs.LentBills.{vals}
+use Rattle.ledger.proofs.LentBills.{billSize, vals}
 use Rattle.ledger.proofs.Bill as B
 use Rattle.ledger.proofs.Bill.Laws as B′
 use Rattle.ledger.proofs.books.bill_at.Key.{name as #ledger·books·bill-at}
@@ -50,8 +50,8 @@ use Rattle.ledger.proofs.books.bill_at.Code as code
 abbrev stayed : Stays (bill-at.ended .signature .params) (bill-at.ended .kept)
 stayed = (stay-none-slice (0 ∷ []) tt (plain (λ _. B.the-row)) yes, (stay-none (λ _. usize) yes, tt))
 
--- a bill is 120 bytes: the place of element i fits
-place-fits : (n i : ℕ) → n * 120 < 2 ^ 63 → i < n → i * 120 < 2 ^ 64
+-- the place of element i fits
+place-fits : (n i : ℕ) → n * billSize < 2 ^ 63 → i < n → i * billSize < 2 ^ 64
 place-fits n i room l = omega (arith, room, l)
 
 module _ {M : Type 1} (𝓤 : URA M) (H : Heap 𝓤) (A : Atoms 𝓤) (W : Given 𝓤 H A) (mem : Memory → SProp 𝓤) (run : Routine → Fun 𝓤) (κ : Lft) (q : Share) (b o : ℕ) (γ : GName) (ys : List Bill) (i : ℕ) where
@@ -82,7 +82,7 @@ module _ {M : Type 1} (𝓤 : URA M) (H : Heap 𝓤) (A : Atoms 𝓤) (W : Given
         pass1 ! (init ! 8 refl (tt, (tt, (record { fits = gn .0 }, tt)))) $ pass1 ! (init ! 6 refl (tt, record { fits = gi })) $ pass0 ! $
         assigns ! (bin ! (load ! (from ! (stop !)) (look ! 6 refl)) (lit ! tt) (record { fits = place-fits (length ys) i (gn .1) l })) (from ! (stop !)) (init ! 4 refl (tt, record { fits = place-fits (length ys) i (gn .1) l })) $
         assigns ! (bin ! (load ! (from ! (fld ! refl (stop !))) (look-in ! 8 (sub ! 0 refl (whole !)))) (load ! (from ! (stop !)) (look ! 4 refl)) tt) (from ! (stop !)) (init ! 2 refl (tt, tt)) $
-        rewrite ! 2 (λ (p : ℕ). ‵ (fat fullShare tyPtr l₄ 0 (vptr b p))) (sym (place-is 120 o i)) refl $
+        rewrite ! 2 (λ (p : ℕ). ‵ (fat fullShare tyPtr l₄ 0 (vptr b p))) (sym (place-is billSize o i)) refl $
         move ! (13 ∷ []) $ fsplit ! $ fsplit ! $ move ! (1 ∷ []) $ fsplit ! $ move ! (16 ∷ []) $ split ! $ move ! (3 ∷ 0 ∷ []) $
         looks-slice ! tt B.the-row (Is B.the-row) (shows 𝓤 H A B.the-row) vals (LL.tells B.the-type B′.the-laws) (LL.copy B.the-type B′.the-copy 𝓤 H A W) ys b o (λ q′. elem-out ! B.the-row (Is B.the-row) (shows 𝓤 H A B.the-row) vals (LL.tells B.the-type B′.the-laws) q′ ys i blankBill b o l (λ g.
         -- [bills[i]; what it owns; the others; what shuts; the fractured borrow; true; res; the slice's fact; i's; _5; …; _4; …; _3; …; _2; …; _1; …; _0; …]
