@@ -24,7 +24,7 @@ fn file_on_sound(l: Ledger, out: &mut [u8], s: &[u8]) -> Called
             answer: Answer::Refused(n),
         },
         Check::Clear => {
-            let t = groups::take_groups(l, out, s, s.len() / 321);
+            let t = groups::take_groups(l, out, s, s.len() / records::RECORD_SIZE);
             let next = t.ledger;
             let c = t.tally;
             let answer = carried_out::cleared(c);

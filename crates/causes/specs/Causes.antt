@@ -24,6 +24,7 @@ use Rattle.causes.specs.declared.Start.{Start}
 use Rattle.causes.specs.declared.CodeField.{CodeField}
 use Rattle.causes.specs.declared.Request.{Request}
 use Rattle.ledger.specs.Limits.{ledgerPlaces, lastSequence, lastNumber, usedUp}
+use Rattle.records.specs.Limits.{noticeSize}
 
 -- "The list holds each call with its arguments, file bytes and the length of the output lent to it": room is that length
 pub data Call : Type 0 where
@@ -83,7 +84,7 @@ billCauses r held Nothing = rule (leb ledgerPlaces held) 3 ∷ []
 unfoldable pub requestCauses : Request → ℕ → Date → ℕ → ℕ → ℕ → Sought → List Rule
 requestCauses r room today tracking confirmation held b =
     rule (not (all (requestTests r))) 2
-    ∷ rule (ltb room 642) 1
+    ∷ rule (ltb room noticeSize) 1
     ∷ rule (ltb (r .scheduled .0) (today .0)) 9
     ∷ (billCauses r held b ++ (rule (lacks tracking confirmation 1 1) 12 ∷ []))
 
@@ -99,7 +100,7 @@ fileCauses s room tracking confirmation =
 unfoldable pub cancelCauses : Identity → ℕ → ℕ → ℕ → Sought → List Rule
 cancelCauses id room tracking confirmation b =
     rule (not (goodIdentity id)) 2
-    ∷ rule (ltb room 642) 1
+    ∷ rule (ltb room noticeSize) 1
     ∷ rule (isNothing b) 4
     ∷ rule (termsOf b .cancelled) 5
     ∷ rule (lacks tracking confirmation 1 1) 12

@@ -9,6 +9,7 @@ ghost use Rattle.rules.specs.Rules.{first};
 ghost use Rattle.causes.specs.Causes.{isNumber, goodIdentity, fiveOf, isProduct, requestTests, lacks, freshCauses, billCauses, requestCauses, fileCauses, cancelCauses, closeCauses};
 ghost use Rattle.causes.specs.Requests.{codeOf, closes};
 ghost use Rattle.ledger.specs.Limits.{usedUp};
+ghost use Rattle.records.specs.Limits.{fileRecords};
 use crate::CodeField;
 use crate::Request;
 use crate::Start;
@@ -21,7 +22,7 @@ use verdict::Sought;
 
 // Whether t Tracking IDs and c Confirmation Numbers are more than are left.
 pub fn lacks(tracking: u64, confirmation: u64, t: u64, c: u64) -> bool
-    requires { ⌜ (tracking ≤ usedUp) × (confirmation ≤ usedUp) × (t ≤ 200) × (c ≤ 200) ⌝ }
+    requires { ⌜ (tracking ≤ usedUp) × (confirmation ≤ usedUp) × (t ≤ fileRecords) × (c ≤ fileRecords) ⌝ }
     ensures { λ r. ⌜ r ≡ lacks tracking confirmation t c ⌝ }
 {
     (ledger::USED_UP < tracking + t) | (ledger::USED_UP < confirmation + c)
@@ -134,7 +135,7 @@ pub fn request_check(
     if !good_request(r) {
         return Check::Stop(2);
     }
-    if room < 642 {
+    if room < records::NOTICE_SIZE {
         return Check::Stop(1);
     }
     let scheduled = r.scheduled;
@@ -159,7 +160,7 @@ pub fn cancel_check(id: Identity, room: usize, tracking: u64, confirmation: u64,
     if !good_identity(id) {
         return Check::Stop(2);
     }
-    if room < 642 {
+    if room < records::NOTICE_SIZE {
         return Check::Stop(1);
     }
     let Sought::Bill(t) = b else {
@@ -187,7 +188,7 @@ pub fn file_check(s: &[u8], room: usize, tracking: u64, confirmation: u64) -> Ch
     if room < len {
         return Check::Stop(1);
     }
-    let needs = file::count_groups(s, len / 321);
+    let needs = file::count_groups(s, len / records::RECORD_SIZE);
     if lacks(
         tracking,
         confirmation,

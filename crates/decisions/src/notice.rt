@@ -6,6 +6,7 @@ ghost use lib.ListN.{length};
 ghost use Rattle.fields.specs.Put.{put};
 ghost use Rattle.group.specs.parts.Turns.{ifWritten};
 ghost use Rattle.causes.specs.parts.Decisions.{previousBy, bilBy, cxlBy};
+ghost use Rattle.records.specs.Limits.{noticeSize};
 use ledger::Bill;
 use ledger::LedgerHeader;
 use notices::bil::Bil;
@@ -25,7 +26,7 @@ fn previous(f: Found, b: Bill) -> Ccf
 
 // The BIL of a request: b stood at its place, and c does now.
 pub fn put_bil(out: &mut [u8], writes: bool, h: LedgerHeader, f: Found, b: Bill, c: Bill)
-    requires { ⌜ (writes ≡ true → 642 ≤ length (now out)) ⌝ }
+    requires { ⌜ (writes ≡ true → noticeSize ≤ length (now out)) ⌝ }
     ensures { λ _. ⌜ now (out .exit) ≡ put (now (out .entry)) 0 (ifWritten writes (bilBy h f b c)) ⌝ }
 {
     if !writes {
@@ -47,7 +48,7 @@ pub fn put_bil(out: &mut [u8], writes: bool, h: LedgerHeader, f: Found, b: Bill,
 
 // The CXL of a cancel: b stood at its place.
 pub fn put_cxl(out: &mut [u8], writes: bool, h: LedgerHeader, b: Bill)
-    requires { ⌜ (writes ≡ true → 642 ≤ length (now out)) ⌝ }
+    requires { ⌜ (writes ≡ true → noticeSize ≤ length (now out)) ⌝ }
     ensures { λ _. ⌜ now (out .exit) ≡ put (now (out .entry)) 0 (ifWritten writes (cxlBy h b)) ⌝ }
 {
     if !writes {

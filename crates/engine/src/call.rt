@@ -82,7 +82,7 @@ pub fn file_in(ws: &mut [u64], out: &mut [u8], writes: bool, room: usize, s: &[u
     if let Check::Stop(n) = check {
         return Answer::Refused(n);
     }
-    let c = file_groups::take(ws, out, writes, s, s.len() / 321);
+    let c = file_groups::take(ws, out, writes, s, s.len() / records::RECORD_SIZE);
     calls::carried_out::cleared(c)
 }
 

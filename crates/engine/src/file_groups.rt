@@ -7,6 +7,7 @@ ghost use Rattle.words.specs.Layout.{holdsLedger, ledgerOf};
 ghost use Rattle.records.specs.Layout.{recordsFrom};
 ghost use Rattle.file.specs.File.{groups};
 ghost use Rattle.group.specs.parts.Turns.{Ready, FitForTurn, TurnLeavesOn, FileTaken};
+ghost use Rattle.records.specs.Limits.{recordSize, fileRecords};
 use group::Tally;
 use places::place;
 
@@ -21,7 +22,7 @@ fn turn(
     n: usize,
     duplicate: bool,
 ) -> Tally
-    requires { ⌜ (i < n) × (n * 321 ≤ length (now s)) × (n ≤ 200) × (writes ≡ true → c .written + (n - i) * 321 ≤ length (now out)) ⌝ }
+    requires { ⌜ (i < n) × (n * recordSize ≤ length (now s)) × (n ≤ fileRecords) × (writes ≡ true → c .written + (n - i) * recordSize ≤ length (now out)) ⌝ }
     requires { ⌜ (holdsLedger (now ws) ≡ true) × FitForTurn (ledgerOf (now ws)) c ⌝ }
     ensures { λ r. ⌜ (holdsLedger (now (ws .exit)) ≡ true) × TurnLeavesOn (now (s .entry)) i n duplicate (ledgerOf (now (ws .entry))) c writes (now (out .entry)) (ledgerOf (now (ws .exit))) (now (out .exit)) r ⌝ }
 {
@@ -38,7 +39,7 @@ fn turn(
 
 // The groups of the first n records, in order, each on the ledger that the one before left.
 pub fn take(ws: &mut [u64], out: &mut [u8], writes: bool, s: &[u8], n: usize) -> Tally
-    requires { ⌜ (n ≤ 200) × (n * 321 ≤ length (now s)) × (writes ≡ true → n * 321 ≤ length (now out)) ⌝ }
+    requires { ⌜ (n ≤ fileRecords) × (n * recordSize ≤ length (now s)) × (writes ≡ true → n * recordSize ≤ length (now out)) ⌝ }
     requires { ⌜ (holdsLedger (now ws) ≡ true) × Ready (ledgerOf (now ws)) ⌝ }
     ensures { λ r. ⌜ (holdsLedger (now (ws .exit)) ≡ true) × FileTaken (ledgerOf (now (ws .entry))) (groups (recordsFrom (now (s .entry)) 0 n)) writes (now (out .entry)) (ledgerOf (now (ws .exit))) (now (out .exit)) r ⌝ }
 {

@@ -7,6 +7,7 @@ ghost use Rattle.ledger.specs.Sound.{soundLedger};
 ghost use Rattle.words.specs.Layout.{ledgerOf};
 ghost use Rattle.journal.proofs.MadeLaws.{Taken};
 ghost use Rattle.entries.specs.parts.Stepping.{EntryCalledIn, SteppedIn};
+ghost use Rattle.records.specs.Limits.{fileSize};
 use calls::Answer;
 use engine::call;
 use journal::Body;
@@ -45,7 +46,7 @@ pub fn entry(
 // Makes the entry at the start of src, after so many entries: "Each call's output there is 64,200 bytes".
 pub fn step(ws: &mut [u64], out: &mut [u8], src: &[u8], seen: u64, writes: bool) -> Stepped
     requires { ⌜ soundLedger (ledgerOf (now ws)) ≡ true ⌝ }
-    requires { ⌜ (writes ≡ true → 64200 ≤ length (now out)) ⌝ }
+    requires { ⌜ (writes ≡ true → fileSize ≤ length (now out)) ⌝ }
     ensures { λ r. ⌜ SteppedIn writes 0 seen (now (src .entry)) (now (ws .entry)) (now (out .entry)) (now (ws .exit)) (now (out .exit)) r ⌝ }
 {
     let h = journal::head_at(src, seen);

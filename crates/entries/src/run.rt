@@ -11,6 +11,7 @@ ghost use Rattle.journal.specs.Journal.{firstBook};
 ghost use Rattle.journal.specs.EntryCalls.{lengthOf, firstLedger};
 ghost use Rattle.entries.specs.parts.Stepping.{SteppedIn};
 ghost use Rattle.entries.specs.parts.Running.{ranTo, RanIn};
+ghost use Rattle.records.specs.Limits.{fileSize};
 use crate::entry;
 use crate::entry::Stepped;
 use calls::Answer;
@@ -51,10 +52,10 @@ fn written(a: Answer) -> usize
 // Whether an output of so many bytes, of which n are written, lacks what one entry may write.
 fn is_full(writes: bool, len: usize, n: usize) -> bool
     requires { ⌜ (writes ≡ true → n ≤ len) ⌝ }
-    ensures { λ r. ⌜ r ≡ (writes && ltb (len - n) 64200) ⌝ }
+    ensures { λ r. ⌜ r ≡ (writes && ltb (len - n) fileSize) ⌝ }
 {
     if writes {
-        return len - n < 64200;
+        return len - n < records::FILE_SIZE;
     }
     false
 }
@@ -76,7 +77,7 @@ fn next(
     at: usize,
     seen: u64,
 ) -> Stepped
-    requires { ⌜ (soundLedger (ledgerOf (now ws)) ≡ true) × (at ≤ length (now src)) × (writes ≡ true → n + 64200 ≤ length (now out)) ⌝ }
+    requires { ⌜ (soundLedger (ledgerOf (now ws)) ≡ true) × (at ≤ length (now src)) × (writes ≡ true → n + fileSize ≤ length (now out)) ⌝ }
     ensures { λ r. ⌜ SteppedIn writes n seen (drop at (now (src .entry))) (now (ws .entry)) (now (out .entry)) (now (ws .exit)) (now (out .exit)) r ⌝ }
 {
     let to = place_for(writes, n);

@@ -19,6 +19,7 @@ use Rattle.journal.specs.declared.Head.{Head}
 use Rattle.journal.specs.declared.Head.the-variants.{Cut, Bad, Whole}
 use Rattle.journal.specs.declared.Frame.{Frame}
 use Rattle.journal.specs.declared.Frame.the-variants.{Nothing, Sized}
+use Rattle.records.specs.Limits.{fileSize}
 
 -- ---- the bodies: a field of digits is a number; a body with another field there is refused (2)
 -- the bytes at positions a to b hold digits only
@@ -79,6 +80,10 @@ bodyOf tag s =
     (cond (eqb tag 3) (cancelBody s)
     (closeBody s))))
 
+-- "any entry after the 1,000,000,000th"
+abbrev pub entryLimit : ℕ
+entryLimit = 1000000000
+
 -- ---- "Bad (13): cut short, another tag, a wrong length (0 to 64,200 for tag 2), tag 0 elsewhere than first, another tag first, any entry
 -- after the 1,000,000,000th."
 -- the tag and the length go together
@@ -86,7 +91,7 @@ unfoldable pub goodLength : ℕ → ℕ → Bool
 goodLength tag n =
     cond (eqb tag 0) (eqb n 26)
     (cond (eqb tag 1) (eqb n 56)
-    (cond (eqb tag 2) (leb n 64200)
+    (cond (eqb tag 2) (leb n fileSize)
     (cond (eqb tag 3) (eqb n 16)
     (cond (eqb tag 4) (eqb n 8)
     false))))
@@ -114,7 +119,7 @@ wholeOf tag b n = cond (eqb tag 0 && not (freshTaken b)) Bad (Whole b n)
 -- an entry with this tag and length, after so many entries
 unfoldable pub headBy : ℕ → List ℕ → ℕ → ℕ → Head
 headBy seen s tag n =
-    cond (ltb seen 1000000000 && inTurn seen tag && goodLength tag n)
+    cond (ltb seen entryLimit && inTurn seen tag && goodLength tag n)
     (cond (ltb (length s) (n + 3)) Cut (wholeOf tag (bodyOf tag (part s 3 n)) (n + 3)))
     Bad
 

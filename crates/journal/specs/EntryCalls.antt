@@ -12,6 +12,7 @@ use Rattle.calls.specs.Days.{freshCalled}
 use Rattle.journal.specs.declared.Body.{Body}
 use Rattle.journal.specs.declared.Body.the-variants as body
 use Rattle.journal.specs.Journal.{Entry, afterEntry, callOf, parse, firstBook}
+use Rattle.records.specs.Limits.{fileSize}
 
 -- what an entry's call gives back, where its output has so much room
 abbrev pub entryCalled : ℕ → Ledger → Body → List ℕ → Called
@@ -39,7 +40,7 @@ lengthOf (Refused n) = 0
 -- the struct that entries leave, each on the one that the entry before left: "Each call's output there is 64,200 bytes"
 unfoldable pub ledgerAfterEntries : Ledger → List Entry → Ledger
 ledgerAfterEntries l [] = l
-ledgerAfterEntries l (e ∷ es) = ledgerAfterEntries (entryCalled 64200 l (e .body) (e .bytes) .ledger) es
+ledgerAfterEntries l (e ∷ es) = ledgerAfterEntries (entryCalled fileSize l (e .body) (e .bytes) .ledger) es
 
 -- ---- a BRN file: the notices of every call carried out, in order
 -- the bytes that calls wrote

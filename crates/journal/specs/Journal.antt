@@ -14,6 +14,7 @@ use Rattle.journal.specs.declared.Body.the-variants as body
 use Rattle.journal.specs.declared.Head.{Head}
 use Rattle.journal.specs.declared.Head.the-variants.{Cut, Bad, Whole}
 use Rattle.journal.specs.Entries.{headOf, headNumber}
+use Rattle.records.specs.Limits.{fileSize}
 
 -- an entry: what its body holds, and the body's bytes
 pub record Entry : Type 0 where
@@ -48,9 +49,9 @@ parse seen s = parseUpTo (length s) seen s
 -- "Each call's output there is 64,200 bytes": the call of an entry; "A refused call is passed over", and so is one that can't be read
 abbrev pub callOf : Body → List ℕ → List Call
 callOf (body.Fresh s) bytes = []
-callOf (body.Request r) bytes = request r 64200 ∷ []
-callOf body.File bytes = file bytes 64200 ∷ []
-callOf (body.Cancel id) bytes = cancel id 64200 ∷ []
+callOf (body.Request r) bytes = request r fileSize ∷ []
+callOf body.File bytes = file bytes fileSize ∷ []
+callOf (body.Cancel id) bytes = cancel id fileSize ∷ []
 callOf (body.Close d) bytes = close d ∷ []
 callOf body.Unread bytes = []
 

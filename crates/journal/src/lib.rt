@@ -16,6 +16,9 @@ use rules::Check;
 use units::Ccf;
 use units::Date;
 
+// How many entries a journal has at most.
+pub const ENTRY_LIMIT: u64 = 1000000000;
+
 // What an entry's body holds. Unread: a field that should be digits is not, so the call is refused with 2.
 pub enum Body {
     Fresh(Start),
@@ -192,7 +195,7 @@ fn head_by(s: &[u8], seen: u64, tag: u8, n: usize) -> Head
     requires { ⌜ n < 65536 ⌝ }
     ensures { λ r. ⌜ r ≡ headBy seen (now (s .entry)) tag n ⌝ }
 {
-    let good = (seen < 1000000000) & in_turn(seen, tag) & good_length(tag, n);
+    let good = (seen < ENTRY_LIMIT) & in_turn(seen, tag) & good_length(tag, n);
     if !good {
         return Head::Bad;
     }

@@ -41,7 +41,7 @@ fn answer_day(first: Ledger, s: &[u8], id: Identity, out: &mut [u8]) -> Amounts
 
 // Takes the supplier's file of document 01's example, an accepted RSP of 4250 cents, and writes its ACF and then the charge of the bill.
 fn show_answer(l: Ledger, id: Identity) {
-    let mut file = [32u8; 642];
+    let mut file = [32u8; records::NOTICE_SIZE];
     fields::put_bytes(
         &mut file,
         0,
@@ -55,10 +55,10 @@ fn show_answer(l: Ledger, id: Identity) {
     );
     file[320] = 13;
     file[641] = 13;
-    let mut out = [32u8; 642];
+    let mut out = [32u8; records::NOTICE_SIZE];
     let a = answer_day(l, &file, id, &mut out);
-    let mut acf = [32u8; 321];
-    fields::put_part(&mut acf, 0, &out, 0, 321);
+    let mut acf = [32u8; records::RECORD_SIZE];
+    fields::put_part(&mut acf, 0, &out, 0, records::RECORD_SIZE);
     io::write_all(STDOUT_FILENO, &acf);
     let Amounts::Posted { charge, .. } = a else {
         return;
@@ -94,7 +94,7 @@ fn main() {
         consumption: Ccf(85),
         scheduled: Date(20171116),
     };
-    let mut out = [32u8; 642];
+    let mut out = [32u8; records::NOTICE_SIZE];
     let l = day(empty, s, q, Date(20171114), &mut out);
     io::write_all(STDOUT_FILENO, &out);
     let mut lines = [0u8; table::TABLE_ROOM];

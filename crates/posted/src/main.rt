@@ -6,6 +6,7 @@ ghost use Rattle.ledger.specs.Sound.{soundLedger};
 ghost use Rattle.words.specs.Layout.{ledgerSize, ledgerOf};
 ghost use Rattle.table.specs.Table.{tableRoom};
 ghost use Rattle.posted.specs.Posting.{toPrint, TableWritten, Posts};
+ghost use Rattle.streams.specs.Ends.{pieceSize};
 use entries::run;
 use libc::STDOUT_FILENO;
 use replay::Wanted;
@@ -38,7 +39,7 @@ fn table_of(ws: &[u64], out: &mut [u8], e: End) -> Output
 
 // Reads standard input; what is left to write is its posted table in `out`.
 fn post_input(ws: &mut [u64], buf: &mut [u8], out: &mut [u8]) -> Output
-    requires { ⌜ (length (now ws) ≡ ledgerSize) × (length (now buf) ≡ 262144) × (length (now out) ≡ tableRoom) ⌝ }
+    requires { ⌜ (length (now ws) ≡ ledgerSize) × (length (now buf) ≡ pieceSize) × (length (now out) ≡ tableRoom) ⌝ }
     ensures { λ o. ⌜ Posts (now (out .exit)) o ⌝ }
 {
     run::start(ws);
@@ -56,7 +57,7 @@ fn main() {
         return;
     }
     let mut ws = [0u64; words::LEDGER_SIZE];
-    let mut buf = [0u8; 262144];
+    let mut buf = [0u8; streams::PIECE_SIZE];
     let mut out = [0u8; table::TABLE_ROOM];
     let o = post_input(&mut ws, &mut buf, &mut out);
     output::send(o, &out);

@@ -4,6 +4,7 @@ ghost use Prim.Native.Nat.{_≤_};
 ghost use lib.ListN.{length};
 ghost use Rattle.words.specs.Layout.{ledgerSize};
 ghost use Rattle.replay.specs.Ending.{StopLine, lastTo, StopLineWritten, ToldSize};
+ghost use Rattle.streams.specs.Ends.{pieceSize};
 use crate::Wanted;
 use entries::run;
 use libc::STDERR_FILENO;
@@ -23,7 +24,7 @@ fn stop_line(out: &mut [u8], e: End) -> usize
 
 // Reads standard input and writes what is asked for of its entries; what is left to write is the line in `out`, of so many bytes.
 fn tell_input(ws: &mut [u64], buf: &mut [u8], out: &mut [u8], tells: Wanted) -> usize
-    requires { ⌜ (length (now ws) ≡ ledgerSize) × (length (now buf) ≡ 262144) × (length (now out) ≡ 262144) ⌝ }
+    requires { ⌜ (length (now ws) ≡ ledgerSize) × (length (now buf) ≡ pieceSize) × (length (now out) ≡ pieceSize) ⌝ }
     ensures { λ n. ⌜ StopLineWritten (now (out .exit)) n ⌝ }
 {
     run::start(ws);
@@ -44,7 +45,7 @@ fn last_to(tells: Wanted) -> i32
 
 // What is left to write once standard input is read, and where it goes.
 fn last_of_input(ws: &mut [u64], buf: &mut [u8], out: &mut [u8], tells: Wanted) -> Output
-    requires { ⌜ (length (now ws) ≡ ledgerSize) × (length (now buf) ≡ 262144) × (length (now out) ≡ 262144) ⌝ }
+    requires { ⌜ (length (now ws) ≡ ledgerSize) × (length (now buf) ≡ pieceSize) × (length (now out) ≡ pieceSize) ⌝ }
     ensures { λ o. ⌜ (o .descriptor ≡ lastTo tells) × StopLineWritten (now (out .exit)) (o .length) ⌝ }
 {
     let length = tell_input(ws, buf, out, tells);
@@ -59,8 +60,8 @@ pub fn tell(tells: Wanted) -> Output
     ensures { λ o. ⌜ (o .descriptor ≡ lastTo tells) × ToldSize (o .length) ⌝ }
 {
     let mut ws = [0u64; words::LEDGER_SIZE];
-    let mut buf = [0u8; 262144];
-    let mut out = [0u8; 262144];
+    let mut buf = [0u8; streams::PIECE_SIZE];
+    let mut out = [0u8; streams::PIECE_SIZE];
     let o = last_of_input(&mut ws, &mut buf, &mut out, tells);
     output::send(o, &out);
     o

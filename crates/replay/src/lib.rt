@@ -10,6 +10,7 @@ ghost use Rattle.journal.specs.EntryCalls.{firstLedger};
 ghost use Rattle.replay.specs.declared.Wanted.the-variants.{Lines};
 ghost use Rattle.replay.specs.Reading.{Reads};
 ghost use Rattle.replay.specs.parts.Pieces.{PieceRuns, FillsMore, PieceLeaves};
+ghost use Rattle.streams.specs.Ends.{pieceSize};
 use entries::run;
 use entries::run::Ran;
 use input::Filled;
@@ -43,7 +44,7 @@ fn run_lines(ws: &mut [u64], out: &mut [u8], src: &[u8], seen: u64) -> Ran
     requires { ⌜ soundLedger (ledgerOf (now ws)) ≡ true ⌝ }
     ensures { λ r. ⌜ PieceRuns seen Lines (now (src .entry)) (now (ws .entry)) (now (out .entry)) (now (ws .exit)) (now (out .exit)) r ⌝ }
 {
-    let mut sent = [0u8; 64200];
+    let mut sent = [0u8; records::FILE_SIZE];
     tracing::run(ws, &mut sent, out, src, seen)
 }
 
@@ -80,7 +81,7 @@ fn make(ws: &mut [u64], buf: &mut [u8], out: &mut [u8], tells: Wanted, n: usize,
 
 // Reads standard input in pieces and makes its entries. A billion entries have fewer bytes than there are turns.
 pub fn read_all(ws: &mut [u64], buf: &mut [u8], out: &mut [u8], tells: Wanted) -> End
-    requires { ⌜ (ledgerOf (now ws) ≡ firstLedger) × (length (now buf) ≡ 262144) × (length (now out) ≤ 262144) ⌝ }
+    requires { ⌜ (ledgerOf (now ws) ≡ firstLedger) × (length (now buf) ≡ pieceSize) × (length (now out) ≤ pieceSize) ⌝ }
     ensures { λ e. ⌜ (e .failed ≡ false → Reads tells (now (ws .exit)) (now (buf .exit)) e) ⌝ }
 {
     let mut seen = 0;

@@ -7,10 +7,11 @@ use lib.ListN.{length, drop}
 use Rattle.journal.specs.declared.Frame.{Frame}
 use Rattle.journal.specs.declared.Frame.the-variants.{Nothing, Sized}
 use Rattle.journal.specs.Entries.{frameOf}
+use Rattle.records.specs.Limits.{noticeSize}
 
 -- what an entry with this tag and a body of n bytes writes at most: a request or a cancel one notice, a file no more than it has
 unfoldable pub mostOf : ℕ → ℕ → ℕ
-mostOf tag n = cond (eqb tag 1) 642 (cond (eqb tag 2) n (cond (eqb tag 3) 642 0))
+mostOf tag n = cond (eqb tag 1) noticeSize (cond (eqb tag 2) n (cond (eqb tag 3) noticeSize 0))
 
 -- by what stands at the start of some bytes; next goes on after an entry of so many bytes
 abbrev pub mostOn : Frame → (ℕ → ℕ) → ℕ

@@ -19,3 +19,7 @@ endOfInput f seen left total = record { seen = seen; stopped = false; left = lef
 -- after a piece: a bad entry is no failure
 abbrev pub endOfPiece : Piece → ℕ → Bool → End
 endOfPiece p total written = record { seen = p .seen; stopped = p .stopped; left = p .left; total = total; failed = not written }
+
+-- how many bytes of standard input are read at a time at most, and how many are written
+abbrev pub pieceSize : ℕ
+pieceSize = 262144

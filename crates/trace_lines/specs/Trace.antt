@@ -13,6 +13,7 @@ use Rattle.journal.specs.declared.Body.{Body}
 use Rattle.journal.specs.declared.Body.the-variants as body
 use Rattle.journal.specs.Journal.{Entry, parse, afterEntry, firstBook, isBad}
 use Rattle.trace_lines.specs.Lines.{entryLine, groupLines}
+use Rattle.records.specs.Limits.{fileSize}
 
 -- what a call answers on a ledger, by the machine
 abbrev pub answerTo : Book → Call → Answer
@@ -21,9 +22,9 @@ answerTo k c = answerBy (step k c) (step k c .result)
 -- what an entry's call answers: a fresh that is a bad entry is no entry, and "a body whose fields are not digits" is "a refused call, cause 02"
 unfoldable pub entryAnswer : Book → Body → List ℕ → Answer
 entryAnswer k (body.Fresh s) bytes = quietAnswer 0
-entryAnswer k (body.Request r) bytes = answerTo k (request r 64200)
-entryAnswer k body.File bytes = answerTo k (file bytes 64200)
-entryAnswer k (body.Cancel id) bytes = answerTo k (cancel id 64200)
+entryAnswer k (body.Request r) bytes = answerTo k (request r fileSize)
+entryAnswer k body.File bytes = answerTo k (file bytes fileSize)
+entryAnswer k (body.Cancel id) bytes = answerTo k (cancel id fileSize)
 entryAnswer k (body.Close d) bytes = answerTo k (close d)
 entryAnswer k body.Unread bytes = Refused 2
 
@@ -31,7 +32,7 @@ entryAnswer k body.Unread bytes = Refused 2
 unfoldable pub linesUnder : Book → Body → List ℕ → List ℕ
 linesUnder k (body.Fresh s) bytes = []
 linesUnder k (body.Request r) bytes = []
-linesUnder k body.File bytes = groupLines (k .confirmation) (fileGroups bytes) (step k (file bytes 64200) .verdicts)
+linesUnder k body.File bytes = groupLines (k .confirmation) (fileGroups bytes) (step k (file bytes fileSize) .verdicts)
 linesUnder k (body.Cancel id) bytes = []
 linesUnder k (body.Close d) bytes = []
 linesUnder k body.Unread bytes = []

@@ -5,10 +5,14 @@ ghost use Prim.Native.Nat.{_+_, _-_, _≤_};
 ghost use lib.ListN.{length};
 ghost use Rattle.ledger.specs.Sound.{soundLedger};
 ghost use Rattle.words.specs.Layout.{ledgerOf};
-ghost use Rattle.tracing.specs.parts.Tracing.{isDone, LinesOf, EntryIn, TracesIn};
+ghost use Rattle.tracing.specs.parts.Tracing.{isDone, LinesOf, EntryIn, TracesIn, entryRoom};
+ghost use Rattle.records.specs.Limits.{fileSize};
 use calls::Answer;
 use entries::entry::Stepped;
 use entries::run::Ran;
+
+// How many bytes the lines of an entry have at most.
+pub const ENTRY_ROOM: usize = 8652;
 
 // Whether a call was carried out.
 fn is_done(a: Answer) -> bool
@@ -30,15 +34,15 @@ fn put_lines(
     a: Answer,
     sent: &[u8],
 ) -> usize
-    requires { ⌜ (3 ≤ n) × (n ≤ length (now src)) × (n ≤ 64203) × (64200 ≤ length (now sent)) ⌝ }
-    requires { ⌜ at + 8652 ≤ length (now out) ⌝ }
+    requires { ⌜ (3 ≤ n) × (n ≤ length (now src)) × (n ≤ 64203) × (fileSize ≤ length (now sent)) ⌝ }
+    requires { ⌜ at + entryRoom ≤ length (now out) ⌝ }
     ensures { λ r. ⌜ LinesOf number (now (src .entry)) n a (now (sent .entry)) (now (out .entry)) at (now (out .exit)) r ⌝ }
 {
     let tag = src[0];
     let end = trace_lines::put_entry_line(out, at, number, tag, a);
     let with_groups = (tag == 2) & is_done(a);
     if with_groups {
-        let records = (n - 3) / 321;
+        let records = (n - 3) / records::RECORD_SIZE;
         return trace_lines::group_lines::put_group_lines(out, end, &src[3..n], records, sent);
     }
     end
@@ -59,7 +63,7 @@ fn entry(
     src: &[u8],
     seen: u64,
 ) -> Traced
-    requires { ⌜ (soundLedger (ledgerOf (now ws)) ≡ true) × (64200 ≤ length (now sent)) × (at + 8652 ≤ length (now out)) ⌝ }
+    requires { ⌜ (soundLedger (ledgerOf (now ws)) ≡ true) × (fileSize ≤ length (now sent)) × (at + entryRoom ≤ length (now out)) ⌝ }
     ensures { λ r. ⌜ EntryIn seen (now (src .entry)) at (now (ws .entry)) (now (out .entry)) (now (ws .exit)) (now (out .exit)) r ⌝ }
 {
     let r = entries::entry::step(ws, sent, src, seen, true);
@@ -75,13 +79,13 @@ fn entry(
 
 // Makes the entries at the start of src, after so many entries, and writes their lines, as long as the output has room for another entry's.
 pub fn run(ws: &mut [u64], sent: &mut [u8], out: &mut [u8], src: &[u8], seen: u64) -> Ran
-    requires { ⌜ (soundLedger (ledgerOf (now ws)) ≡ true) × (64200 ≤ length (now sent)) ⌝ }
+    requires { ⌜ (soundLedger (ledgerOf (now ws)) ≡ true) × (fileSize ≤ length (now sent)) ⌝ }
     ensures { λ r. ⌜ TracesIn seen (now (src .entry)) (now (ws .entry)) (now (out .entry)) (now (ws .exit)) (now (out .exit)) r ⌝ }
 {
     let mut used = 0;
     let mut k = seen;
     let mut n = 0;
-    while 8652 <= out.len() - n {
+    while ENTRY_ROOM <= out.len() - n {
         let r = entry(ws, sent, out, n, &src[used..], k);
         match r {
             Traced::Left(bad) => {

@@ -14,6 +14,7 @@ use Rattle.journal.specs.Journal.{Entry, Parsed, parse, afterEntries}
 use Rattle.journal.specs.EntryCalls.{ledgerAfterEntries, noticesOf}
 use Rattle.journal.specs.declared.Body.{Body}
 use Rattle.entries.specs.declared.run.Ran.{Ran}
+use Rattle.records.specs.Limits.{fileSize}
 
 -- the entries es, and what is parsed behind them
 abbrev pub behind : List Entry → Parsed → Parsed
@@ -50,5 +51,5 @@ pub record RanIn (seen : ℕ) (writes : Bool) (src ws₀ out₀ ws out : List �
   pub bytes : out ≡ put out₀ 0 (ifWritten writes (noticesOf (book (ledgerOf ws₀)) done))
   pub written : r .written ≡ length (noticesOf (book (ledgerOf ws₀)) done)
   pub within : writes ≡ true → r .written ≤ length out₀
-  pub full : r .full ≡ (writes && ltb (length out₀ - r .written) 64200)
+  pub full : r .full ≡ (writes && ltb (length out₀ - r .written) fileSize)
   pub rest : NoneLeft src r

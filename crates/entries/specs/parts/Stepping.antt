@@ -15,6 +15,7 @@ use Rattle.journal.specs.Entries.{headOf}
 use Rattle.journal.specs.EntryCalls.{entryCalled, entryWritten}
 use Rattle.entries.specs.declared.entry.Stepped.{Stepped}
 use Rattle.entries.specs.declared.entry.Stepped.the-variants as step
+use Rattle.records.specs.Limits.{fileSize}
 
 -- ---- an entry of a journal, whose call is lent so much room
 -- what its call by value leaves, answers and writes, from index `at` of the output on
@@ -29,7 +30,7 @@ abbrev pub StepOn : Head → Bool → ℕ → List ℕ → List ℕ → List ℕ
 StepOn Cut writes at src ws₀ out₀ ws out r = (ws ≡ ws₀) × (out ≡ out₀) × (r ≡ step.Cut)
 StepOn Bad writes at src ws₀ out₀ ws out r = (ws ≡ ws₀) × (out ≡ out₀) × (r ≡ step.Bad)
 StepOn (Whole b n) writes at src ws₀ out₀ ws out r =
-    (a : Answer) × (r ≡ step.Made n a) × EntryCalledIn writes 64200 at b (part src 3 (n - 3)) ws₀ out₀ ws out a
+    (a : Answer) × (r ≡ step.Made n a) × EntryCalledIn writes fileSize at b (part src 3 (n - 3)) ws₀ out₀ ws out a
 
 abbrev pub SteppedIn : Bool → ℕ → ℕ → List ℕ → List ℕ → List ℕ → List ℕ → List ℕ → Stepped → Type 0
 SteppedIn writes at seen src = StepOn (headOf seen src) writes at src

@@ -23,6 +23,7 @@ use Rattle.entries.specs.parts.Running.{entryAt, FirstMade, NoneLeft}
 use Rattle.trace_lines.specs.Trace.{entryLines, traceLines}
 use Rattle.tracing.specs.declared.Traced.{Traced}
 use Rattle.tracing.specs.declared.Traced.the-variants as traced
+use Rattle.records.specs.Limits.{fileSize}
 
 -- a call was carried out
 abbrev pub isDone : Answer → Bool
@@ -37,7 +38,7 @@ entryRoom = 8652
 pub record LinesOf (number : ℕ) (src : List ℕ) (n : ℕ) (a : Answer) (sent out₀ : List ℕ) (at : ℕ) (out : List ℕ) (r : ℕ) : Type 0 where
   pub lines :
       (seen : ℕ) (l : Ledger) (b : Body) (rest : List ℕ) → headOf seen src ≡ Whole b n → soundLedger l ≡ true
-      → a ≡ entryCalled 64200 l b (part src 3 (n - 3)) .answer → sent ≡ entryWritten 64200 l b (part src 3 (n - 3)) ++ rest
+      → a ≡ entryCalled fileSize l b (part src 3 (n - 3)) .answer → sent ≡ entryWritten fileSize l b (part src 3 (n - 3)) ++ rest
       → (out ≡ put out₀ at (entryLines (book l) number (entryAt src b n))) × (r ≡ at + length (entryLines (book l) number (entryAt src b n)))
   pub within : r ≤ at + entryRoom
 
@@ -45,7 +46,7 @@ pub record LinesOf (number : ℕ) (src : List ℕ) (n : ℕ) (a : Answer) (sent 
 -- the entry of n bytes at the start of src was made, after so many entries, and its lines were put at `at` and end at `end`
 pub record EntryMade (b : Body) (n seen : ℕ) (src : List ℕ) (at : ℕ) (ws₀ out₀ ws out : List ℕ) (end : ℕ) : Type 0 where
   pub sound : soundLedger (ledgerOf ws) ≡ true
-  pub ledger : ledgerOf ws ≡ entryCalled 64200 (ledgerOf ws₀) b (part src 3 (n - 3)) .ledger
+  pub ledger : ledgerOf ws ≡ entryCalled fileSize (ledgerOf ws₀) b (part src 3 (n - 3)) .ledger
   pub bytes : out ≡ put out₀ at (entryLines (book (ledgerOf ws₀)) (seen + 1) (entryAt src b n))
   pub long : end ≡ at + length (entryLines (book (ledgerOf ws₀)) (seen + 1) (entryAt src b n))
   pub within : end ≤ at + entryRoom
