@@ -29,10 +29,10 @@ use Rattle.verdict.specs.declared.Sought.{Sought}
 use Rattle.verdict.specs.declared.Sought.the-variants as sought
 use Rattle.rules.specs.Rules.{first}
 use Rattle.verdict.specs.Lines.{isNothing}
-use Rattle.notices.proofs.NoticeLaws.{length-bil, length-cxl}
+use Rattle.notices.proofs.NoticeLengths.{length-bil, length-cxl}
 use Rattle.group.specs.Groups.{soughtIn}
 use Rattle.group.specs.parts.Turns.{soughtBy}
-use Rattle.group.proofs.PlaceLaws.{Held, nowhere, somewhere, held, sought-is, every-held}
+use Rattle.group.proofs.FoundLaws.{Held, nowhere, somewhere, held, sought-is, every-held}
 use Rattle.causes.specs.declared.Request.{Request}
 use Rattle.causes.specs.declared.Decision.{Decision}
 use Rattle.causes.specs.Causes.{Call, request, cancel, requestCauses, cancelCauses, causes}

@@ -21,7 +21,7 @@ use Rattle.notices.specs.declared.cxl.Cxl.{Cxl}
 use Rattle.notices.specs.Notices.{bil, cxl}
 use Rattle.records.specs.Layout.{recordsFrom, isSup}
 use Rattle.records.proofs.LayoutLaws.{length-records, long-record}
-use Rattle.notices.proofs.NoticeLaws.{length-bil, length-cxl}
+use Rattle.notices.proofs.NoticeLengths.{length-bil, length-cxl}
 use Rattle.notices.specs.declared.acf.Acf.{Acf}
 use Rattle.notices.specs.declared.rej.Rej.{Rej}
 use Rattle.notices.specs.Answers.{acf, rejHeader, rejDetail, rejDetails, rej}
@@ -36,7 +36,7 @@ use Rattle.group.specs.declared.Tally.{Tally}
 use Rattle.group.specs.Groups.{verdictHere, settled, answer, taken, answers}
 use Rattle.group.specs.parts.Turns.{FileTaken}
 use Rattle.group.proofs.GroupWalk.{book-stored}
-use Rattle.causes.proofs.CheckLaws.{good-short}
+use Rattle.causes.proofs.FileFreshLaws.{good-short}
 use Rattle.calls.proofs.CallLaws.{Carried, Stopped, carried, stopped}
 use Rattle.causes.specs.Causes.{Call, request, file, cancel, close, lacks, fileCauses, causes}
 use Rattle.causes.proofs.CauseLaws.{asks, sends, cancels}

@@ -4,6 +4,6 @@ pub mod NextSound
 pub mod RunLaws
 pub mod PlaceOfLaws
 pub mod BillLaws
-pub mod DayLaws
+pub mod FreshCloseLaws
 pub mod FileCallLaws
 pub mod CountLaws

@@ -23,7 +23,7 @@ use Rattle.verdict.specs.declared.Sought.the-variants.{Bill, Nothing}
 use Rattle.rules.specs.declared.Check.the-variants.{Clear}
 use Rattle.rules.specs.Rules.{first}
 use Rattle.verdict.specs.Lines.{isNothing, termsOf}
-use Rattle.group.proofs.VerdictLaws.{clear-off}
+use Rattle.group.proofs.AcceptedLaws.{clear-off}
 use Rattle.causes.specs.declared.Request.{Request}
 use Rattle.causes.specs.Causes.{goodIdentity, requestTests, lacks, billCauses, requestCauses, fileCauses, cancelCauses, closeCauses}
 

@@ -1,4 +1,4 @@
 -- Laws that belong to no one function.
 pub mod CauseLaws
 pub mod CodeLaws
-pub mod CheckLaws
+pub mod FileFreshLaws

@@ -37,7 +37,7 @@ use Rattle.calls.specs.declared.Called.{Called}
 use Rattle.calls.specs.Machine.{called, stepIn, causeIn}
 use Rattle.calls.specs.Days.{quietAnswer}
 use Rattle.calls.proofs.CallLaws.{Stopped, Carried, cause-sound, called-stop}
-use Rattle.calls.proofs.DayLaws.{close-done}
+use Rattle.calls.proofs.FreshCloseLaws.{close-done}
 use Rattle.engine.specs.parts.Calls.{CalledIn}
 
 -- nothing is ifWritten, whether notices are written or not

@@ -30,9 +30,9 @@ use Rattle.group.specs.declared.TurnResult.{TurnResult}
 use Rattle.group.specs.Groups.{identityOf, verdictOn, verdictBy, verdictHere, settled, answer, taken, answers, verdicts, isAccepted, isRejected}
 use Rattle.group.specs.parts.Turns.{identityAt, soughtBy, inWidths, InWidthsAt, Ready, cameBy, wentBy, noTally, tallied, ifWritten, answerAt, WithinFile, TurnLeaves, FitForTurn, TurnLeavesOn, FileTaken}
 use Rattle.group.proofs.OutputLaws.{Out, out-start, out-more}
-use Rattle.group.proofs.PlaceLaws.{every-held, spots, spot-calm}
+use Rattle.group.proofs.FoundLaws.{every-held, spots, spot-calm}
 use Rattle.group.proofs.DecideLaws.{by-duplicate}
-use Rattle.group.proofs.VerdictLaws.{calm-posted, came-small, went-small}
+use Rattle.group.proofs.AcceptedLaws.{calm-posted, came-small, went-small}
 use Rattle.group.proofs.AnswerSizes.{answer-long}
 use Rattle.group.proofs.TurnLaws.{Comes, rejects, posts, comes, stored-book, verdict-is, ledger-is, answer-is, sums-is}
 

@@ -27,9 +27,9 @@ use Rattle.verdict.specs.declared.Verdict.{Verdict}
 use Rattle.verdict.specs.declared.Verdict.the-variants.{Accepted, Rejected}
 use Rattle.group.specs.Groups.{identityOf, sought, linesBy, verdictOn, verdictBy, settled, answer}
 use Rattle.group.specs.parts.Turns.{identityAt, soughtBy, billBy, headerBy, answerAt, cameBy, wentBy}
-use Rattle.group.proofs.PlaceLaws.{Held, nowhere, somewhere, held, sought-is}
+use Rattle.group.proofs.FoundLaws.{Held, nowhere, somewhere, held, sought-is}
 use Rattle.group.proofs.DecideLaws.{by-bill, same-name}
-use Rattle.group.proofs.VerdictLaws.{nothing-rejects, clear-off, accepted-clear}
+use Rattle.group.proofs.AcceptedLaws.{nothing-rejects, clear-off, accepted-clear}
 
 -- what comes of a group on a ledger
 pub data Comes (t : Bool) (l : Ledger) (g : Group) : Type 0 where

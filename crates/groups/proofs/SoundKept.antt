@@ -29,7 +29,7 @@ use Rattle.verdict.specs.declared.Verdict.the-variants.{Accepted}
 use Rattle.rules.specs.Rules.{first}
 use Rattle.verdict.specs.Lines.{termsOf, line4, line5, line6, line7, line8, line9, line10, sentCharge, amountsOf}
 use Rattle.group.specs.Groups.{kindOf, sought, linesBy, verdictBy}
-use Rattle.group.proofs.VerdictLaws.{listFor, clear-off, accepted-clear, room}
+use Rattle.group.proofs.AcceptedLaws.{listFor, clear-off, accepted-clear, room}
 
 open-alive : (today : Date) (t : Terms) → not (isOpen today t) ≡ false → t .cancelled ≡ false
 open-alive today t e = not-true (t .cancelled) (and-left (not (t .cancelled)) (leb (today .0) (t .latest .scheduled .0)) (not-false (isOpen today t) e))

@@ -20,7 +20,7 @@ use Rattle.verdict.specs.declared.Verdict.the-variants.{Accepted}
 use Rattle.rules.specs.Rules.{first}
 use Rattle.verdict.specs.Lines.{isNothing, termsOf, line4, line5, line6, sentCharge, amountsOf}
 use Rattle.group.specs.Groups.{kindOf, sought, linesBy, verdictBy}
-use Rattle.group.proofs.VerdictLaws.{listFor, clear-off, accepted-clear}
+use Rattle.group.proofs.AcceptedLaws.{listFor, clear-off, accepted-clear}
 use Rattle.groups.proofs.SoundKept.{alive}
 
 -- there is such a bill

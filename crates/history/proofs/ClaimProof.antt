@@ -20,12 +20,12 @@ use Rattle.causes.specs.Causes.{Call, request, file, cancel, close, freshCauses
 use Rattle.calls.specs.Machine.{cause, nextWritten, nextVerdicts, Outcome, outcome, step, fresh, after, outcomes}
 use Rattle.calls.specs.Days.{freshLedger, freshBy, freshCalled}
 use Rattle.calls.proofs.CountLaws.{both-counted}
-use Rattle.calls.proofs.DayLaws.{fresh-sound}
+use Rattle.calls.proofs.FreshCloseLaws.{fresh-sound}
 use Rattle.calls.proofs.RunLaws.{runs}
 use Rattle.history.specs.History.{History, begun, decided, Decided, verdictNow, decisions, hCause, hStep, hAfter, callDecisions, hDecisions}
 use Rattle.history.specs.Written.{acfsIn}
 use Rattle.history.specs.Claim.{All, assigned, changes, accepts, acfsOf, Lawful, SumFromHistory, SumByValue}
-use Rattle.history.proofs.RecordLaws.{Formed, formed-file}
+use Rattle.history.proofs.WrittenRecordLaws.{Formed, formed-file}
 use Rattle.history.proofs.WrittenLaws.{bil-no-acf, cxl-no-acf, none-acf, acfFor, answer-acfs}
 use Rattle.history.proofs.Accepted.{accepted-exists, accepted-alive, accepted-in-time}
 use Rattle.history.proofs.Follow.{Follows, decided-now}

@@ -1,5 +1,5 @@
 -- The claim's proof, and the laws it rests on.
-pub mod RecordLaws
+pub mod WrittenRecordLaws
 pub mod NoticeReads
 pub mod WrittenLaws
 pub mod Accepted

@@ -30,7 +30,7 @@ use Rattle.causes.proofs.CauseLaws.{asks, sends, cancels}
 use Rattle.history.specs.History.{History, hStep, decided, verdictNow}
 use Rattle.history.specs.Written.{assignedIn}
 use Rattle.history.specs.Claim.{All, NoneTwice, assigned}
-use Rattle.history.proofs.RecordLaws.{Formed, formed-file}
+use Rattle.history.proofs.WrittenRecordLaws.{Formed, formed-file}
 use Rattle.history.proofs.WrittenLaws.{bil-assigns, cxl-assigns, none-assigned, givenTo, answer-assigns}
 use Rattle.history.proofs.Accepted.{accepted-exists}
 use Rattle.history.proofs.Follow.{Follows, group-follows}

@@ -16,7 +16,7 @@ use Rattle.notices.specs.declared.bil.Bil.{Bil}
 use Rattle.notices.specs.declared.cxl.Cxl.{Cxl}
 use Rattle.records.specs.Layout.{trackingIn, noticeIn, isSup}
 use Rattle.notices.specs.Notices.{bilHeader, bilDetail, bil, cxlHeader, cxlDetail, cxl}
-use Rattle.notices.proofs.NoticeLaws.{length-bil-header, length-bil-detail, length-cxl-header, length-cxl-detail}
+use Rattle.notices.proofs.NoticeLengths.{length-bil-header, length-bil-detail, length-cxl-header, length-cxl-detail}
 use Rattle.notices.specs.declared.acf.Acf.{Acf}
 use Rattle.notices.specs.declared.rej.Rej.{Rej}
 use Rattle.notices.specs.Answers.{acf, rejHeader, rejDetail, rejDetails, rej}
@@ -28,7 +28,7 @@ use Rattle.verdict.specs.Lines.{termsOf}
 use Rattle.group.specs.Groups.{sought, answer, isAccepted}
 use Rattle.history.specs.Claim.{All}
 use Rattle.history.specs.Written.{keep, isAcf, assigns, assignedIn, acfsIn}
-use Rattle.history.proofs.RecordLaws.{records-cons, records-none, Whole, Formed}
+use Rattle.history.proofs.WrittenRecordLaws.{records-cons, records-none, Whole, Formed}
 use Rattle.history.proofs.NoticeReads.{bil-tracking, bil-header-assigns, bil-detail-not, cxl-header-assigns, cxl-tracking, cxl-detail-not, bil-header-not-acf, bil-detail-not-acf, cxl-header-not-acf, cxl-detail-not-acf, acf-tracking, acf-is-acf, acf-sup-assigns, acf-rsp-not, rej-header-notice, rej-detail-notice, rej-not-acf, rej-not-assigns}
 
 -- ---- those of the records that pass a test

@@ -6,5 +6,5 @@ pub mod HeadLaws
 pub mod JournalLaws
 pub mod BeginLaws
 pub mod ShortLaws
-pub mod NoticeLaws
+pub mod BrnFileLaws
 pub mod StopLaws

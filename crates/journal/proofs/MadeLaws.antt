@@ -13,7 +13,7 @@ use Rattle.rules.specs.Rules.{first}
 use Rattle.causes.specs.Causes.{Call, request, file, cancel, close, freshCauses}
 use Rattle.calls.specs.Machine.{Outcome, cause, nextWritten, outcome, step, after, outcomes, stepIn, called, ran}
 use Rattle.calls.specs.Days.{freshBy, freshCalled}
-use Rattle.calls.proofs.DayLaws.{fresh-sound}
+use Rattle.calls.proofs.FreshCloseLaws.{fresh-sound}
 use Rattle.calls.proofs.RunLaws.{runs, step-in}
 use Rattle.journal.specs.declared.Body.{Body}
 use Rattle.journal.specs.declared.Body.the-variants as body

@@ -10,7 +10,7 @@ use Rattle.fields.proofs.DigitLaws.{length-digits}
 use Rattle.fields.proofs.PutLaws.{length-filled, length-part}
 use Rattle.ledger.specs.Bills.{isPrepay}
 use Rattle.records.specs.Layout.{fromIn, isSup}
-use Rattle.notices.proofs.NoticeLaws.{length-spaces-from}
+use Rattle.notices.proofs.NoticeLengths.{length-spaces-from}
 use Rattle.notices.specs.declared.acf.Acf.{Acf}
 use Rattle.notices.specs.declared.rej.Rej.{Rej}
 use Rattle.notices.specs.Answers.{acfTracking, acfBalance, acfAlike, acf, rejAlike, rejHeader, isBlank, fromBack, rejDetail}

@@ -19,7 +19,7 @@ use Rattle.notices.specs.declared.rej.Rej.{Rej}
 use Rattle.notices.specs.Notices.{spacesFrom}
 use Rattle.notices.specs.Answers.{acfTracking, acfScheduled, acfBalance, acfAlike, acf, rejAlike, rejHeader, fromBack, rejDetail, rejDetails, rej}
 use Rattle.notices.specs.Positions.{AcfAt, RejHeaderAt, RejDetailAt, RejAt}
-use Rattle.notices.proofs.NoticeLaws.{length-spaces-from}
+use Rattle.notices.proofs.NoticeLengths.{length-spaces-from}
 use Rattle.notices.proofs.AnswerLaws.{length-within, length-tracking, length-balance, length-acf, length-rej-header, length-from, length-rej-detail}
 use Rattle.notices.proofs.PositionLaws.{from-blank, from-end}
 

@@ -1,7 +1,7 @@
 -- Laws that belong to no one function.
-pub mod NoticeLaws
+pub mod NoticeLengths
 pub mod AnswerLaws
 pub mod RecordLaws
 pub mod PositionLaws
 pub mod AnswerPositions
-pub mod ReadLaws
+pub mod BilReadBack

@@ -18,7 +18,7 @@ use Rattle.notices.specs.declared.bil.Bil.{Bil}
 use Rattle.notices.specs.declared.cxl.Cxl.{Cxl}
 use Rattle.notices.specs.Notices.{spaces, zeros, spacesFrom, alikeFields, header, detailToKey, bilAlike, bilHeader, bilToTiers, productFill, bilToOwed, bilDetail, bil, cxlAlike, cxlHeader, cxlDetail, cxl}
 use Rattle.notices.specs.Positions.{AlikeAt, HeaderAt, BilDetailAt, BilAt, CxlDetailAt, CxlAt}
-use Rattle.notices.proofs.NoticeLaws.{length-spaces-from, length-bil-header, length-bil-detail, length-bil, length-cxl-header, length-cxl-detail, length-cxl}
+use Rattle.notices.proofs.NoticeLengths.{length-spaces-from, length-bil-header, length-bil-detail, length-bil, length-cxl-header, length-cxl-detail, length-cxl}
 
 -- ---- the spaces that end a record, and its byte 13
 pub from-blank : (a : ℕ) → part (spacesFrom a) 0 (321 - a) ≡ spaces (321 - a)

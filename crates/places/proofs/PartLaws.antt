@@ -25,7 +25,7 @@ use Rattle.ledger.proofs.Bill.{the-row}
 use Rattle.words.specs.Layout.{billWords, billsWords, headWords, ledgerWords, holdsCode, holdsBill, holdsBills, holdsLedger, codeIn, termsIn, billIn, billsIn, ledgerIn, ledgerOf, byteCode}
 use Rattle.units.specs.Calendar.{dateOf}
 use Rattle.words.proofs.WordLaws.{length-bill, words-long, words-bills, of-words, words-ledger, holds-words, ledger-words}
-use Rattle.words.proofs.PlaceLaws.{place-at, next-place}
+use Rattle.words.proofs.WordPlaceLaws.{place-at, next-place}
 use Rattle.words.proofs.ToldLaws.{four-bytes}
 
 -- ---- lists

@@ -13,7 +13,7 @@ use Rattle.ledger.specs.Sound.{soundLedger}
 use Rattle.units.specs.Calendar.{isDate, monthDays}
 use Rattle.words.specs.Layout as layout
 use Rattle.causes.specs.Causes.{startTests, freshCauses}
-use Rattle.calls.proofs.DayLaws.{fresh-sound}
+use Rattle.calls.proofs.FreshCloseLaws.{fresh-sound}
 use Rattle.journal.specs.Journal.{Entry, Parsed, parse, parseUpTo, afterEntries, firstBook, journalLedger, isBad}
 use Rattle.journal.specs.EntryCalls.{ledgerAfterEntries, noticesOf, firstLedger}
 use Rattle.journal.proofs.JournalLaws.{fed, parse-fed}

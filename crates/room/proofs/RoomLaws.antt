@@ -17,7 +17,7 @@ use Rattle.notices.specs.declared.bil.Bil.{Bil}
 use Rattle.notices.specs.declared.cxl.Cxl.{Cxl}
 use Rattle.notices.specs.Notices.{bil, cxl}
 use Rattle.causes.specs.declared.Request.{Request}
-use Rattle.notices.proofs.NoticeLaws.{length-bil, length-cxl}
+use Rattle.notices.proofs.NoticeLengths.{length-bil, length-cxl}
 use Rattle.rules.specs.declared.Check.{Check}
 use Rattle.rules.specs.declared.Check.the-variants.{Clear, Stop}
 use Rattle.causes.specs.Causes.{Call, request, file, cancel, close}

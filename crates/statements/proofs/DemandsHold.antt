@@ -10,13 +10,13 @@ use Rattle.fields.proofs.PutLaws.{put-nil}
 use Rattle.ledger.specs.declared.Ledger.{Ledger}
 use Rattle.ledger.specs.Books.{Book}
 use Rattle.ledger.proofs.SoundLaws.{book-facts}
-use Rattle.notices.proofs.NoticeLaws.{length-bil, length-cxl}
+use Rattle.notices.proofs.NoticeLengths.{length-bil, length-cxl}
 use Rattle.notices.proofs.AnswerLaws.{length-acf, length-rej-header, length-rej-detail}
 use Rattle.rules.specs.declared.Check.{Check}
 use Rattle.rules.specs.declared.Check.the-variants.{Clear, Stop}
 use Rattle.group.specs.Groups.{linesBy, verdictOn, verdictBy}
 use Rattle.group.proofs.FormCodes.{form-coded}
-use Rattle.group.proofs.ReadLaws.{no-line-reads}
+use Rattle.group.proofs.GroupLinesRead.{no-line-reads}
 use Rattle.causes.specs.Causes.{Call}
 use Rattle.calls.specs.declared.Called.{Called}
 use Rattle.calls.specs.declared.Answer.{Answer}

@@ -9,7 +9,7 @@ use Rattle.fields.proofs.BoolLaws.{cases}
 use Rattle.fields.specs.Digits.{number}
 use Rattle.ledger.specs.Books.{Book, View, view}
 use Rattle.records.specs.Layout.{trackingIn, isSup}
-use Rattle.notices.proofs.NoticeLaws.{length-bil, length-cxl}
+use Rattle.notices.proofs.NoticeLengths.{length-bil, length-cxl}
 use Rattle.notices.specs.declared.acf.Acf.{Acf}
 use Rattle.notices.specs.declared.rej.Rej.{Rej}
 use Rattle.notices.specs.Answers.{rejHeader, rejDetail, rejDetails, rej}
@@ -25,7 +25,7 @@ use Rattle.causes.specs.Causes.{Call, request, file, cancel, close}
 use Rattle.calls.specs.Machine.{cause, nextWritten, outcome, step, outcomes}
 use Rattle.history.specs.Written.{keep, assigns, assignedIn}
 use Rattle.history.specs.Claim.{All, assigned, NoneTwice}
-use Rattle.history.proofs.RecordLaws.{Whole, Formed, formed-file, records-cons, records-none}
+use Rattle.history.proofs.WrittenRecordLaws.{Whole, Formed, formed-file, records-cons, records-none}
 use Rattle.history.proofs.WrittenLaws.{none-assigned}
 use Rattle.journal.specs.Journal.{Entry, firstBook}
 use Rattle.journal.specs.EntryCalls.{writtenBy, noticesOf, brnOf}

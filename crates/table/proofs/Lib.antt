@@ -1,4 +1,4 @@
 -- Laws that the functions' proofs share, and document 01's example.
 pub mod TableLaws
-pub mod ExampleProof
+pub mod ExampleTableProof
 pub mod Again

@@ -26,7 +26,7 @@ use Rattle.verdict.specs.declared.Verdict.the-variants.{Accepted, Rejected}
 use Rattle.group.specs.Groups.{verdictOn, verdictBy, verdictHere, settled, answer, answers, verdicts}
 use Rattle.history.specs.Claim.{All}
 use Rattle.history.specs.Written.{isAcf}
-use Rattle.history.proofs.RecordLaws.{Whole, Formed, formed-file}
+use Rattle.history.proofs.WrittenRecordLaws.{Whole, Formed, formed-file}
 use Rattle.history.proofs.NoticeReads.{acf-is-acf, rej-header-notice, rej-not-acf}
 use Rattle.trace_lines.specs.Lines.{groupLine, groupLines}
 use Rattle.trace_lines.specs.parts.ReadAnswers.{readVerdict, answerLong, readLine, readLines, Lined}

@@ -1,8 +1,8 @@
 -- Laws that the functions' proofs share.
 pub mod SizeLaws
 pub mod LineLaws
-pub mod ReadLaws
+pub mod GroupLineLaws
 pub mod LinesWalk
 pub mod AnswersRead
 pub mod TraceLaws
-pub mod ExampleProof
+pub mod ExampleTraceProof

@@ -13,7 +13,7 @@ use Rattle.file.specs.File.{isHeader, Group, leading, groups}
 use Rattle.file.specs.parts.Walk.{groupAt}
 use Rattle.file.proofs.FileLaws.{groups-header, groups-detail, groups-end, leading-header, leading-detail, length-details, from-start}
 use Rattle.trace_lines.specs.parts.ReadAnswers.{answerLong, readLine, readLines}
-use Rattle.trace_lines.proofs.ReadLaws.{short-line, answer-short}
+use Rattle.trace_lines.proofs.GroupLineLaws.{short-line, answer-short}
 
 -- the groups of a file of n records, and those from record i on
 abbrev all : List ℕ → ℕ → List Group

@@ -1,3 +1,3 @@
 -- Laws that belong to no one function.
-pub mod VerdictLaws
-pub mod ReadLaws
+pub mod RuleLaws
+pub mod LinesRead

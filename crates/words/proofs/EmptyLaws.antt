@@ -12,7 +12,7 @@ use Rattle.rules.specs.Lists.{every}
 use Rattle.ledger.specs.Bills.{blankBill}
 use Rattle.words.specs.Layout.{byteCode, billWords, ledgerWords, ledgerOf}
 use Rattle.words.proofs.WordLaws.{ledger-words}
-use Rattle.words.proofs.PlaceLaws.{written, written-more, written-all}
+use Rattle.words.proofs.WordPlaceLaws.{written, written-more, written-all}
 
 blank-bytes : (n : ℕ) → every byteCode (replicate n blankBill) ≡ true
 blank-bytes zero = refl

@@ -1,5 +1,5 @@
 -- Laws that belong to no one function.
 pub mod WordLaws
-pub mod PlaceLaws
+pub mod WordPlaceLaws
 pub mod ToldLaws
 pub mod EmptyLaws

@@ -8,7 +8,7 @@ use Rattle.file.proofs.FileLaws.{header-is}
 use Rattle.verdict.specs.declared.Verdict.{Verdict}
 use Rattle.group.specs.Groups.{verdictOn}
 use Rattle.group.specs.parts.Turns.{soughtBy}
-use Rattle.group.proofs.VerdictLaws.{can-post, came-small, went-small}
+use Rattle.group.proofs.AcceptedLaws.{can-post, came-small, went-small}
 use Rattle.group.proofs.TurnParts.{verdict-now, turn-done}
 use borrow.Author.Needs.{needs}
 use Rattle.group.proofs.turn.Statement.{statement}

@@ -3,7 +3,7 @@ use borrow.Author.Needs.{needs}
 use native.Mathlib.Omega.{arith}
 use mathlib.Core.Path.{sym}
 use lib.Seq.{length-take-le}
-use Rattle.lent_day.proofs.DayLaws.{ran-table, example-clear}
+use Rattle.lent_day.proofs.TableAfterLaws.{ran-table, example-clear}
 use Rattle.lent_day.proofs.main.Statement.{statement}
 use Rattle.lent_day.proofs.main.Tie as tie
 

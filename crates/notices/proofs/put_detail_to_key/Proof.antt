@@ -5,7 +5,7 @@ use Rattle.fields.proofs.PutLaws.{first, next}
 use mathlib.Core.Path.{refl}
 use Rattle.fields.proofs.DigitLaws.{length-digits}
 use Rattle.notices.specs.Notices.{detailToKey}
-use Rattle.notices.proofs.NoticeLaws.{length-alike}
+use Rattle.notices.proofs.NoticeLengths.{length-alike}
 use Rattle.notices.proofs.put_detail_to_key.Statement.{statement}
 use Rattle.notices.proofs.put_detail_to_key.Tie as tie
 

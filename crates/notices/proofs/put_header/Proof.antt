@@ -5,7 +5,7 @@ use Rattle.fields.proofs.PutLaws.{first, next}
 use mathlib.Core.Path.{refl}
 use Rattle.fields.proofs.DigitLaws.{length-digits}
 use Rattle.notices.specs.Notices.{header}
-use Rattle.notices.proofs.NoticeLaws.{length-alike, length-spaces-from}
+use Rattle.notices.proofs.NoticeLengths.{length-alike, length-spaces-from}
 use Rattle.notices.proofs.put_header.Statement.{statement}
 use Rattle.notices.proofs.put_header.Tie as tie
 

@@ -3,7 +3,7 @@ use borrow.Author.Needs.{needs}
 use mathlib.Core.Path.{sym, _∙_}
 use borrow.Author.Tests.{not-true, not-false}
 use Rattle.verdict.specs.Lines.{line5}
-use Rattle.verdict.proofs.VerdictLaws.{first-stop, first-clear}
+use Rattle.verdict.proofs.RuleLaws.{first-stop, first-clear}
 use Rattle.verdict.proofs.known.Statement.{statement}
 use Rattle.verdict.proofs.known.Tie as tie
 

@@ -10,7 +10,7 @@ use Rattle.records.specs.declared.Tiers.the-variants.{Numbers}
 use Rattle.records.specs.Tiers.{tierConsumptions, tierCharges}
 use Rattle.records.proofs.TierLaws.{consumptions-fit, charges-fit}
 use Rattle.verdict.specs.Lines.{misses, line9}
-use Rattle.verdict.proofs.VerdictLaws.{rate-good, rate-bad, sum-misses}
+use Rattle.verdict.proofs.RuleLaws.{rate-good, rate-bad, sum-misses}
 use Rattle.verdict.proofs.line_9.Statement.{statement}
 use Rattle.verdict.proofs.line_9.Tie as tie
 

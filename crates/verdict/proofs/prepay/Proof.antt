@@ -10,7 +10,7 @@ use Rattle.fields.specs.Put.{part}
 use Rattle.fields.specs.Field.{fieldOf, bad}
 use Rattle.fields.specs.declared.Field.the-variants.{Number}
 use Rattle.verdict.specs.Lines.{line8, line9, line10, amountsOf}
-use Rattle.verdict.proofs.VerdictLaws.{first-stop, first-clear}
+use Rattle.verdict.proofs.RuleLaws.{first-stop, first-clear}
 use Rattle.fields.proofs.HoldLaws.{field-below}
 use Rattle.verdict.proofs.prepay.Statement.{statement}
 use Rattle.verdict.proofs.prepay.Tie as tie

@@ -4,7 +4,7 @@ use mathlib.Core.Path.{ap}
 use native.Mathlib.Omega.{arith}
 use lib.ListN.{length-drop}
 use Rattle.words.specs.Layout.{billIn}
-use Rattle.words.proofs.PlaceLaws.{rest}
+use Rattle.words.proofs.WordPlaceLaws.{rest}
 use Rattle.words.proofs.bill_in.Statement.{statement}
 use Rattle.words.proofs.bill_in.Tie as tie
 

@@ -5,7 +5,7 @@ use Prim.Native.Nat.{ℕ, _-_, _≤_}
 use mathlib.Core.Path.{_≡_, refl, ap, _∙_}
 use lib.ListN.{drop}
 use Rattle.words.specs.Layout.{holdsBills, holdsLedger}
-use Rattle.words.proofs.PlaceLaws.{holds-more}
+use Rattle.words.proofs.WordPlaceLaws.{holds-more}
 use Rattle.words.proofs.fits.Statement.{statement}
 use Rattle.words.proofs.fits.Tie as tie
 

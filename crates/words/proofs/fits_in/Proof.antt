@@ -2,7 +2,7 @@
 use borrow.Author.Needs.{needs}
 use mathlib.Core.Path.{ap}
 use Rattle.words.specs.Layout.{holdsBill}
-use Rattle.words.proofs.PlaceLaws.{rest}
+use Rattle.words.proofs.WordPlaceLaws.{rest}
 use Rattle.words.proofs.fits_in.Statement.{statement}
 use Rattle.words.proofs.fits_in.Tie as tie
 

@@ -3,7 +3,7 @@ use borrow.Author.Needs.{needs}
 use native.Mathlib.Omega.{arith}
 use mathlib.Core.Path.{ap, _∙_}
 use Rattle.fields.specs.Put.{put}
-use Rattle.words.proofs.PlaceLaws.{put-parts}
+use Rattle.words.proofs.WordPlaceLaws.{put-parts}
 use Rattle.words.proofs.put_bill.Statement.{statement}
 use Rattle.words.proofs.put_bill.Tie as tie
 

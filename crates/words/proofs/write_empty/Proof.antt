@@ -8,7 +8,7 @@ use Rattle.fields.proofs.PutLaws.{length-put}
 use Rattle.ledger.specs.Books.{emptyLedger}
 use Rattle.units.specs.Calendar.{dateOf}
 use Rattle.words.proofs.WordLaws.{length-bill}
-use Rattle.words.proofs.PlaceLaws.{written, written-none}
+use Rattle.words.proofs.WordPlaceLaws.{written, written-none}
 use Rattle.words.proofs.EmptyLaws.{blank-more, blank-all}
 use Rattle.words.proofs.write_empty.Statement.{statement}
 use Rattle.words.proofs.write_empty.Tie as tie

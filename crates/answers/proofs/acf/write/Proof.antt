@@ -5,7 +5,7 @@ use Rattle.fields.proofs.PutLaws.{first, next}
 use mathlib.Core.Path.{refl}
 use Rattle.fields.proofs.DigitLaws.{length-digits}
 use Rattle.notices.specs.Answers.{acf}
-use Rattle.notices.proofs.NoticeLaws.{length-spaces-from}
+use Rattle.notices.proofs.NoticeLengths.{length-spaces-from}
 use Rattle.notices.proofs.AnswerLaws.{length-acf-alike, length-balance}
 use Rattle.answers.proofs.acf.write.Statement.{statement}
 use Rattle.answers.proofs.acf.write.Tie as tie

@@ -5,7 +5,7 @@ use Rattle.fields.proofs.PutLaws.{first, next}
 use mathlib.Core.Path.{refl}
 use Rattle.fields.proofs.DigitLaws.{length-digits}
 use Rattle.notices.specs.Answers.{rejDetail}
-use Rattle.notices.proofs.NoticeLaws.{length-spaces-from}
+use Rattle.notices.proofs.NoticeLengths.{length-spaces-from}
 use Rattle.notices.proofs.AnswerLaws.{length-within, length-rej-alike, length-from}
 use Rattle.answers.proofs.rej.put_detail.Statement.{statement}
 use Rattle.answers.proofs.rej.put_detail.Tie as tie

@@ -8,7 +8,7 @@ use Rattle.ledger.proofs.BookLaws.{places}
 use Rattle.ledger.proofs.SoundLaws.{ledger-count}
 use Rattle.causes.specs.Causes.{close, causes}
 use Rattle.calls.proofs.CallLaws.{cause-sound, called-stop}
-use Rattle.calls.proofs.DayLaws.{close-done}
+use Rattle.calls.proofs.FreshCloseLaws.{close-done}
 use Rattle.calls.proofs.days.close_on_sound.Statement.{statement}
 use Rattle.calls.proofs.days.close_on_sound.Tie as tie
 

@@ -14,7 +14,7 @@ use Rattle.ledger.specs.Books.{live}
 use Rattle.ledger.proofs.BookLaws.{places}
 use Rattle.rules.proofs.ListLaws.{slice-end}
 use Rattle.causes.specs.Requests.{closes}
-use Rattle.calls.proofs.DayLaws.{count-turn}
+use Rattle.calls.proofs.FreshCloseLaws.{count-turn}
 use Rattle.calls.proofs.days.closed_by.Statement.{statement}
 use Rattle.calls.proofs.days.closed_by.Tie as tie
 

@@ -6,7 +6,7 @@ use mathlib.Core.Path.{sym, ap, _∙_}
 use lib.ListN.{length}
 use Rattle.rules.specs.Lists.{count}
 use Rattle.file.specs.File.{asksId}
-use Rattle.causes.proofs.CheckLaws.{file-groups, groups-few, ids-few, stop-bad, stop-room, stop-numbers, no-cause, short-is}
+use Rattle.causes.proofs.FileFreshLaws.{file-groups, groups-few, ids-few, stop-bad, stop-room, stop-numbers, no-cause, short-is}
 use Rattle.causes.proofs.checks.file_check.Statement.{statement}
 use Rattle.causes.proofs.checks.file_check.Tie as tie
 

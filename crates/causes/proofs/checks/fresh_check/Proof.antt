@@ -1,7 +1,7 @@
 -- `causes::checks::fresh_check` meets its contract: the code joins the tests of the definition.
 use borrow.Author.Needs.{needs}
 use mathlib.Core.Path.{sym}
-use Rattle.causes.proofs.CheckLaws.{fresh-tested}
+use Rattle.causes.proofs.FileFreshLaws.{fresh-tested}
 use Rattle.causes.proofs.checks.fresh_check.Statement.{statement}
 use Rattle.causes.proofs.checks.fresh_check.Tie as tie
 

@@ -2,7 +2,7 @@
 use borrow.Author.Needs.{needs}
 use mathlib.Core.Path.{sym, _∙_}
 use borrow.Author.Tests.{not-true, not-false, lt-ltb, le-ltb}
-use Rattle.verdict.proofs.VerdictLaws.{first-stop, first-clear}
+use Rattle.verdict.proofs.RuleLaws.{first-stop, first-clear}
 use Rattle.causes.specs.Causes.{requestCauses}
 use Rattle.causes.proofs.checks.request_check.Statement.{statement}
 use Rattle.causes.proofs.checks.request_check.Tie as tie

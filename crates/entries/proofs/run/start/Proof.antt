@@ -3,7 +3,7 @@ use mathlib.Core.Path.{refl, ap}
 use Rattle.units.specs.Calendar.{isDate, monthDays}
 use Rattle.ledger.specs.Books.{book}
 use Rattle.causes.specs.Causes.{startTests, freshCauses}
-use Rattle.calls.proofs.DayLaws.{fresh-sound}
+use Rattle.calls.proofs.FreshCloseLaws.{fresh-sound}
 use borrow.Author.Needs.{needs}
 use Rattle.entries.proofs.run.start.Statement.{statement}
 use Rattle.entries.proofs.run.start.Tie as tie

@@ -3,7 +3,7 @@ use borrow.Author.Needs.{needs}
 use native.Mathlib.Omega.{arith}
 use Rattle.fields.proofs.PutLaws.{first, next}
 use Rattle.notices.specs.Notices.{bilDetail}
-use Rattle.notices.proofs.NoticeLaws.{length-bil-to-owed, length-spaces-from}
+use Rattle.notices.proofs.NoticeLengths.{length-bil-to-owed, length-spaces-from}
 use Rattle.notices.proofs.bil.put_detail.Statement.{statement}
 use Rattle.notices.proofs.bil.put_detail.Tie as tie
 

@@ -4,7 +4,7 @@ use native.Mathlib.Omega.{arith}
 use Rattle.fields.proofs.PutLaws.{first, next, length-filled}
 use Rattle.fields.proofs.DigitLaws.{length-digits}
 use Rattle.notices.specs.Notices.{bilToOwed}
-use Rattle.notices.proofs.NoticeLaws.{length-bil-to-tiers}
+use Rattle.notices.proofs.NoticeLengths.{length-bil-to-tiers}
 use Rattle.notices.proofs.bil.put_to_owed.Statement.{statement}
 use Rattle.notices.proofs.bil.put_to_owed.Tie as tie
 

@@ -5,7 +5,7 @@ use mathlib.Core.Path.{refl}
 use Rattle.fields.proofs.PutLaws.{first, next, length-filled}
 use Rattle.fields.proofs.DigitLaws.{length-digits}
 use Rattle.notices.specs.Notices.{bilToTiers}
-use Rattle.notices.proofs.NoticeLaws.{length-detail-to-key}
+use Rattle.notices.proofs.NoticeLengths.{length-detail-to-key}
 use Rattle.notices.proofs.bil.put_to_tiers.Statement.{statement}
 use Rattle.notices.proofs.bil.put_to_tiers.Tie as tie
 

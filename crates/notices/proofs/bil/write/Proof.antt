@@ -4,7 +4,7 @@ use native.Mathlib.Omega.{arith}
 use Rattle.fields.proofs.PutLaws.{first, next}
 use mathlib.Core.Path.{refl}
 use Rattle.notices.specs.Notices.{bilHeader, bil}
-use Rattle.notices.proofs.NoticeLaws.{length-header, length-bil-detail}
+use Rattle.notices.proofs.NoticeLengths.{length-header, length-bil-detail}
 use Rattle.notices.proofs.bil.write.Statement.{statement}
 use Rattle.notices.proofs.bil.write.Tie as tie
 

@@ -4,7 +4,7 @@ use native.Mathlib.Omega.{arith}
 use Rattle.fields.proofs.PutLaws.{first, next}
 use mathlib.Core.Path.{refl}
 use Rattle.notices.specs.Notices.{cxlDetail}
-use Rattle.notices.proofs.NoticeLaws.{length-detail-to-key, length-spaces-from}
+use Rattle.notices.proofs.NoticeLengths.{length-detail-to-key, length-spaces-from}
 use Rattle.notices.proofs.cxl.put_detail.Statement.{statement}
 use Rattle.notices.proofs.cxl.put_detail.Tie as tie
 

@@ -4,7 +4,7 @@ use native.Mathlib.Omega.{arith}
 use Rattle.fields.proofs.PutLaws.{first, next}
 use mathlib.Core.Path.{refl}
 use Rattle.notices.specs.Notices.{cxlHeader, cxl}
-use Rattle.notices.proofs.NoticeLaws.{length-header, length-cxl-detail}
+use Rattle.notices.proofs.NoticeLengths.{length-header, length-cxl-detail}
 use Rattle.notices.proofs.cxl.write.Statement.{statement}
 use Rattle.notices.proofs.cxl.write.Tie as tie
 

@@ -2,7 +2,7 @@
 use mathlib.Core.Path.{sym, _∙_}
 use borrow.Author.Tests.{not-true, not-false}
 use Rattle.words.proofs.WordLaws.{no-ledger}
-use Rattle.places.proofs.CheckLaws.{bad-header, header-count, good-header}
+use Rattle.places.proofs.SoundWordsLaws.{bad-header, header-count, good-header}
 use borrow.Author.Needs.{needs}
 use Rattle.places.proofs.checks.sound.Statement.{statement}
 use Rattle.places.proofs.checks.sound.Tie as tie

@@ -3,7 +3,7 @@ use borrow.Author.Needs.{needs}
 use mathlib.Core.Path.{_∙_}
 use native.Mathlib.Omega.{arith}
 use Rattle.words.proofs.WordLaws.{words-long, words-bills}
-use Rattle.words.proofs.PlaceLaws.{holds-at}
+use Rattle.words.proofs.WordPlaceLaws.{holds-at}
 use Rattle.places.proofs.PartLaws.{bill-of}
 use Rattle.places.proofs.place.bill_at.Statement.{statement}
 use Rattle.places.proofs.place.bill_at.Tie as tie

@@ -2,7 +2,7 @@
 use borrow.Author.Needs.{needs}
 use native.Mathlib.Omega.{arith}
 use Rattle.file.proofs.FileLaws.{leading-within}
-use Rattle.trace_lines.proofs.ReadLaws.{turn-is}
+use Rattle.trace_lines.proofs.GroupLineLaws.{turn-is}
 use Rattle.trace_lines.proofs.group_lines.group_turn.Statement.{statement}
 use Rattle.trace_lines.proofs.group_lines.group_turn.Tie as tie
 

@@ -2,7 +2,7 @@
 use borrow.Author.Needs.{needs}
 use Prim.Native.Nat.{_+_}
 use mathlib.Core.Path.{sym, ap, _∙_}
-use Rattle.trace_lines.proofs.ReadLaws.{long-acf, long-rej}
+use Rattle.trace_lines.proofs.GroupLineLaws.{long-acf, long-rej}
 use Rattle.trace_lines.proofs.group_lines.next_answer.Statement.{statement}
 use Rattle.trace_lines.proofs.group_lines.next_answer.Tie as tie
 

@@ -1,7 +1,7 @@
 -- `trace_lines::group_lines::put_field` meets its contract.
 use borrow.Author.Needs.{needs}
 use native.Mathlib.Omega.{arith}
-use Rattle.trace_lines.proofs.ReadLaws.{field-put}
+use Rattle.trace_lines.proofs.GroupLineLaws.{field-put}
 use Rattle.trace_lines.proofs.group_lines.put_field.Statement.{statement}
 use Rattle.trace_lines.proofs.group_lines.put_field.Tie as tie
 

@@ -1,7 +1,7 @@
 -- `trace_lines::group_lines::put_group_line` meets its contract.
 use borrow.Author.Needs.{needs}
 use native.Mathlib.Omega.{arith}
-use Rattle.trace_lines.proofs.ReadLaws.{group-put}
+use Rattle.trace_lines.proofs.GroupLineLaws.{group-put}
 use Rattle.trace_lines.proofs.group_lines.put_group_line.Statement.{statement}
 use Rattle.trace_lines.proofs.group_lines.put_group_line.Tie as tie
 

@@ -3,7 +3,7 @@ use borrow.Author.Needs.{needs}
 use Prim.Native.Nat.{_+_}
 use mathlib.Core.Path.{sym, ap, _∙_}
 use Rattle.fields.specs.Put.{put}
-use Rattle.trace_lines.proofs.ReadLaws.{key-none, key-put}
+use Rattle.trace_lines.proofs.GroupLineLaws.{key-none, key-put}
 use Rattle.trace_lines.proofs.group_lines.put_key.Statement.{statement}
 use Rattle.trace_lines.proofs.group_lines.put_key.Tie as tie
 

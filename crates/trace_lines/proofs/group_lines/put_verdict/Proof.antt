@@ -5,7 +5,7 @@ use mathlib.Core.Path.{refl, sym, _∙_}
 use native.Mathlib.Omega.{arith}
 use Rattle.fields.specs.Text.{text}
 use Rattle.table.specs.Table.{ended}
-use Rattle.trace_lines.proofs.ReadLaws.{verdict-put, verdict-acf, verdict-none, verdict-code, code-put, length-code}
+use Rattle.trace_lines.proofs.GroupLineLaws.{verdict-put, verdict-acf, verdict-none, verdict-code, code-put, length-code}
 use Rattle.trace_lines.proofs.group_lines.put_verdict.Statement.{statement}
 use Rattle.trace_lines.proofs.group_lines.put_verdict.Tie as tie
 

@@ -20,7 +20,7 @@ use Rattle.rules.proofs.ListLaws.{all-on, all-joined, slice-step}
 use Rattle.ledger.proofs.SoundLaws.{facts-sound}
 use Rattle.rules.specs.declared.Check.the-variants.{Clear, Stop}
 use Rattle.rules.specs.Rules.{first}
-use Rattle.group.proofs.VerdictLaws.{clear-off}
+use Rattle.group.proofs.AcceptedLaws.{clear-off}
 use Rattle.groups.proofs.FileSound.{count-step}
 use Rattle.causes.specs.declared.Start.{Start}
 use Rattle.causes.specs.Causes.{close, isNumber, startTests, freshCauses}

@@ -18,7 +18,7 @@ use Rattle.verdict.specs.declared.Verdict.{Verdict}
 use Rattle.verdict.specs.declared.Verdict.the-variants.{Accepted, Rejected}
 use Rattle.records.specs.Tiers.{tierConsumptions, tierCharges}
 use Rattle.verdict.specs.Lines.{verdictOf}
-use Rattle.verdict.proofs.ReadLaws.{Agree, reads-rsp, reads-sup}
+use Rattle.verdict.proofs.LinesRead.{Agree, reads-rsp, reads-sup}
 use Rattle.group.specs.Groups.{identityOf, kindOf, sought, soughtIn, verdictOn, verdictBy, verdict, settled, verdictHere, taken, verdicts}
 use Rattle.group.specs.Reads.{SameHeader, SameDetail, SameGroup, Pairwise, NoLineReads}
 use Rattle.group.proofs.DecideLaws.{verdict-line1, verdict-line2, verdict-line3, verdict-rest}

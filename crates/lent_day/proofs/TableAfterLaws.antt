@@ -15,7 +15,7 @@ use Rattle.causes.specs.declared.Start.{Start}
 use Rattle.causes.specs.Causes.{Call, startTests, freshCauses}
 use Rattle.calls.specs.Machine.{ran}
 use Rattle.calls.specs.Days.{freshLedger, freshBy, freshCalled}
-use Rattle.calls.proofs.DayLaws.{fresh-sound}
+use Rattle.calls.proofs.FreshCloseLaws.{fresh-sound}
 use Rattle.calls.proofs.RunLaws.{runs}
 
 ran-sound : (l : Ledger) (s : Start) → first (freshCauses s) ≡ Clear → (cs : List Call) → soundLedger (ran (freshCalled l s .ledger) cs) ≡ true
