@@ -67,16 +67,19 @@ same-length c = search needs
 
 returns-2 : tie.Need-returns-2
 returns-2 c =
-    let x = c .before .before .before .before .before .before .before .before .before .before .before in
+    let at-charge = c .before .before .before .before .before .before .before .before in
+    let at-enum-told = at-charge .before in
+    let at-before = at-enum-told .before in
+    let x = at-before .before in
     let a = x .before .before .before .before .before in
     let s = x .before .before .before .read-for .ensures in
-    let told = c .before .before .before .before .before .before .before .before .before .enum-told .given .1 in
+    let told = at-enum-told .enum-told .given .1 in
     let change = c .before .before .before .before .before .before .before .signed-change in
     rw (
       c .noticed .ensures,
       c .before .updated .ensures,
       toZ-ofZ w64 (change .result) (sfits-of (change .ok)),
-      change .ensures ∙ ap (λ (m : Cents). pos 0 -ℤ pos (m .0)) (c .before .before .before .before .before .before .before .before .charge .ensures),
+      change .ensures ∙ ap (λ (m : Cents). pos 0 -ℤ pos (m .0)) (at-charge .charge .ensures),
     )
     (carried-called (cancel-done (a .args .l) (places (a .args .l) _ (a .good .0)) (a .pre) (a .args .id) _ _ (s .found) _ (s .place) _ (s .header) _ (s .bill) _ (x .cancel .ensures) told) _ _ (c .before .before .before .before .before .put-cxl .ensures))
 

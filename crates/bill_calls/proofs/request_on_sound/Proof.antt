@@ -53,10 +53,12 @@ same-length c = search needs
 
 returns-2 : tie.Need-returns-2
 returns-2 c =
-    let x = c .before .before .before .before .before .before .before .before .before .before in
+    let at-enum-told = c .before .before .before .before .before .before .before .before in
+    let at-before = at-enum-told .before in
+    let x = at-before .before in
     let a = x .before .before .before .before .before in
     let s = x .before .before .before .read-for .ensures in
-    let told = c .before .before .before .before .before .before .before .before .enum-told .given .1 in
+    let told = at-enum-told .enum-told .given .1 in
     rw (c .noticed .ensures, c .before .updated .ensures)
     (carried-called (request-done (a .args .l) (places (a .args .l) _ (a .good .0)) (a .pre) (a .args .r) _ _ (s .found) _ (s .place) _ (s .header) _ (s .bill) _ (x .request .ensures) told) _ _ (c .before .before .before .before .put-bil .ensures))
 

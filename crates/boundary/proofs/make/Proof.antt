@@ -33,7 +33,9 @@ returns-3 : tie.Need-returns-3
 returns-3 c = unsound-leaves (length (c .before .before .before .before .before .before .before .args .out .now)) (c .before .before .before .before .before .before .before .args .ledger .now) (c .before .before .before .before .before .before .before .args .out .now) (c .before .before .before .before .before .before .before .args .s .now) (c .before .before .before .before .before .before .before .args .body) (no-fresh (c .before .before .before .before .before .before .before .args .body) (c .before .before .before .match .keys2)) (sym (c .before .sound .ensures) ∙ not-true _ (c .if2 .taken))
 
 entry-requires : tie.Need-entry-requires
-entry-requires c κs = ((sym (c .before .before .before .sound .ensures) ∙ not-false _ (c .before .before .if2 .left), no-fresh-taken (c .before .before .before .before .before .before .before .before .before .args .body) (no-fresh (c .before .before .before .before .before .before .before .before .before .args .body) (c .before .before .before .before .before .match .keys2))), λ _. omega arith)
+entry-requires c κs =
+    let start = c .before .before .before .before .before .before .before .before .before in
+    ((sym (c .before .before .before .sound .ensures) ∙ not-false _ (c .before .before .if2 .left), no-fresh-taken (start .args .body) (no-fresh (start .args .body) (c .before .before .before .before .before .match .keys2))), λ _. omega arith)
 
 same-length-3 : tie.Need-same-length-3
 same-length-3 c = search needs
@@ -42,7 +44,11 @@ same-length-4 : tie.Need-same-length-4
 same-length-4 c = search needs
 
 returns-4 : tie.Need-returns-4
-returns-4 c = sound-leaves (length (c .before .before .before .before .before .before .before .before .before .before .before .before .before .before .args .out .now)) (c .before .before .before .before .before .before .before .before .before .before .before .before .before .before .args .ledger .now) (c .before .before .before .before .before .before .before .before .before .before .before .before .before .before .args .out .now) (c .before .before .before .before .before .before .before .before .before .before .before .before .before .before .args .s .now) (c .before .before .before .before .before .before .before .before .before .before .before .before .before .before .args .body) (no-fresh (c .before .before .before .before .before .before .before .before .before .before .before .before .before .before .args .body) (c .before .before .before .before .before .before .before .before .before .before .match .keys2)) (sym (c .before .before .before .before .before .before .before .before .sound .ensures) ∙ not-false _ (c .before .before .before .before .before .before .before .if2 .left)) _ _ _ (c .before .before .before .before .entry .ensures)
+returns-4 c =
+    let at-sound = c .before .before .before .before .before .before .before .before in
+    let at-match = at-sound .before .before in
+    let start = at-match .before .before .before .before in
+    sound-leaves (length (start .args .out .now)) (start .args .ledger .now) (start .args .out .now) (start .args .s .now) (start .args .body) (no-fresh (start .args .body) (at-match .match .keys2)) (sym (at-sound .sound .ensures) ∙ not-false _ (c .before .before .before .before .before .before .before .if2 .left)) _ _ _ (c .before .before .before .before .entry .ensures)
 
 pub make-spec : {M : Type 1} → statement M
 make-spec =

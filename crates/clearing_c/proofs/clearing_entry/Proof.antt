@@ -21,13 +21,19 @@ enum-known-h : tie.Need-enum-known-h
 enum-known-h c = search needs
 
 sub-call : tie.Need-sub-call
-sub-call c = omega (arith, whole-fits _ _ _ _ (sym (c .before .before .before .before .before .before .before .before .head-at .ensures) ∙ c .before .before .before .before .before .before .h .given .1))
+sub-call c =
+    let at-head-at = c .before .before .before .before .before .before .before .before in
+    omega (arith, whole-fits _ _ _ _ (sym (at-head-at .head-at .ensures) ∙ c .before .before .before .before .before .before .h .given .1))
 
 part-call-start : tie.Need-part-call-start
-part-call-start c = omega (arith, whole-fits _ _ _ _ (sym (c .before .before .before .before .before .before .before .before .head-at .ensures) ∙ c .before .before .before .before .before .before .h .given .1))
+part-call-start c =
+    let at-head-at = c .before .before .before .before .before .before .before .before in
+    omega (arith, whole-fits _ _ _ _ (sym (at-head-at .head-at .ensures) ∙ c .before .before .before .before .before .before .h .given .1))
 
 part-call-end : tie.Need-part-call-end
-part-call-end c = omega (arith, whole-fits _ _ _ _ (sym (c .before .before .before .before .before .before .before .before .head-at .ensures) ∙ c .before .before .before .before .before .before .h .given .1))
+part-call-end c =
+    let at-head-at = c .before .before .before .before .before .before .before .before in
+    omega (arith, whole-fits _ _ _ _ (sym (at-head-at .head-at .ensures) ∙ c .before .before .before .before .before .before .h .given .1))
 
 call-requires : tie.Need-call-requires
 call-requires c κs = search needs
@@ -45,7 +51,11 @@ same-length-2 : tie.Need-same-length-2
 same-length-2 c = search needs
 
 returns-3 : tie.Need-returns-3
-returns-3 c = entry-whole (length (c .before .before .before .before .before .before .before .before .before .before .before .before .before .before .before .before .before .before .args .out .now)) (c .before .before .before .before .before .before .before .before .before .before .before .before .before .before .before .before .before .before .args .seen) (c .before .before .before .before .before .before .before .before .before .before .before .before .before .before .before .before .before .before .args .journal .now) (c .before .before .before .before .before .before .before .before .before .before .before .before .before .before .before .before .before .before .args .ledger .now) _ _ (c .before .before .before .before .before .before .before .before .before .before .before .before .before .before .before .before .before .before .args .out .now) _ _ (sym (c .before .before .before .before .before .before .before .before .before .before .before .before .before .before .head-at .ensures) ∙ c .before .before .before .before .before .before .before .before .before .before .before .before .h .given .1) _ _ _ _ _ (c .before .before .before .before .call .ensures .0) (c .before .before .before .before .call .ensures .1)
+returns-3 c =
+    let at-h = c .before .before .before .before .before .before .before .before .before .before .before .before in
+    let at-head-at = at-h .before .before in
+    let start = at-head-at .before .before .before .before in
+    entry-whole (length (start .args .out .now)) (start .args .seen) (start .args .journal .now) (start .args .ledger .now) _ _ (start .args .out .now) _ _ (sym (at-head-at .head-at .ensures) ∙ at-h .h .given .1) _ _ _ _ _ (c .before .before .before .before .call .ensures .0) (c .before .before .before .before .call .ensures .1)
 
 pub clearing-entry-spec : {M : Type 1} → statement M
 clearing-entry-spec =

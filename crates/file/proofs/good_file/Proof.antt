@@ -56,7 +56,8 @@ loop-less c = search needs
 
 loop-again : tie.Need-loop-again Inv-loop μ-loop
 loop-again c =
-    let s = c .before .before .before .before .before .before .before .before .args .s .now in
+    let start = c .before .before .before .before .before .before .before .before in
+    let s = start .args .s .now in
     let i = c .before .before .before .before .loop .i in
     let t = ap goodRecord (sym (lent-record s i)) ∙ sym (c .before .good-record .ensures) ∙ c .if3 .taken in
     (omega arith, sym (good-step s i (length s / 321) (omega arith) t) ∙ c .before .before .before .before .loop .inv .1)
@@ -64,7 +65,8 @@ loop-again c =
 returns-3 : tie.Need-returns-3 Inv-loop μ-loop
 unfolding goodFile records
 returns-3 c =
-    let s = c .before .before .before .before .before .before .before .before .args .s .now in
+    let start = c .before .before .before .before .before .before .before .before in
+    let s = start .args .s .now in
     let i = c .before .before .before .before .loop .i in
     let t = ap goodRecord (sym (lent-record s i)) ∙ sym (c .before .good-record .ensures) ∙ c .if3 .left in
     let e = sym (c .before .before .before .before .loop .inv .1) ∙ good-stop s i (length s / 321) (omega arith) t in

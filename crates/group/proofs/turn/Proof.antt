@@ -27,26 +27,41 @@ answer-requires : tie.Need-answer-requires
 answer-requires c κs = search needs
 
 add-requires : tie.Need-add-requires
-add-requires c κs = let v = verdict-now _ _ (c .before .before .before .before .before .before .before .before .before .before .args .f) (c .before .before .before .before .before .before .before .before .before .before .args .b) _ _ _ (c .before .before .before .before .before .sought-by .ensures) (c .before .before .before .before .verdict-at .ensures) in
-    (c .before .before .before .before .before .before .before .before .before .before .pre .1 .1, omega (arith, c .before .before .answer .ensures .2, c .before .before .before .before .before .before .before .before .before .before .pre .0), rw v (came-small _ _ _ _), rw v (went-small _ _ (c .before .before .before .before .before .before .before .before .before .before .args .f) (c .before .before .before .before .before .before .before .before .before .before .args .b) _ (c .before .before .before .before .before .before .before .before .before .before .pre .1 .0)))
+add-requires c κs =
+    let start = c .before .before .before .before .before .before .before .before .before .before in
+    let v = verdict-now _ _ (start .args .f) (start .args .b) _ _ _ (c .before .before .before .before .before .sought-by .ensures) (c .before .before .before .before .verdict-at .ensures) in
+    (start .pre .1 .1, omega (arith, c .before .before .answer .ensures .2, start .pre .0), rw v (came-small _ _ _ _), rw v (went-small _ _ (start .args .f) (start .args .b) _ (start .pre .1 .0)))
 
 ids-used-requires : tie.Need-ids-used-requires
 ids-used-requires c κs = search needs
 
 add-t23 : tie.Need-add-t23
-add-t23 c = omega (arith, c .before .ids-used .ensures .1, c .before .before .before .before .before .before .before .before .before .before .before .before .before .pre .1)
+add-t23 c =
+    let start = c .before .before .before .before .before .before .before .before .before .before .before .before .before in
+    omega (arith, c .before .ids-used .ensures .1, start .pre .1)
 
 add-t24 : tie.Need-add-t24
-add-t24 c = omega (arith, c .before .before .before .before .before .before .before .before .before .before .before .before .before .before .pre .1)
+add-t24 c =
+    let start = c .before .before .before .before .before .before .before .before .before .before .before .before .before .before in
+    omega (arith, start .pre .1)
 
 post-requires : tie.Need-post-requires
-post-requires c κs = rw (verdict-now _ _ (c .before .before .before .before .before .before .before .before .before .before .before .before .before .before .args .f) (c .before .before .before .before .before .before .before .before .before .before .before .before .before .before .args .b) _ _ _ (c .before .before .before .before .before .before .before .before .before .sought-by .ensures) (c .before .before .before .before .before .before .before .before .verdict-at .ensures)) (can-post _ _ (c .before .before .before .before .before .before .before .before .before .before .before .before .before .before .args .f) (c .before .before .before .before .before .before .before .before .before .before .before .before .before .before .args .b) _ (c .before .before .before .before .before .before .before .before .before .before .before .before .before .before .pre .1 .0))
+post-requires c κs =
+    let at-verdict-at = c .before .before .before .before .before .before .before .before in
+    let at-sought-by = at-verdict-at .before in
+    let start = at-sought-by .before .before .before .before .before in
+    rw (verdict-now _ _ (start .args .f) (start .args .b) _ _ _ (at-sought-by .sought-by .ensures) (at-verdict-at .verdict-at .ensures)) (can-post _ _ (start .args .f) (start .args .b) _ (start .pre .1 .0))
 
 same-length : tie.Need-same-length
 same-length c = search needs
 
 returns : tie.Need-returns
-returns c = turn-done (c .before .before .before .before .before .before .before .before .before .before .before .before .before .before .before .args .out .now) _ (c .before .before .before .before .before .before .before .before .before .before .before .before .before .before .before .args .writes) (c .before .before .before .before .before .before .before .before .before .before .before .before .before .before .before .args .c) (c .before .before .before .before .before .before .before .before .before .before .before .before .before .before .before .args .s .now) (c .before .before .before .before .before .before .before .before .before .before .before .before .before .before .before .args .i) (c .before .before .before .before .before .before .before .before .before .before .before .before .before .before .before .args .n) (c .before .before .before .before .before .before .before .before .before .before .before .before .before .before .before .args .duplicate) (c .before .before .before .before .before .before .before .before .before .before .before .before .before .before .before .args .h) (c .before .before .before .before .before .before .before .before .before .before .before .before .before .before .before .args .f) (c .before .before .before .before .before .before .before .before .before .before .before .before .before .before .before .args .b) _ (c .before .before .before .before .before .before .before .before .before .before .before .before .sup-at .ensures) _ (verdict-now _ _ (c .before .before .before .before .before .before .before .before .before .before .before .before .before .before .before .args .f) (c .before .before .before .before .before .before .before .before .before .before .before .before .before .before .before .args .b) _ _ _ (c .before .before .before .before .before .before .before .before .before .before .sought-by .ensures) (c .before .before .before .before .before .before .before .before .before .verdict-at .ensures)) _ (c .before .before .before .before .before .before .before .answer .ensures .1) (c .before .before .before .before .before .before .before .answer .ensures .0) _ (c .before .before .before .before .add .ensures) _ (c .before .before .before .ids-used .ensures .0) _ (c .post .ensures)
+returns c =
+    let at-verdict-at = c .before .before .before .before .before .before .before .before .before in
+    let at-sought-by = at-verdict-at .before in
+    let at-sup-at = at-sought-by .before .before in
+    let start = at-sup-at .before .before .before in
+    turn-done (start .args .out .now) _ (start .args .writes) (start .args .c) (start .args .s .now) (start .args .i) (start .args .n) (start .args .duplicate) (start .args .h) (start .args .f) (start .args .b) _ (at-sup-at .sup-at .ensures) _ (verdict-now _ _ (start .args .f) (start .args .b) _ _ _ (at-sought-by .sought-by .ensures) (at-verdict-at .verdict-at .ensures)) _ (c .before .before .before .before .before .before .before .answer .ensures .1) (c .before .before .before .before .before .before .before .answer .ensures .0) _ (c .before .before .before .before .add .ensures) _ (c .before .before .before .ids-used .ensures .0) _ (c .post .ensures)
 
 pub turn-spec : {M : Type 1} → statement M
 turn-spec =

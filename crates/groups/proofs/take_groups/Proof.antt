@@ -33,8 +33,10 @@ array-read-duplicate : tie.Need-array-read-duplicate Inv-loop μ-loop
 array-read-duplicate c = omega (arith, c .before .before .before .loop .inv .within)
 
 turn-requires : tie.Need-turn-requires Inv-loop μ-loop
-turn-requires c κs = let e = sym (c .before .before .header-at .ensures) ∙ c .before .if1 .taken in
-    ((omega arith, c .before .before .before .before .before .before .before .before .before .pre .0 .1, c .before .before .before .before .before .before .before .before .before .pre .0 .0, walk-room _ _ _ _ _ _ _ _ _ (c .before .before .before .before .loop .inv) (omega arith) e (λ z. c .before .before .before .before .before .before .before .before .before .pre .0 .2) refl), walk-fine _ _ _ _ _ _ _ _ _ (c .before .before .before .before .loop .inv) (omega arith) e (omega arith))
+turn-requires c κs =
+    let start = c .before .before .before .before .before .before .before .before .before in
+    let e = sym (c .before .before .header-at .ensures) ∙ c .before .if1 .taken in
+    ((omega arith, start .pre .0 .1, start .pre .0 .0, walk-room _ _ _ _ _ _ _ _ _ (c .before .before .before .before .loop .inv) (omega arith) e (λ z. start .pre .0 .2) refl), walk-fine _ _ _ _ _ _ _ _ _ (c .before .before .before .before .loop .inv) (omega arith) e (omega arith))
 
 add-i : tie.Need-add-i Inv-loop μ-loop
 add-i c = search needs
@@ -43,12 +45,14 @@ loop-less : tie.Need-loop-less Inv-loop μ-loop
 loop-less c = omega (arith, c .before .before .before .loop .inv .within)
 
 loop-again : tie.Need-loop-again Inv-loop μ-loop
-loop-again c = let h : c .before .before .before .loop .i < c .before .before .before .before .before .before .before .before .args .n = omega arith in
+loop-again c =
+    let start = c .before .before .before .before .before .before .before .before in
+    let h : c .before .before .before .loop .i < start .args .n = omega arith in
     let m = c .before .before .before .before .before .marks .ensures .0 (c .before .before .before .loop .i) h in
     ⊎-elim
     (λ w.
     let e = sym (c .before .header-at .ensures) ∙ w .0 .taken in
-    rw (w .5, w .6) (walk-turn _ _ _ _ _ _ _ _ _ (c .before .before .before .loop .inv) h e (c .before .before .before .before .before .before .before .before .pre .0 .1) _ m (λ z. c .before .before .before .before .before .before .before .before .pre .0 .2) _ _ _ (w .2 .ensures)))
+    rw (w .5, w .6) (walk-turn _ _ _ _ _ _ _ _ _ (c .before .before .before .loop .inv) h e (start .pre .0 .1) _ m (λ z. start .pre .0 .2) _ _ _ (w .2 .ensures)))
     (λ w. rw (w .1, w .2) (walk-detail _ _ _ _ _ _ _ _ _ (c .before .before .before .loop .inv) h (sym (c .before .header-at .ensures) ∙ w .0 .left)))
     (c .if1 .came)
 

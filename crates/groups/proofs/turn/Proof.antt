@@ -22,7 +22,9 @@ element-copy-out-b : tie.Need-element-copy-out-b
 element-copy-out-b c = search needs
 
 turn-requires : tie.Need-turn-requires
-turn-requires c κs = ((c .before .before .before .before .before .before .before .before .before .before .pre .0 .0, c .before .before .before .before .before .before .before .before .before .before .pre .0 .1, c .before .before .before .before .before .before .before .before .before .before .pre .0 .2, λ z. c .before .before .before .before .before .before .before .before .before .before .pre .0 .3), (turn-calm (c .before .before .before .before .before .before .before .before .before .before .args .t .ledger) (c .before .before .before .before .before .before .before .before .before .before .args .t .tally) (c .before .before .before .before .before .before .before .before .before .before .pre .1) (c .before .before .before .before .before .before .before .before .before .before .args .s .now) (c .before .before .before .before .before .before .before .before .before .before .args .i) (c .before .before .before .before .before .before .before .before .before .before .args .n) _ (c .before .before .before .before .identity-at .ensures) _ (c .before .before .before .find .ensures) _ (c .before .before .slot .ensures .0) _ refl, c .before .before .before .before .before .before .before .before .before .before .pre .1 .few, c .before .before .before .before .before .before .before .before .before .before .pre .1 .tracking, c .before .before .before .before .before .before .before .before .before .before .pre .1 .confirmation))
+turn-requires c κs =
+    let start = c .before .before .before .before .before .before .before .before .before .before in
+    ((start .pre .0 .0, start .pre .0 .1, start .pre .0 .2, λ z. start .pre .0 .3), (turn-calm (start .args .t .ledger) (start .args .t .tally) (start .pre .1) (start .args .s .now) (start .args .i) (start .args .n) _ (c .before .before .before .before .identity-at .ensures) _ (c .before .before .before .find .ensures) _ (c .before .before .slot .ensures .0) _ refl, start .pre .1 .few, start .pre .1 .tracking, start .pre .1 .confirmation))
 
 updated-requires : tie.Need-updated-requires
 updated-requires c κs = search needs
@@ -31,7 +33,12 @@ same-length : tie.Need-same-length
 same-length c = search needs
 
 returns : tie.Need-returns
-returns c = turn-on (c .before .before .before .before .before .before .before .before .before .before .before .before .before .before .before .before .args .t .ledger) (c .before .before .before .before .before .before .before .before .before .before .before .before .before .before .before .before .args .t .tally) (c .before .before .before .before .before .before .before .before .before .before .before .before .before .before .before .before .pre .1) (c .before .before .before .before .before .before .before .before .before .before .before .before .before .before .before .before .args .s .now) (c .before .before .before .before .before .before .before .before .before .before .before .before .before .before .before .before .args .i) (c .before .before .before .before .before .before .before .before .before .before .before .before .before .before .before .before .args .n) _ (c .before .before .before .before .before .before .before .before .before .before .identity-at .ensures) _ (c .before .before .before .before .before .before .before .before .before .find .ensures) _ (c .before .before .before .before .before .before .before .before .slot .ensures .0) _ refl _ _ _ _ _ (c .before .before .before .before .before .turn .ensures) _ (c .updated .ensures)
+returns c =
+    let at-slot = c .before .before .before .before .before .before .before .before in
+    let at-find = at-slot .before in
+    let at-identity-at = at-find .before in
+    let start = at-identity-at .before .before .before .before .before .before in
+    turn-on (start .args .t .ledger) (start .args .t .tally) (start .pre .1) (start .args .s .now) (start .args .i) (start .args .n) _ (at-identity-at .identity-at .ensures) _ (at-find .find .ensures) _ (at-slot .slot .ensures .0) _ refl _ _ _ _ _ (c .before .before .before .before .before .turn .ensures) _ (c .updated .ensures)
 
 pub turn-spec : {M : Type 1} → statement M
 turn-spec =

@@ -58,7 +58,9 @@ returns-3 c = rw (today-is (c .before .before .before .before .before .before .b
 
 returns-4 : tie.Need-returns-4
 unfolding freshBody
-returns-4 c = rw (today-is (c .before .before .before .before .before .before .before .before .before) .digits, today-is (c .before .before .before .before .before .before .before .before .before) .number, tracking-is (c .before .before .before .before .before) .digits, tracking-is (c .before .before .before .before .before) .number, confirmation-is (c .before) .digits, confirmation-is (c .before) .number)
+returns-4 c =
+    let at-before = c .before .before .before .before .before .before .before .before in
+    rw (today-is (at-before .before) .digits, today-is (at-before .before) .number, tracking-is (c .before .before .before .before .before) .digits, tracking-is (c .before .before .before .before .before) .number, confirmation-is (c .before) .digits, confirmation-is (c .before) .number)
 
 pub fresh-body-spec : {M : Type 1} → statement M
 fresh-body-spec =

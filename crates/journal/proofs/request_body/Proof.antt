@@ -77,7 +77,9 @@ enum-told-4 c = search needs
 
 returns-4 : tie.Need-returns-4
 unfolding requestBody
-returns-4 c = rw (account-is (c .before .before .before .before .before .before .before .before .before .before .before .before) .digits, key-is (c .before .before .before .before .before .before .before .before) .digits, billing-is (c .before .before .before .before) .digits, field-isnt _ (sym (c .before .before .read-field4 .ensures) ∙ c .enum-told4 .given .1))
+returns-4 c =
+    let at-before = c .before .before .before .before .before .before .before .before .before .before .before in
+    rw (account-is (at-before .before) .digits, key-is (c .before .before .before .before .before .before .before .before) .digits, billing-is (c .before .before .before .before) .digits, field-isnt _ (sym (c .before .before .read-field4 .ensures) ∙ c .enum-told4 .given .1))
 
 read-field-requires-5 : tie.Need-read-field-requires-5
 read-field-requires-5 c κs = search needs
@@ -90,7 +92,10 @@ enum-told-5 c = search needs
 
 returns-5 : tie.Need-returns-5
 unfolding requestBody
-returns-5 c = rw (account-is (c .before .before .before .before .before .before .before .before .before .before .before .before .before .before .before .before) .digits, key-is (c .before .before .before .before .before .before .before .before .before .before .before .before) .digits, billing-is (c .before .before .before .before .before .before .before .before) .digits, from-is (c .before .before .before .before) .digits, field-isnt _ (sym (c .before .before .read-field5 .ensures) ∙ c .enum-told5 .given .1))
+returns-5 c =
+    let at-before = c .before .before .before .before .before .before .before .before .before .before .before in
+    let at-before-2 = at-before .before .before .before .before in
+    rw (account-is (at-before-2 .before) .digits, key-is (at-before .before) .digits, billing-is (c .before .before .before .before .before .before .before .before) .digits, from-is (c .before .before .before .before) .digits, field-isnt _ (sym (c .before .before .read-field5 .ensures) ∙ c .enum-told5 .given .1))
 
 read-field-requires-6 : tie.Need-read-field-requires-6
 read-field-requires-6 c κs = search needs
@@ -103,17 +108,29 @@ enum-told-6 c = search needs
 
 returns-6 : tie.Need-returns-6
 unfolding requestBody
-returns-6 c = rw (account-is (c .before .before .before .before .before .before .before .before .before .before .before .before .before .before .before .before .before .before .before .before) .digits, key-is (c .before .before .before .before .before .before .before .before .before .before .before .before .before .before .before .before) .digits, billing-is (c .before .before .before .before .before .before .before .before .before .before .before .before) .digits, from-is (c .before .before .before .before .before .before .before .before) .digits, consumption-is (c .before .before .before .before) .digits, field-isnt _ (sym (c .before .before .read-field6 .ensures) ∙ c .enum-told6 .given .1))
+returns-6 c =
+    let at-before = c .before .before .before .before .before .before .before .before .before .before .before in
+    let at-before-2 = at-before .before .before .before .before in
+    let at-before-3 = at-before-2 .before .before .before .before in
+    rw (account-is (at-before-3 .before) .digits, key-is (at-before-2 .before) .digits, billing-is (at-before .before) .digits, from-is (c .before .before .before .before .before .before .before .before) .digits, consumption-is (c .before .before .before .before) .digits, field-isnt _ (sym (c .before .before .read-field6 .ensures) ∙ c .enum-told6 .given .1))
 
 code-at-requires : tie.Need-code-at-requires
 code-at-requires c κs = search needs
 
 shared-slice-read-t17 : tie.Need-shared-slice-read-t17
-shared-slice-read-t17 c = omega (arith, c .before .before .before .before .before .before .before .before .before .before .before .before .before .before .before .before .before .before .before .before .before .before .before .before .before .before .before .pre)
+shared-slice-read-t17 c =
+    let start = c .before .before .before .before .before .before .before .before .before .before .before .before .before .before .before .before .before .before .before .before .before .before .before .before .before .before .before in
+    omega (arith, start .pre)
 
 returns-7 : tie.Need-returns-7
 unfolding requestBody
-returns-7 c = rw (account-is (c .before .before .before .before .before .before .before .before .before .before .before .before .before .before .before .before .before .before .before .before .before .before .before) .digits, account-is (c .before .before .before .before .before .before .before .before .before .before .before .before .before .before .before .before .before .before .before .before .before .before .before) .number, key-is (c .before .before .before .before .before .before .before .before .before .before .before .before .before .before .before .before .before .before .before) .digits, key-is (c .before .before .before .before .before .before .before .before .before .before .before .before .before .before .before .before .before .before .before) .number, billing-is (c .before .before .before .before .before .before .before .before .before .before .before .before .before .before .before) .digits, billing-is (c .before .before .before .before .before .before .before .before .before .before .before .before .before .before .before) .number, from-is (c .before .before .before .before .before .before .before .before .before .before .before) .digits, from-is (c .before .before .before .before .before .before .before .before .before .before .before) .number, consumption-is (c .before .before .before .before .before .before .before) .digits, consumption-is (c .before .before .before .before .before .before .before) .number, scheduled-is (c .before .before .before) .digits, scheduled-is (c .before .before .before) .number, c .before .code-at .ensures, byte-at (c .before .before .before .before .before .before .before .before .before .before .before .before .before .before .before .before .before .before .before .before .before .before .before .before .before .before .before .args .s .now) 21)
+returns-7 c =
+    let at-before = c .before .before .before .before .before .before .before .before .before .before in
+    let at-before-2 = at-before .before .before .before .before in
+    let at-before-3 = at-before-2 .before .before .before .before in
+    let at-before-4 = at-before-3 .before .before .before .before in
+    let start = at-before-4 .before .before .before .before .before in
+    rw (account-is (at-before-4 .before) .digits, account-is (at-before-4 .before) .number, key-is (at-before-3 .before) .digits, key-is (at-before-3 .before) .number, billing-is (at-before-2 .before) .digits, billing-is (at-before-2 .before) .number, from-is (at-before .before) .digits, from-is (at-before .before) .number, consumption-is (c .before .before .before .before .before .before .before) .digits, consumption-is (c .before .before .before .before .before .before .before) .number, scheduled-is (c .before .before .before) .digits, scheduled-is (c .before .before .before) .number, c .before .code-at .ensures, byte-at (start .args .s .now) 21)
 
 pub request-body-spec : {M : Type 1} → statement M
 request-body-spec =

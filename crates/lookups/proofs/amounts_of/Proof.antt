@@ -46,13 +46,15 @@ returns-3 c =
 
 mul-b : tie.Need-mul-b
 mul-b c =
-    let p = spot (ofId (c .before .before .before .before .before .before .before .before .args .id)) (c .before .before .before .before .before .before .before .before .args .t1) _ (sym (c .before .before .before .find .ensures) ∙ c .before .f .given .1) in
-    omega (arith, p .below, ledger-count (c .before .before .before .before .before .before .before .before .args .t1) (sym (c .before .before .before .before .before .before .before .sound .ensures) ∙ not-false _ (c .before .before .before .before .before .before .if1 .left)))
+    let start = c .before .before .before .before .before .before .before .before in
+    let p = spot (ofId (start .args .id)) (start .args .t1) _ (sym (c .before .before .before .find .ensures) ∙ c .before .f .given .1) in
+    omega (arith, p .below, ledger-count (start .args .t1) (sym (c .before .before .before .before .before .before .before .sound .ensures) ∙ not-false _ (c .before .before .before .before .before .before .if1 .left)))
 
 element-copy-out-b : tie.Need-element-copy-out-b
 element-copy-out-b c =
-    let p = spot (ofId (c .before .before .before .before .before .before .before .before .args .id)) (c .before .before .before .before .before .before .before .before .args .t1) _ (sym (c .before .before .before .find .ensures) ∙ c .before .f .given .1) in
-    omega (arith, p .below, ledger-count (c .before .before .before .before .before .before .before .before .args .t1) (sym (c .before .before .before .before .before .before .before .sound .ensures) ∙ not-false _ (c .before .before .before .before .before .before .if1 .left)))
+    let start = c .before .before .before .before .before .before .before .before in
+    let p = spot (ofId (start .args .id)) (start .args .t1) _ (sym (c .before .before .before .find .ensures) ∙ c .before .f .given .1) in
+    omega (arith, p .below, ledger-count (start .args .t1) (sym (c .before .before .before .before .before .before .before .sound .ensures) ∙ not-false _ (c .before .before .before .before .before .before .if1 .left)))
 
 counted-requires : tie.Need-counted-requires
 counted-requires c κs = search needs
@@ -60,14 +62,17 @@ counted-requires c κs = search needs
 returns-4 : tie.Need-returns-4
 unfolding amountCauses amountsIn
 returns-4 c =
-    let p = spot (ofId (c .before .before .before .before .before .before .before .before .before .before .args .id)) (c .before .before .before .before .before .before .before .before .before .before .args .t1) _ (sym (c .before .before .before .before .before .find .ensures) ∙ c .before .before .before .f .given .1) in
-    let g : goodIdentity (c .before .before .before .before .before .before .before .before .before .before .args .id) ≡ true = sym (c .before .before .before .before .before .before .before .good-identity .ensures) ∙ not-false _ (c .before .before .before .before .before .before .if2 .left) in
+    let at-if1 = c .before .before .before .before .before .before .before .before in
+    let at-sound = at-if1 .before in
+    let start = at-sound .before in
+    let p = spot (ofId (start .args .id)) (start .args .t1) _ (sym (c .before .before .before .before .before .find .ensures) ∙ c .before .before .before .f .given .1) in
+    let g : goodIdentity (start .args .id) ≡ true = sym (c .before .before .before .before .before .before .before .good-identity .ensures) ∙ not-false _ (c .before .before .before .before .before .before .if2 .left) in
     rw (
       c .counted .ensures,
-      sym (c .before .before .before .before .before .before .before .before .before .sound .ensures) ∙ not-false _ (c .before .before .before .before .before .before .before .before .if1 .left),
+      sym (at-sound .sound .ensures) ∙ not-false _ (at-if1 .if1 .left),
       g,
       p .some,
-      first-of (c .before .before .before .before .before .before .before .before .before .before .args .id) (live (c .before .before .before .before .before .before .before .before .before .before .args .t1)) ∙ p .bill,
+      first-of (start .args .id) (live (start .args .t1)) ∙ p .bill,
     )
 
 pub amounts-of-spec : {M : Type 1} → statement M

@@ -40,22 +40,30 @@ enum-told : tie.Need-enum-told
 enum-told c = search needs
 
 returns-3 : tie.Need-returns-3
-returns-3 c = amounts-none (ledgerOf (c .before .before .before .before .before .before .before .before .before .args .ws .now)) (c .before .before .before .before .before .before .before .before .before .args .id) (sym (c .before .before .before .before .before .before .before .sound .ensures) ∙ not-false _ (c .before .before .before .before .before .before .if1 .left)) (sym (c .before .before .before .before .before .good-identity .ensures) ∙ not-false _ (c .before .before .before .before .if2 .left)) (c .before .before .before .header .result) (c .before .before .before .header .ensures) _ (c .before .before .find .ensures) (c .enum-told .given .1)
+returns-3 c =
+    let start = c .before .before .before .before .before .before .before .before .before in
+    amounts-none (ledgerOf (start .args .ws .now)) (start .args .id) (sym (c .before .before .before .before .before .before .before .sound .ensures) ∙ not-false _ (c .before .before .before .before .before .before .if1 .left)) (sym (c .before .before .before .before .before .good-identity .ensures) ∙ not-false _ (c .before .before .before .before .if2 .left)) (c .before .before .before .header .result) (c .before .before .before .header .ensures) _ (c .before .before .find .ensures) (c .enum-told .given .1)
 
 bill-at-requires : tie.Need-bill-at-requires
 bill-at-requires c κs =
-    let s = sym (c .before .before .before .before .before .before .before .before .sound .ensures) ∙ not-false _ (c .before .before .before .before .before .before .before .if1 .left) in
-    let o = amounts-spot (ledgerOf (c .before .before .before .before .before .before .before .before .before .before .args .ws .now)) (c .before .before .before .before .before .before .before .before .before .before .args .id) s (sym (c .before .before .before .before .before .before .good-identity .ensures) ∙ not-false _ (c .before .before .before .before .before .if2 .left)) (c .before .before .before .before .header .result) (c .before .before .before .before .header .ensures) _ (c .before .before .before .find .ensures) _ (c .before .f .given .1) in
-    (sound-holds _ s, omega (arith, o .below, ledger-count (ledgerOf (c .before .before .before .before .before .before .before .before .before .before .args .ws .now)) s))
+    let at-sound = c .before .before .before .before .before .before .before .before in
+    let start = at-sound .before .before in
+    let s = sym (at-sound .sound .ensures) ∙ not-false _ (c .before .before .before .before .before .before .before .if1 .left) in
+    let o = amounts-spot (ledgerOf (start .args .ws .now)) (start .args .id) s (sym (c .before .before .before .before .before .before .good-identity .ensures) ∙ not-false _ (c .before .before .before .before .before .if2 .left)) (c .before .before .before .before .header .result) (c .before .before .before .before .header .ensures) _ (c .before .before .before .find .ensures) _ (c .before .f .given .1) in
+    (sound-holds _ s, omega (arith, o .below, ledger-count (ledgerOf (start .args .ws .now)) s))
 
 counted-requires : tie.Need-counted-requires
 counted-requires c κs = search needs
 
 returns-4 : tie.Need-returns-4
 returns-4 c =
+    let at-good-identity = c .before .before .before .before .before .before .before .before in
+    let at-if1 = at-good-identity .before in
+    let at-sound = at-if1 .before in
+    let start = at-sound .before .before in
     c .counted .ensures
     ∙ ap (λ (b : Bill). countedBy (b .posted)) (c .before .bill-at .ensures)
-    ∙ amounts-at (ledgerOf (c .before .before .before .before .before .before .before .before .before .before .before .before .args .ws .now)) (c .before .before .before .before .before .before .before .before .before .before .before .before .args .id) (sym (c .before .before .before .before .before .before .before .before .before .before .sound .ensures) ∙ not-false _ (c .before .before .before .before .before .before .before .before .before .if1 .left)) (sym (c .before .before .before .before .before .before .before .before .good-identity .ensures) ∙ not-false _ (c .before .before .before .before .before .before .before .if2 .left)) (c .before .before .before .before .before .before .header .result) (c .before .before .before .before .before .before .header .ensures) _ (c .before .before .before .before .before .find .ensures) _ (c .before .before .before .f .given .1)
+    ∙ amounts-at (ledgerOf (start .args .ws .now)) (start .args .id) (sym (at-sound .sound .ensures) ∙ not-false _ (at-if1 .if1 .left)) (sym (at-good-identity .good-identity .ensures) ∙ not-false _ (c .before .before .before .before .before .before .before .if2 .left)) (c .before .before .before .before .before .before .header .result) (c .before .before .before .before .before .before .header .ensures) _ (c .before .before .before .before .before .find .ensures) _ (c .before .before .before .f .given .1)
 
 pub amounts-in-spec : {M : Type 1} → statement M
 amounts-in-spec =

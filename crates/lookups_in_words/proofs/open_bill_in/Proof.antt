@@ -35,10 +35,15 @@ enum-told : tie.Need-enum-told
 enum-told c = search needs
 
 returns-3 : tie.Need-returns-3
-returns-3 c = open-at (ledgerOf (c .before .before .before .before .before .before .before .before .before .before .args .ws .now)) (c .before .before .before .before .before .before .before .before .before .before .args .account) (sym (c .before .before .before .before .before .before .before .before .sound .ensures) ∙ not-false _ (c .before .before .before .before .before .before .before .if1 .left)) (c .before .before .before .before .before .before .if2 .left) (c .before .before .before .before .before .header .result) (c .before .before .before .before .before .header .ensures) _ (c .before .before .before .find-open .ensures) _ (c .before .f .given .1)
+returns-3 c =
+    let at-sound = c .before .before .before .before .before .before .before .before in
+    let start = at-sound .before .before in
+    open-at (ledgerOf (start .args .ws .now)) (start .args .account) (sym (at-sound .sound .ensures) ∙ not-false _ (c .before .before .before .before .before .before .before .if1 .left)) (c .before .before .before .before .before .before .if2 .left) (c .before .before .before .before .before .header .result) (c .before .before .before .before .before .header .ensures) _ (c .before .before .before .find-open .ensures) _ (c .before .f .given .1)
 
 returns-4 : tie.Need-returns-4
-returns-4 c = open-none (ledgerOf (c .before .before .before .before .before .before .before .before .before .args .ws .now)) (c .before .before .before .before .before .before .before .before .before .args .account) (sym (c .before .before .before .before .before .before .before .sound .ensures) ∙ not-false _ (c .before .before .before .before .before .before .if1 .left)) (c .before .before .before .before .before .if2 .left) (c .before .before .before .before .header .result) (c .before .before .before .before .header .ensures) _ (c .before .before .find-open .ensures) (c .enum-told .given .1)
+returns-4 c =
+    let start = c .before .before .before .before .before .before .before .before .before in
+    open-none (ledgerOf (start .args .ws .now)) (start .args .account) (sym (c .before .before .before .before .before .before .before .sound .ensures) ∙ not-false _ (c .before .before .before .before .before .before .if1 .left)) (c .before .before .before .before .before .if2 .left) (c .before .before .before .before .header .result) (c .before .before .before .before .header .ensures) _ (c .before .before .find-open .ensures) (c .enum-told .given .1)
 
 pub open-bill-in-spec : {M : Type 1} → statement M
 open-bill-in-spec =

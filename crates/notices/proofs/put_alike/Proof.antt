@@ -56,13 +56,19 @@ same-length c = search needs
 returns : tie.Need-returns
 unfolding alikeFields
 returns c =
-    let a = c .before .before .before .before .before .before .before .before .before .before .before .before .before .before .before .before .before .before .before .before .before .before .before .before .before .before .before .before .before .before .before .before .args in
-    let w1 = first (a .out .now) (a .at) _ (omega (arith, c .before .before .before .before .before .before .before .before .before .before .before .before .before .before .before .before .before .before .before .before .before .before .before .before .before .before .before .before .before .before .before .before .pre)) (c .before .before .before .before .before .before .before .before .before .before .before .before .before .before .before .before .before .before .before .before .before .before .before .before .before .before .put-bytes .ensures) refl in
-    let w2 = next w1 _ (c .before .before .before .before .before .before .before .before .before .before .before .before .before .before .before .before .before .before .before .before .before .before .put-code .ensures) refl in
-    let w3 = next w2 _ (c .before .before .before .before .before .before .before .before .before .before .before .before .before .before .before .before .before .before .put-digits .ensures) (length-digits 12 _) in
-    let w4 = next w3 _ (c .before .before .before .before .before .before .before .before .before .before .before .before .before .before .put-digits2 .ensures) (length-digits 9 _) in
-    let w5 = next w4 _ (c .before .before .before .before .before .before .before .before .before .before .put-bytes2 .ensures) (c .before .before .before .before .before .before .before .before .before .before .before .before .before .before .before .before .before .before .before .before .before .before .before .before .before .before .before .before .before .before .before .before .pre .1 .0) in
-    let w6 = next w5 _ (c .before .before .before .before .before .before .put-bytes3 .ensures) (c .before .before .before .before .before .before .before .before .before .before .before .before .before .before .before .before .before .before .before .before .before .before .before .before .before .before .before .before .before .before .before .before .pre .1 .1) in
+    let at-put-bytes2 = c .before .before .before .before .before .before .before .before .before .before in
+    let at-put-digits2 = at-put-bytes2 .before .before .before .before in
+    let at-put-digits = at-put-digits2 .before .before .before .before in
+    let at-put-code = at-put-digits .before .before .before .before in
+    let at-put-bytes = at-put-code .before .before .before .before in
+    let start = at-put-bytes .before .before .before .before .before .before in
+    let a = start .args in
+    let w1 = first (a .out .now) (a .at) _ (omega (arith, start .pre)) (at-put-bytes .put-bytes .ensures) refl in
+    let w2 = next w1 _ (at-put-code .put-code .ensures) refl in
+    let w3 = next w2 _ (at-put-digits .put-digits .ensures) (length-digits 12 _) in
+    let w4 = next w3 _ (at-put-digits2 .put-digits2 .ensures) (length-digits 9 _) in
+    let w5 = next w4 _ (at-put-bytes2 .put-bytes2 .ensures) (start .pre .1 .0) in
+    let w6 = next w5 _ (c .before .before .before .before .before .before .put-bytes3 .ensures) (start .pre .1 .1) in
     next w6 _ (c .before .before .put-digits3 .ensures) (length-digits 8 _) .same
 
 pub put-alike-spec : {M : Type 1} → statement M

@@ -27,8 +27,9 @@ same-length c = search needs
 returns : tie.Need-returns
 unfolding detailToKey
 returns c =
-    let a = c .before .before .before .before .before .before .before .before .before .before .before .args in
-    let w1 = first (a .out .now) (a .at) _ (omega (arith, c .before .before .before .before .before .before .before .before .before .before .before .pre)) (c .before .before .before .before .before .before .put-alike .ensures) (length-alike (a .l) (a .notice .now) (c .before .before .before .before .before .before .before .before .before .before .before .pre .1) _ refl) in
+    let start = c .before .before .before .before .before .before .before .before .before .before .before in
+    let a = start .args in
+    let w1 = first (a .out .now) (a .at) _ (omega (arith, start .pre)) (c .before .before .before .before .before .before .put-alike .ensures) (length-alike (a .l) (a .notice .now) (start .pre .1) _ refl) in
     next w1 _ (c .before .before .put-digits .ensures) (length-digits 4 _) .same
 
 pub put-detail-to-key-spec : {M : Type 1} → statement M

@@ -30,8 +30,9 @@ same-length c = search needs
 returns : tie.Need-returns
 unfolding spacesFrom filled
 returns c =
-    let a = c .before .before .before .before .before .before .before .before .before .args in
-    let p = c .before .before .before .before .before .before .before .before .before .pre in
+    let start = c .before .before .before .before .before .before .before .before .before in
+    let a = start .args in
+    let p = start .pre in
     let e : 321 - (a .from + 1) ≡ 320 - a .from = omega arith in
     let s : a .at + 320 ≡ a .at + a .from + (320 - a .from) = omega arith in
     let w1 = first (a .out .now) (a .at + a .from) _ (omega arith) (c .before .before .before .before .before .before .put-fill .ensures) (length-filled (320 - a .from) 32) in

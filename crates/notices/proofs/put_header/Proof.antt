@@ -45,10 +45,14 @@ same-length c = search needs
 returns : tie.Need-returns
 unfolding header
 returns c =
-    let a = c .before .before .before .before .before .before .before .before .before .before .before .before .before .before .before .before .before .before .before .before .before .before .before .before .args in
-    let w1 = first (a .out .now) (a .at) _ (omega (arith, c .before .before .before .before .before .before .before .before .before .before .before .before .before .before .before .before .before .before .before .before .before .before .before .before .pre)) (c .before .before .before .before .before .before .before .before .before .before .before .before .before .before .before .before .before .before .before .put-alike .ensures) (length-alike (a .l) (a .notice .now) (c .before .before .before .before .before .before .before .before .before .before .before .before .before .before .before .before .before .before .before .before .before .before .before .before .pre .1) _ refl) in
-    let w2 = next w1 _ (c .before .before .before .before .before .before .before .before .before .before .before .before .before .before .before .put-digits .ensures) (length-digits 9 _) in
-    let w3 = next w2 _ (c .before .before .before .before .before .before .before .before .before .before .before .put-digits2 .ensures) (length-digits 8 _) in
+    let at-put-digits2 = c .before .before .before .before .before .before .before .before .before .before .before in
+    let at-put-digits = at-put-digits2 .before .before .before .before in
+    let at-put-alike = at-put-digits .before .before .before .before in
+    let start = at-put-alike .before .before .before .before .before in
+    let a = start .args in
+    let w1 = first (a .out .now) (a .at) _ (omega (arith, start .pre)) (at-put-alike .put-alike .ensures) (length-alike (a .l) (a .notice .now) (start .pre .1) _ refl) in
+    let w2 = next w1 _ (at-put-digits .put-digits .ensures) (length-digits 9 _) in
+    let w3 = next w2 _ (at-put-digits2 .put-digits2 .ensures) (length-digits 8 _) in
     let w4 = next w3 _ (c .before .before .before .before .before .before .put-bytes .ensures) refl in
     next w4 _ (c .before .before .put-end .ensures) (length-spaces-from 61) .same
 

@@ -68,8 +68,9 @@ others-less c = search needs
 
 others-again : tie.Need-others-again Inv-others μ-others Inv-loop μ-loop
 others-again c =
+    let at-ids = c .before .before .before .before .before .before .before .before .before in
     let i = c .before .before .before .before .before .before .loop .i in
-    let id = c .before .before .before .before .before .before .before .before .before .ids .result in
+    let id = at-ids .ids .result in
     let o = c .before .before .others in
     (omega arith, o .inv .1, fails-more (meets id i) (o .j) (o .inv .2) (c .if2 .left))
 
@@ -81,9 +82,10 @@ loop-less c = search needs
 
 loop-again : tie.Need-loop-again Inv-others μ-others Inv-loop μ-loop
 loop-again c =
-    let s = c .before .before .before .before .before .before .before .before .args .s .now in
-    let n = c .before .before .before .before .before .before .before .before .args .n in
-    let b = c .before .before .before .before .before .before .before .before .pre .1 in
+    let start = c .before .before .before .before .before .before .before .before in
+    let s = start .args .s .now in
+    let n = start .args .n in
+    let b = start .pre .1 in
     let l = c .before .before .before .loop in
     let i = l .i in
     let id = c .before .before .before .before .before .before .ids .result in

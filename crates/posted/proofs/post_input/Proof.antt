@@ -13,7 +13,8 @@ read-all-requires c κs = search needs
 
 table-of-requires : tie.Need-table-of-requires
 table-of-requires c κs =
-    let start = c .before .before .before .before .before .before .before .before .before .before .before .before .before .before .before .before .before .before .before in
+    let at-before = c .before .before .before .before .before .before .before .before .before .before .before .before .before .before .before .before .before .before in
+    let start = at-before .before in
     let read = c .before .before .before .before .before .before .before .before in
     (λ z. read .read-all .ensures z .sound, read .read-all .kept .1 .1 .0 ∙ start .pre .2)
 
@@ -28,7 +29,8 @@ same-length-3 c = search needs
 
 returns : tie.Need-returns
 returns c =
-    let read = c .before .before .before .before .before .before .before .before .before .before .before in
+    let at-before = c .before .before .before .before .before .before .before .before .before .before in
+    let read = at-before .before in
     posts _ _ _ _ _ _ (read .read-all .ensures) (c .before .before .table-of .ensures)
 
 pub post-input-spec : {M : Type 1} → statement M

@@ -25,7 +25,8 @@ same-length c = search needs
 
 returns-2 : tie.Need-returns-2
 returns-2 c =
-    let start = c .before .before .before .before .before .before .before .before .before in
+    let at-before = c .before .before .before .before .before .before .before .before in
+    let start = at-before .before in
     tables (start .args .e) _ _ _ _ _ _ (c .before .before .before .before .before .before .if1 .left) (c .before .before .before .before .before .ends-bad .ensures) (c .before .before .before .write-words .ensures .0) (c .before .before .before .write-words .ensures .1 .0) (c .printed2 .ensures)
 
 pub table-of-spec : {M : Type 1} → statement M

@@ -76,10 +76,15 @@ enum-told-4 : tie.Need-enum-told-4
 enum-told-4 c = search needs
 
 returns-4 : tie.Need-returns-4
-returns-4 c = rw (a-is (c .before .before .before .before .before .before .before .before .before .before .before .before), b-is (c .before .before .before .before .before .before .before .before), c-is (c .before .before .before .before), sym (c .before .before .read-field4 .ensures) ∙ c .enum-told4 .given .1)
+returns-4 c =
+    let at-before = c .before .before .before .before .before .before .before .before .before .before .before in
+    rw (a-is (at-before .before), b-is (c .before .before .before .before .before .before .before .before), c-is (c .before .before .before .before), sym (c .before .before .read-field4 .ensures) ∙ c .enum-told4 .given .1)
 
 returns-5 : tie.Need-returns-5
-returns-5 c = rw (a-is (c .before .before .before .before .before .before .before .before .before .before .before .before .before), b-is (c .before .before .before .before .before .before .before .before .before), c-is (c .before .before .before .before .before), sym (c .before .before .before .read-field4 .ensures) ∙ c .before .e .given .1)
+returns-5 c =
+    let at-before = c .before .before .before .before .before .before .before .before in
+    let at-before-2 = at-before .before .before .before .before in
+    rw (a-is (at-before-2 .before), b-is (at-before .before), c-is (c .before .before .before .before .before), sym (c .before .before .before .read-field4 .ensures) ∙ c .before .e .given .1)
 
 pub read-tiers-spec : {M : Type 1} → statement M
 read-tiers-spec =

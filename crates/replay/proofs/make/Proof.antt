@@ -17,7 +17,8 @@ run-telling-requires c κs = search needs
 
 keep-requires : tie.Need-keep-requires
 keep-requires c κs =
-    let start = c .before .before .before .before .before .before .before .before .before .before .before .before in
+    let at-before = c .before .before .before .before .before .before .before .before .before .before .before in
+    let start = at-before .before in
     (used-within _ _ _ _ _ _ _ _ _ (start .pre .1) (c .before .before .before .before .before .run-telling .ensures), start .pre .1)
 
 same-length : tie.Need-same-length
@@ -31,7 +32,8 @@ same-length-3 c = search needs
 
 returns : tie.Need-returns
 returns c =
-    let start = c .before .before .before .before .before .before .before .before .before .before .before .before .before .before .before in
+    let at-before = c .before .before .before .before .before .before .before .before .before .before .before .before .before .before in
+    let start = at-before .before in
     let ran = c .before .before .before .before .before .before .before .before in
     made _ _ _ _ _ _ _ _ _ (start .pre .1) (ran .run-telling .ensures) _ _ (c .before .before .keep .ensures .0) (c .before .before .keep .ensures .1) (c .before .before .keep .kept .0)
 

@@ -77,7 +77,8 @@ same-length c = c .before .before .before .before .before .before .before .loop 
 
 same-length-2 : tie.Need-same-length-2 Inv-loop μ-loop
 same-length-2 c =
-    let start = c .before .before .before .before .before .before .before .before .before .before .before in
+    let at-before = c .before .before .before .before .before .before .before .before .before .before in
+    let start = at-before .before in
     c .before .before .before .before .more .kept .0 ∙ c .before .before .before .before .before .before .before .loop .inv .room ∙ sym (start .pre .1)
 
 same-length-3 : tie.Need-same-length-3 Inv-loop μ-loop
@@ -90,13 +91,16 @@ returns c =
 
 make-requires : tie.Need-make-requires Inv-loop μ-loop
 make-requires c κs =
-    let top = c .before .before .before .before .before .before .before .before .before .before .before in
+    let at-before = c .before .before .before .before .before .before .before .before .before .before in
+    let top = at-before .before in
     (top .loop .inv .reads .sound, fits (c .before .before .before .before) .1)
 
 add-total : tie.Need-add-total Inv-loop μ-loop
 add-total c =
-    let top = c .before .before .before .before .before .before .before .before .before .before .before .before .before .before .before .before .before .before .before in
-    let tested = c .before .before .before .before .before .before .before .before .before .before .before .before .before .before .before .before .before .before in
+    let at-before = c .before .before .before .before .before .before .before .before .before .before .before .before .before .before .before .before .before in
+    let at-before-2 = at-before .before in
+    let top = at-before-2 .before in
+    let tested = at-before .before in
     omega (arith, top .loop .inv .small, room-out (c .before .before .before .before .before .before .before), tested .loop-test .taken)
 
 output-of-requires : tie.Need-output-of-requires Inv-loop μ-loop
@@ -104,7 +108,8 @@ output-of-requires c κs = search needs
 
 send-requires : tie.Need-send-requires Inv-loop μ-loop
 send-requires c κs =
-    let made = c .before .before .before .before .before .before .before .before .before in
+    let at-before = c .before .before .before .before .before .before .before .before in
+    let made = at-before .before in
     omega (arith, ap (λ (o : Output). o .length) (c .before .output-of .ensures), made .make .ensures .room)
 
 end-of-piece-requires : tie.Need-end-of-piece-requires Inv-loop μ-loop
@@ -112,35 +117,49 @@ end-of-piece-requires c κs = search needs
 
 same-length-4 : tie.Need-same-length-4 Inv-loop μ-loop
 same-length-4 c =
-    let top = c .before .before .before .before .before .before .before .before .before .before .before .before .before .before .before .before .before .before .before .before .before .before .before .before .before in
-    let made = c .before .before .before .before .before .before .before .before .before .before .before .before .before in
+    let at-before = c .before .before .before .before .before .before .before .before .before .before .before .before in
+    let at-before-2 = at-before .before .before .before .before .before .before .before .before .before .before .before .before in
+    let top = at-before-2 .before in
+    let made = at-before .before in
     made .make .kept .0 ∙ top .loop .inv .same-words
 
 same-length-5 : tie.Need-same-length-5 Inv-loop μ-loop
-same-length-5 c = room-kept (c .before .before .before .before .before .before .before .before .before .before .before .before .before) ∙ sym (c .before .before .before .before .before .before .before .before .before .before .before .before .before .before .before .before .before .before .before .before .before .before .before .before .before .before .before .before .before .pre .1)
+same-length-5 c =
+    let at-before = c .before .before .before .before .before .before .before .before .before .before .before .before in
+    let start = at-before .before .before .before .before .before .before .before .before .before .before .before .before .before .before .before .before .before in
+    room-kept (at-before .before) ∙ sym (start .pre .1)
 
 same-length-6 : tie.Need-same-length-6 Inv-loop μ-loop
 same-length-6 c =
-    let top = c .before .before .before .before .before .before .before .before .before .before .before .before .before .before .before .before .before .before .before .before .before .before .before .before .before in
-    let made = c .before .before .before .before .before .before .before .before .before .before .before .before .before in
+    let at-before = c .before .before .before .before .before .before .before .before .before .before .before .before in
+    let at-before-2 = at-before .before .before .before .before .before .before .before .before .before .before .before .before in
+    let top = at-before-2 .before in
+    let made = at-before .before in
     made .make .kept .1 .1 .0 ∙ top .loop .inv .same-out
 
 returns-2 : tie.Need-returns-2 Inv-loop μ-loop
-returns-2 c = piece-ended _ _ _ _ (c .before .before .before .before .before .before .before .before .before .before .before .before .before .make .result) (c .before .before .before .send .result) _ (c .end-of-piece .ensures) (came (c .before .before .before .before .before .before .before .before .before .before .before .before .before)) (c .before .before .before .before .before .before .before .before .before .before .before .before .before .make .ensures .waits) (c .before .before .before .before .before .before .before .before .before .before .before .before .before .make .ensures .goes) (c .before .if1 .taken)
+returns-2 c =
+    let at-before = c .before .before .before .before .before .before .before .before .before .before .before .before in
+    let at-make = at-before .before in
+    piece-ended _ _ _ _ (at-make .make .result) (c .before .before .before .send .result) _ (c .end-of-piece .ensures) (came (at-before .before)) (at-make .make .ensures .waits) (at-make .make .ensures .goes) (c .before .if1 .taken)
 
 loop-less : tie.Need-loop-less Inv-loop μ-loop
 loop-less c = search needs
 
 loop-again : tie.Need-loop-again Inv-loop μ-loop
 loop-again c =
-    let s = or-both (not (c .before .before .send .result)) (c .before .before .before .before .before .before .before .before .before .before .before .before .make .result .stopped) (c .if1 .left) in
+    let at-before = c .before .before .before .before .before .before .before .before .before .before .before in
+    let at-make = at-before .before in
+    let at-test = at-make .before .before .before .before .before .before .before .before .before .before .before in
+    let in-loop = at-test .before in
+    let s = or-both (not (c .before .before .send .result)) (at-make .make .result .stopped) (c .if1 .left) in
     record {
-      same-words = c .before .before .before .before .before .before .before .before .before .before .before .before .make .kept .0 ∙ c .before .before .before .before .before .before .before .before .before .before .before .before .before .before .before .before .before .before .before .before .before .before .before .before .loop .inv .same-words;
-      room = room-kept (c .before .before .before .before .before .before .before .before .before .before .before .before);
-      same-out = c .before .before .before .before .before .before .before .before .before .before .before .before .make .kept .1 .1 .0 ∙ c .before .before .before .before .before .before .before .before .before .before .before .before .before .before .before .before .before .before .before .before .before .before .before .before .loop .inv .same-out;
-      reads = came (c .before .before .before .before .before .before .before .before .before .before .before .before);
-      waits = λ z. rw (s .1) at (c .before .before .before .before .before .before .before .before .before .before .before .before .make .ensures .waits z);
-      small = omega (arith, c .before .before .before .before .before .before .before .before .before .before .before .before .before .before .before .before .before .before .before .before .before .before .before .before .loop .inv .small, room-out (c .before .before .before .before .before .before .before .before .before .before .before .before), c .before .before .before .before .before .before .before .before .before .before .before .before .before .before .before .before .before .before .before .before .before .before .before .loop-test .taken);
+      same-words = at-make .make .kept .0 ∙ in-loop .loop .inv .same-words;
+      room = room-kept (at-before .before);
+      same-out = at-make .make .kept .1 .1 .0 ∙ in-loop .loop .inv .same-out;
+      reads = came (at-before .before);
+      waits = λ z. rw (s .1) at (at-make .make .ensures .waits z);
+      small = omega (arith, in-loop .loop .inv .small, room-out (at-before .before), at-test .loop-test .taken);
     }
 
 same-length-7 : tie.Need-same-length-7 Inv-loop μ-loop

@@ -29,7 +29,9 @@ ends-bad-requires : tie.Need-ends-bad-requires
 ends-bad-requires c κs = search needs
 
 returns : tie.Need-returns
-returns c = refused _ _ _ (c .before .ends-bad .ensures ∙ (journal-bad false _ _ _ _ _ _ (c .before .before .before .before .before .run .ensures) (c .before .before .before .before .before .before .before .before .before .start .ensures .2) (c .before .before .before .before .before .run .ensures .full))) (c .if1 .taken)
+returns c =
+    let at-start = c .before .before .before .before .before .before .before .before .before in
+    refused _ _ _ (c .before .ends-bad .ensures ∙ (journal-bad false _ _ _ _ _ _ (c .before .before .before .before .before .run .ensures) (at-start .start .ensures .2) (c .before .before .before .before .before .run .ensures .full))) (c .if1 .taken)
 
 slice-aggregate-write-words : tie.Need-slice-aggregate-write-words
 slice-aggregate-write-words c = search needs
@@ -41,7 +43,10 @@ same-length : tie.Need-same-length
 same-length c = search needs
 
 returns-2 : tie.Need-returns-2
-returns-2 c = posted _ _ _ (c .before .before .before .before .before .before .ends-bad .ensures ∙ (journal-bad false _ _ _ _ _ _ (c .before .before .before .before .before .before .before .before .before .before .run .ensures) (c .before .before .before .before .before .before .before .before .before .before .before .before .before .before .start .ensures .2) (c .before .before .before .before .before .before .before .before .before .before .run .ensures .full))) _ _ _ (c .before .before .before .before .before .if1 .left) (table-is _ _ _ (journal-books false _ _ _ _ _ _ (c .before .before .before .before .before .before .before .before .before .before .run .ensures) (c .before .before .before .before .before .before .before .before .before .before .before .before .before .before .start .ensures .2) (c .before .before .before .before .before .before .before .before .before .before .run .ensures .full)) (c .before .before .before .before .before .before .ends-bad .ensures ∙ (journal-bad false _ _ _ _ _ _ (c .before .before .before .before .before .before .before .before .before .before .run .ensures) (c .before .before .before .before .before .before .before .before .before .before .before .before .before .before .start .ensures .2) (c .before .before .before .before .before .before .before .before .before .before .run .ensures .full)))) (c .before .before .write-words .ensures .0) (c .before .before .write-words .ensures .1 .0) (c .before .before .write-words .ensures .1 .1)
+returns-2 c =
+    let at-run = c .before .before .before .before .before .before .before .before .before .before in
+    let at-start = at-run .before .before .before .before in
+    posted _ _ _ (c .before .before .before .before .before .before .ends-bad .ensures ∙ (journal-bad false _ _ _ _ _ _ (at-run .run .ensures) (at-start .start .ensures .2) (at-run .run .ensures .full))) _ _ _ (c .before .before .before .before .before .if1 .left) (table-is _ _ _ (journal-books false _ _ _ _ _ _ (at-run .run .ensures) (at-start .start .ensures .2) (at-run .run .ensures .full)) (c .before .before .before .before .before .before .ends-bad .ensures ∙ (journal-bad false _ _ _ _ _ _ (at-run .run .ensures) (at-start .start .ensures .2) (at-run .run .ensures .full)))) (c .before .before .write-words .ensures .0) (c .before .before .write-words .ensures .1 .0) (c .before .before .write-words .ensures .1 .1)
 
 pub post-table-spec : {M : Type 1} → statement M
 post-table-spec =

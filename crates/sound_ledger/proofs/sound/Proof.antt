@@ -141,7 +141,8 @@ is-of-requires c κs = search needs
 
 returns-3 : tie.Need-returns-3 Inv-others μ-others Inv-bills μ-bills
 returns-3 c =
-    let e = c .before .before .before .before .before .before .before .before .before .before .before .before in
+    let at-before = c .before .before .before .before .before .before .before .before .before .before .before in
+    let e = at-before .before in
     answer e false
     (sym (c .before .before .before .before .others .inv .rest)
     ∙ past-hit _ _ _ (has-hit _ _ _ blankBill (c .before .before .before .others-test .taken) (within e) (ofId _) (sym (c .before .is-of .ensures) ∙ c .if3 .taken)))
@@ -154,7 +155,8 @@ others-less c = search needs
 
 others-again : tie.Need-others-again Inv-others μ-others Inv-bills μ-bills
 others-again c =
-    let e = c .before .before .before .before .before .before .before .before .before .before .before .before in
+    let at-before = c .before .before .before .before .before .before .before .before .before .before .before in
+    let e = at-before .before in
     record {
       outer = search needs;
       within = search needs;

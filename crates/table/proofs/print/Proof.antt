@@ -27,7 +27,9 @@ same-length : tie.Need-same-length
 same-length c = search needs
 
 returns-3 : tie.Need-returns-3
-returns-3 c = prints (c .before .before .before .before .before .before .before .before .args .l) (c .before .before .before .before .before .before .before .before .args .stopped) (c .before .before .before .before .before .before .before .before .args .out .now) (sym (c .before .before .before .before .before .before .sound .ensures) ∙ not-false _ (c .before .before .before .before .before .if1 .left)) _ _ (c .before .before .before .before .if2 .left) (c .before .before .write .ensures .0) (c .before .before .write .ensures .1 .0)
+returns-3 c =
+    let start = c .before .before .before .before .before .before .before .before in
+    prints (start .args .l) (start .args .stopped) (start .args .out .now) (sym (c .before .before .before .before .before .before .sound .ensures) ∙ not-false _ (c .before .before .before .before .before .if1 .left)) _ _ (c .before .before .before .before .if2 .left) (c .before .before .write .ensures .0) (c .before .before .write .ensures .1 .0)
 
 pub print-spec : {M : Type 1} → statement M
 print-spec =

@@ -38,9 +38,14 @@ same-length c = search needs
 returns : tie.Need-returns
 unfolding amountCells
 returns c =
-    rw (sym (c .before .before .before .before .before .before .before .before .before .before .before .before .before .before .charge .ensures), sym (c .before .before .before .before .before .before .before .before .before .before .before .before .before .applied .ensures), sym (c .before .before .before .before .before .before .before .before .before .before .before .before .owed .ensures))
-    (let a = c .before .before .before .before .before .before .before .before .before .before .before .before .before .before .before .before .args in
-    let w1 = first (a .out .now) (a .at) _ (omega (arith, c .before .before .before .before .before .before .before .before .before .before .before .before .before .before .before .before .pre)) (c .before .before .before .before .before .before .before .before .before .before .put-cell .ensures) (length-number 13 _) in
+    let at-put-cell = c .before .before .before .before .before .before .before .before .before .before in
+    let at-owed = at-put-cell .before .before in
+    let at-applied = at-owed .before in
+    let at-charge = at-applied .before in
+    let start = at-charge .before .before in
+    rw (sym (at-charge .charge .ensures), sym (at-applied .applied .ensures), sym (at-owed .owed .ensures))
+    (let a = start .args in
+    let w1 = first (a .out .now) (a .at) _ (omega (arith, start .pre)) (at-put-cell .put-cell .ensures) (length-number 13 _) in
     let w2 = next w1 _ (c .before .before .before .before .before .before .put-cell2 .ensures) (length-number 13 _) in
     next w2 _ (c .before .before .put-cell3 .ensures) (length-number 13 _) .same)
 

@@ -25,8 +25,9 @@ same-length c = search needs
 returns : tie.Need-returns
 unfolding cell
 returns c =
-    let a = c .before .before .before .before .before .before .before .before .before .before .args in
-    let w1 = first (a .out .now) (a .at) _ (omega (arith, c .before .before .before .before .before .before .before .before .before .before .pre)) (c .before .before .before .before .before .before .before .put-code .ensures) refl in
+    let start = c .before .before .before .before .before .before .before .before .before .before in
+    let a = start .args in
+    let w1 = first (a .out .now) (a .at) _ (omega (arith, start .pre)) (c .before .before .before .before .before .before .before .put-code .ensures) refl in
     next w1 _ (c .before .before .put-bytes .ensures) refl .same
 
 pub put-code-cell-spec : {M : Type 1} → statement M

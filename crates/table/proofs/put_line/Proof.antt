@@ -34,9 +34,12 @@ same-length c = search needs
 returns : tie.Need-returns
 unfolding lineOf
 returns c =
-    let a = c .before .before .before .before .before .before .before .before .before .before .before .before .before .before .before .before .before .before .before .args in
-    let w1 = first (a .out .now) (a .at) _ (omega (arith, c .before .before .before .before .before .before .before .before .before .before .before .before .before .before .before .before .before .before .before .pre)) (c .before .before .before .before .before .before .before .before .before .before .before .before .before .before .put-terms .ensures) (length-terms _) in
-    let w2 = next w1 _ (c .before .before .before .before .before .before .before .before .before .before .put-cell .ensures) (length-number 10 _) in
+    let at-put-cell = c .before .before .before .before .before .before .before .before .before .before in
+    let at-put-terms = at-put-cell .before .before .before .before in
+    let start = at-put-terms .before .before .before .before .before in
+    let a = start .args in
+    let w1 = first (a .out .now) (a .at) _ (omega (arith, start .pre)) (at-put-terms .put-terms .ensures) (length-terms _) in
+    let w2 = next w1 _ (at-put-cell .put-cell .ensures) (length-number 10 _) in
     let w3 = next w2 _ (c .before .before .before .before .before .before .put-amounts .ensures) (length-amounts _) in
     next w3 _ (c .before .before .put-state .ensures) (length-state _ _) .same
 

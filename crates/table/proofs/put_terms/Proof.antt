@@ -40,10 +40,14 @@ same-length c = search needs
 returns : tie.Need-returns
 unfolding termsCells
 returns c =
-    let a = c .before .before .before .before .before .before .before .before .before .before .before .before .before .before .before .before .before .before .before .before .before .before .before .args in
-    let w1 = first (a .out .now) (a .at) _ (omega (arith, c .before .before .before .before .before .before .before .before .before .before .before .before .before .before .before .before .before .before .before .before .before .before .before .pre)) (c .before .before .before .before .before .before .before .before .before .before .before .before .before .before .before .before .before .before .put-cell .ensures) (length-number 12 _) in
-    let w2 = next w1 _ (c .before .before .before .before .before .before .before .before .before .before .before .before .before .before .put-cell2 .ensures) (length-number 4 _) in
-    let w3 = next w2 _ (c .before .before .before .before .before .before .before .before .before .before .put-code-cell .ensures) (length-cell _) in
+    let at-put-code-cell = c .before .before .before .before .before .before .before .before .before .before in
+    let at-put-cell2 = at-put-code-cell .before .before .before .before in
+    let at-put-cell = at-put-cell2 .before .before .before .before in
+    let start = at-put-cell .before .before .before .before .before in
+    let a = start .args in
+    let w1 = first (a .out .now) (a .at) _ (omega (arith, start .pre)) (at-put-cell .put-cell .ensures) (length-number 12 _) in
+    let w2 = next w1 _ (at-put-cell2 .put-cell2 .ensures) (length-number 4 _) in
+    let w3 = next w2 _ (at-put-code-cell .put-code-cell .ensures) (length-cell _) in
     let w4 = next w3 _ (c .before .before .before .before .before .before .put-kind .ensures) (length-cell _) in
     next w4 _ (c .before .before .put-cell3 .ensures) (length-number 3 _) .same
 

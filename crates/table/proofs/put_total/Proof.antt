@@ -35,8 +35,10 @@ same-length c = search needs
 returns : tie.Need-returns
 unfolding totalLine ended
 returns c =
-    let a = c .before .before .before .before .before .before .before .before .before .before .before .before .before .before .before .args in
-    let w1 = first (a .out .now) (a .at) _ (omega (arith, c .before .before .before .before .before .before .before .before .before .before .before .before .before .before .before .pre)) (c .before .before .before .before .before .before .before .before .before .before .before .put-bytes .ensures) refl in
+    let at-put-bytes = c .before .before .before .before .before .before .before .before .before .before .before in
+    let start = at-put-bytes .before .before .before .before in
+    let a = start .args in
+    let w1 = first (a .out .now) (a .at) _ (omega (arith, start .pre)) (at-put-bytes .put-bytes .ensures) refl in
     let w2 = next w1 _ (c .before .before .before .before .before .before .before .put-digits .ensures) (length-digits 16 (a .total .0)) in
     next w2 _ (c .before .before .put-bytes2 .ensures) refl .same
 

@@ -28,10 +28,14 @@ same-length c = search needs
 
 returns : tie.Need-returns
 returns c =
-    let s = c .before .before .before .before .before .before .before .before .before .before .before .before .before .before .before .before .before .before .before .before in
+    let at-total = c .before .before .before .before .before .before .before .before in
+    let at-lines-first = at-total .before .before .before in
+    let at-put-heading = at-lines-first .before .before .before .before .before .before in
+    let at-before = at-put-heading .before .before in
+    let s = at-before .before in
     let t =
-    table-in (s .args .l) (s .args .stopped) (s .pre .0) (places (s .args .l) _ (s .good .1 .0)) (s .args .out .now) _ _ _ _ _ _ _ (c .before .before .before .before .before .before .before .before .before .before .before .before .before .before .before .before .before .put-heading .ensures)
-    (c .before .before .before .before .before .before .before .before .before .before .before .lines-first .ensures .0) (c .before .before .before .before .before .before .before .before .before .before .before .lines-first .ensures .1) (c .before .before .before .before .before .before .before .before .total .ensures) (c .before .before .before .before .before .before .put-total .ensures) (c .before .before .put-stop .ensures .0)
+    table-in (s .args .l) (s .args .stopped) (s .pre .0) (places (s .args .l) _ (s .good .1 .0)) (s .args .out .now) _ _ _ _ _ _ _ (at-put-heading .put-heading .ensures)
+    (at-lines-first .lines-first .ensures .0) (at-lines-first .lines-first .ensures .1) (at-total .total .ensures) (c .before .before .before .before .before .before .put-total .ensures) (c .before .before .put-stop .ensures .0)
     (c .before .before .put-stop .ensures .1) in
     (t .long, (t .bytes, t .small))
 

@@ -37,14 +37,17 @@ put-line-requires : tie.Need-put-line-requires Inv-loop μ-loop
 put-line-requires c κs = omega (arith, c .before .before .before .loop .inv .1, c .before .before .before .before .before .before .pre .2)
 
 add-i : tie.Need-add-i Inv-loop μ-loop
-add-i c = omega (arith, c .before .before .before .before .before .before .before .before .before .pre .1)
+add-i c =
+    let start = c .before .before .before .before .before .before .before .before .before in
+    omega (arith, start .pre .1)
 
 loop-less : tie.Need-loop-less Inv-loop μ-loop
 loop-less c = omega arith
 
 loop-again : tie.Need-loop-again Inv-loop μ-loop
 loop-again c =
-    let s = c .before .before .before .before .before .before .before .before .before in
+    let at-before = c .before .before .before .before .before .before .before .before in
+    let s = at-before .before in
     let l = c .before .before .before .before .before .before .loop in
     let bs = ledgerOf (s .args .ws .now) .bills in
     let k : s .args .n ≤ length bs = omega (arith, s .pre .1, places-of (s .args .ws .now) (s .pre .0)) in

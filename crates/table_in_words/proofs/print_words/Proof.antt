@@ -24,7 +24,9 @@ same-length : tie.Need-same-length
 same-length c = search needs
 
 returns-3 : tie.Need-returns-3
-returns-3 c = prints (ledgerOf (c .before .before .before .before .before .before .before .before .before .args .ws .now)) (c .before .before .before .before .before .before .before .before .before .args .stopped) (c .before .before .before .before .before .before .before .before .before .args .out .now) (sym (c .before .before .before .before .before .before .sound .ensures) ∙ not-false _ (c .before .before .before .before .before .if1 .left)) _ _ (c .before .before .before .before .if2 .left) (c .before .before .write-words .ensures .0) (c .before .before .write-words .ensures .1 .0)
+returns-3 c =
+    let start = c .before .before .before .before .before .before .before .before .before in
+    prints (ledgerOf (start .args .ws .now)) (start .args .stopped) (start .args .out .now) (sym (c .before .before .before .before .before .before .sound .ensures) ∙ not-false _ (c .before .before .before .before .before .if1 .left)) _ _ (c .before .before .before .before .if2 .left) (c .before .before .write-words .ensures .0) (c .before .before .write-words .ensures .1 .0)
 
 pub print-words-spec : {M : Type 1} → statement M
 print-words-spec =

@@ -23,7 +23,9 @@ same-length : tie.Need-same-length
 same-length c = search needs
 
 returns : tie.Need-returns
-returns c = rw (c .before .before .before .before .before .before .answer .given .1) (answer-put _ _ (c .before .before .before .before .before .before .before .before .before .args .at) 0 _ _ _ _ _ (toZ-ofZ w64 _ (sfits-of (c .before .before .before .struct-told .given .0 .1))) (c .before .before .put-figures .ensures))
+returns c =
+    let start = c .before .before .before .before .before .before .before .before .before in
+    rw (c .before .before .before .before .before .before .answer .given .1) (answer-put _ _ (start .args .at) 0 _ _ _ _ _ (toZ-ofZ w64 _ (sfits-of (c .before .before .before .struct-told .given .0 .1))) (c .before .before .put-figures .ensures))
 
 same-length-2 : tie.Need-same-length-2
 same-length-2 c = search needs

@@ -37,7 +37,9 @@ same-length-2 c = search needs
 
 returns-2 : tie.Need-returns-2
 unfolding cell
-returns-2 c = name-put _ _ (c .before .before .before .before .before .before .before .before .args .at) (c .before .before .before .before .before .before .before .before .args .tag) 8 (text "request") (name-request (c .before .before .before .before .before .before .before .before .args .tag) (c .before .before .before .before .before .if2 .taken)) refl (c .before .before .put-bytes2 .ensures)
+returns-2 c =
+    let start = c .before .before .before .before .before .before .before .before in
+    name-put _ _ (start .args .at) (start .args .tag) 8 (text "request") (name-request (start .args .tag) (c .before .before .before .before .before .if2 .taken)) refl (c .before .before .put-bytes2 .ensures)
 
 slice-aggregate-put-bytes-3 : tie.Need-slice-aggregate-put-bytes-3
 slice-aggregate-put-bytes-3 c = search needs
@@ -53,7 +55,9 @@ same-length-3 c = search needs
 
 returns-3 : tie.Need-returns-3
 unfolding cell
-returns-3 c = name-put _ _ (c .before .before .before .before .before .before .before .before .before .args .at) (c .before .before .before .before .before .before .before .before .before .args .tag) 5 (text "file") (name-file (c .before .before .before .before .before .before .before .before .before .args .tag) (c .before .before .before .before .before .if3 .taken)) refl (c .before .before .put-bytes3 .ensures)
+returns-3 c =
+    let start = c .before .before .before .before .before .before .before .before .before in
+    name-put _ _ (start .args .at) (start .args .tag) 5 (text "file") (name-file (start .args .tag) (c .before .before .before .before .before .if3 .taken)) refl (c .before .before .put-bytes3 .ensures)
 
 slice-aggregate-put-bytes-4 : tie.Need-slice-aggregate-put-bytes-4
 slice-aggregate-put-bytes-4 c = search needs
@@ -69,7 +73,9 @@ same-length-4 c = search needs
 
 returns-4 : tie.Need-returns-4
 unfolding cell
-returns-4 c = name-put _ _ (c .before .before .before .before .before .before .before .before .before .before .args .at) (c .before .before .before .before .before .before .before .before .before .before .args .tag) 7 (text "cancel") (name-cancel (c .before .before .before .before .before .before .before .before .before .before .args .tag) (c .before .before .before .before .before .if4 .taken)) refl (c .before .before .put-bytes4 .ensures)
+returns-4 c =
+    let start = c .before .before .before .before .before .before .before .before .before .before in
+    name-put _ _ (start .args .at) (start .args .tag) 7 (text "cancel") (name-cancel (start .args .tag) (c .before .before .before .before .before .if4 .taken)) refl (c .before .before .put-bytes4 .ensures)
 
 slice-aggregate-put-bytes-5 : tie.Need-slice-aggregate-put-bytes-5
 slice-aggregate-put-bytes-5 c = search needs
@@ -85,7 +91,10 @@ same-length-5 c = search needs
 
 returns-5 : tie.Need-returns-5
 unfolding cell
-returns-5 c = name-put _ _ (c .before .before .before .before .before .before .before .before .before .before .args .at) (c .before .before .before .before .before .before .before .before .before .before .args .tag) 6 (text "close") (name-close (c .before .before .before .before .before .before .before .before .before .before .args .tag) (c .before .before .before .before .before .before .before .before .if1 .left) (c .before .before .before .before .before .before .before .if2 .left) (c .before .before .before .before .before .before .if3 .left) (c .before .before .before .before .before .if4 .left)) refl (c .before .before .put-bytes5 .ensures)
+returns-5 c =
+    let at-if1 = c .before .before .before .before .before .before .before .before in
+    let start = at-if1 .before .before in
+    name-put _ _ (start .args .at) (start .args .tag) 6 (text "close") (name-close (start .args .tag) (at-if1 .if1 .left) (c .before .before .before .before .before .before .before .if2 .left) (c .before .before .before .before .before .before .if3 .left) (c .before .before .before .before .before .if4 .left)) refl (c .before .before .put-bytes5 .ensures)
 
 pub put-call-spec : {M : Type 1} → statement M
 put-call-spec =

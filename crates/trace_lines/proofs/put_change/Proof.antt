@@ -33,8 +33,11 @@ same-length c = search needs
 
 returns : tie.Need-returns
 returns c =
-    let a = c .before .before .before .before .before .before .before .before .before .before .before .before .before .before .before .args in
-    change-put _ _ _ _ (a .at) _ _ (a .x) (toZ-ofZ w64 (a .x) (c .before .before .before .before .before .before .before .before .before .before .before .before .before .before .before .fits .x)) (omega (arith, c .before .before .before .before .before .before .before .before .before .before .before .before .before .before .before .pre)) (c .before .before .before .before .before .before .before .before .before .before .before .put-sign .ensures) (c .before .before .before .before .before .before .before .put-digits .ensures) (c .before .before .before .before .before .before .before .before .before .before .before .before .before .size .ensures) (c .before .before .put-bytes .ensures)
+    let at-put-sign = c .before .before .before .before .before .before .before .before .before .before .before in
+    let at-size = at-put-sign .before .before in
+    let start = at-size .before .before in
+    let a = start .args in
+    change-put _ _ _ _ (a .at) _ _ (a .x) (toZ-ofZ w64 (a .x) (start .fits .x)) (omega (arith, start .pre)) (at-put-sign .put-sign .ensures) (c .before .before .before .before .before .before .before .put-digits .ensures) (at-size .size .ensures) (c .before .before .put-bytes .ensures)
 
 pub put-change-spec : {M : Type 1} → statement M
 put-change-spec =

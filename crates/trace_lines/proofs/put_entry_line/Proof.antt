@@ -15,18 +15,24 @@ put-call-requires : tie.Need-put-call-requires
 put-call-requires c κs = search needs
 
 put-answer-requires : tie.Need-put-answer-requires
-put-answer-requires c κs = omega (arith, short-name (c .before .before .before .before .before .before .before .before .before .before .args .tag), c .before .before .before .put-call .ensures .1, c .before .before .before .before .before .before .before .before .before .before .pre)
+put-answer-requires c κs =
+    let start = c .before .before .before .before .before .before .before .before .before .before in
+    omega (arith, short-name (start .args .tag), c .before .before .before .put-call .ensures .1, start .pre)
 
 add-result : tie.Need-add-result
-add-result c = omega (arith, short-name (c .before .before .before .before .before .before .before .before .before .before .before .before .before .args .tag), c .before .before .before .before .before .before .put-call .ensures .1, c .before .before .before .before .before .before .before .before .before .before .before .before .before .pre, c .before .before .before .before .before .before .before .before .before .before .before .before .before .good)
+add-result c =
+    let start = c .before .before .before .before .before .before .before .before .before .before .before .before .before in
+    omega (arith, short-name (start .args .tag), c .before .before .before .before .before .before .put-call .ensures .1, start .pre, start .good)
 
 same-length : tie.Need-same-length
 same-length c = search needs
 
 returns : tie.Need-returns
 returns c =
-    let a = c .before .before .before .before .before .before .before .before .before .before .before .before .before .args in
-    line-put _ _ _ _ (a .at) (a .number) (a .tag) _ (a .answer) (omega (arith, c .before .before .before .before .before .before .before .before .before .before .before .before .before .pre)) (c .before .before .before .before .before .before .before .before .before .before .put-number .ensures) (c .before .before .before .before .before .before .put-call .ensures .0) (c .before .before .before .before .before .before .put-call .ensures .1) (c .before .before .put-answer .ensures)
+    let at-put-number = c .before .before .before .before .before .before .before .before .before .before in
+    let start = at-put-number .before .before .before in
+    let a = start .args in
+    line-put _ _ _ _ (a .at) (a .number) (a .tag) _ (a .answer) (omega (arith, start .pre)) (at-put-number .put-number .ensures) (c .before .before .before .before .before .before .put-call .ensures .0) (c .before .before .before .before .before .before .put-call .ensures .1) (c .before .before .put-answer .ensures)
 
 pub put-entry-line-spec : {M : Type 1} → statement M
 put-entry-line-spec =

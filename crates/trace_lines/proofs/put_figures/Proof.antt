@@ -39,8 +39,12 @@ same-length c = search needs
 
 returns : tie.Need-returns
 returns c =
-    let a = c .before .before .before .before .before .before .before .before .before .before .before .before .before .before .before .before .before .before .before .before .before .args in
-    figures-put _ _ _ _ _ _ (a .at) (a .cause) _ (a .change) (a .accepted) (a .rejected) (a .closed) (toZ-ofZ w64 (a .change) (c .before .before .before .before .before .before .before .before .before .before .before .before .before .before .before .before .before .before .before .before .before .fits .change)) (omega (arith, c .before .before .before .before .before .before .before .before .before .before .before .before .before .before .before .before .before .before .before .before .before .pre)) (c .before .before .before .before .before .before .before .before .before .before .before .before .before .before .before .before .before .before .put-number .ensures) (c .before .before .before .before .before .before .before .before .before .before .before .before .before .before .put-change .ensures) (c .before .before .before .before .before .before .before .before .before .before .put-number2 .ensures) (c .before .before .before .before .before .before .put-number3 .ensures) (c .before .before .put-last .ensures)
+    let at-put-number2 = c .before .before .before .before .before .before .before .before .before .before in
+    let at-put-change = at-put-number2 .before .before .before .before in
+    let at-put-number = at-put-change .before .before .before .before in
+    let start = at-put-number .before .before .before in
+    let a = start .args in
+    figures-put _ _ _ _ _ _ (a .at) (a .cause) _ (a .change) (a .accepted) (a .rejected) (a .closed) (toZ-ofZ w64 (a .change) (start .fits .change)) (omega (arith, start .pre)) (at-put-number .put-number .ensures) (at-put-change .put-change .ensures) (at-put-number2 .put-number2 .ensures) (c .before .before .before .before .before .before .put-number3 .ensures) (c .before .before .put-last .ensures)
 
 pub put-figures-spec : {M : Type 1} → statement M
 put-figures-spec =

@@ -26,8 +26,9 @@ same-length c = search needs
 returns : tie.Need-returns
 unfolding ended
 returns c =
-    let a = c .before .before .before .before .before .before .before .before .before .before .args in
-    let w1 = first (a .out .now) (a .at) _ (omega (arith, c .before .before .before .before .before .before .before .before .before .before .pre)) (c .before .before .before .before .before .before .before .put-digits .ensures) (length-digits 3 (a .n)) in
+    let start = c .before .before .before .before .before .before .before .before .before .before in
+    let a = start .args in
+    let w1 = first (a .out .now) (a .at) _ (omega (arith, start .pre)) (c .before .before .before .before .before .before .before .put-digits .ensures) (length-digits 3 (a .n)) in
     next w1 _ (c .before .before .put-bytes .ensures) refl .same
 
 pub put-last-spec : {M : Type 1} → statement M

@@ -22,8 +22,10 @@ add-number c = omega (arith, was-fits _ _ _ _ _ _ _ (c .before .before .before .
 
 put-lines-requires : tie.Need-put-lines-requires
 put-lines-requires c κs =
-    let start = c .before .before .before .before .before .before .before .before .before .before .before .before .before .before .before .before in
-    let stepped = c .before .before .before .before .before .before .before .before .before in
+    let at-before = c .before .before .before .before .before .before .before .before in
+    let at-before-2 = at-before .before .before .before .before .before .before .before in
+    let start = at-before-2 .before in
+    let stepped = at-before .before in
     let w = was-fits _ _ _ _ _ _ _ (stepped .step .ensures) _ _ (c .before .before .before .r .given .1) in ((w .0, w .1, w .2, omega (arith, stepped .step .kept, start .pre)), start .pre .2)
 
 same-length : tie.Need-same-length
@@ -55,8 +57,10 @@ same-length-7 c = search needs
 
 returns-3 : tie.Need-returns-3
 returns-3 c =
-    let start = c .before .before .before .before .before .before .before .before .before .before .before .before .before .before .before .before .before .before .before in
-    let stepped = c .before .before .before .before .before .before .before .before .before .before .before .before in
+    let at-before = c .before .before .before .before .before .before .before .before .before .before .before in
+    let at-before-2 = at-before .before .before .before .before .before .before .before in
+    let start = at-before-2 .before in
+    let stepped = at-before .before in
     entry-made _ _ _ _ _ _ _ (stepped .step .ensures) _ _ (start .pre .0) _ _ (c .before .before .before .before .before .before .r .given .1) _ _ (c .before .before .put-lines .ensures)
 
 pub entry-spec : {M : Type 1} → statement M

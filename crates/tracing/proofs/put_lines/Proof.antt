@@ -35,14 +35,18 @@ same-length c = search needs
 
 returns : tie.Need-returns
 unfolding part
-returns c = lines-groups (c .before .before .before .before .before .before .before .before .before .before .before .before .before .before .before .args .number) (c .before .before .before .before .before .before .before .before .before .before .before .before .before .before .before .args .src .now) (c .before .before .before .before .before .before .before .before .before .before .before .before .before .before .before .args .n) (c .before .before .before .before .before .before .before .before .before .before .before .before .before .before .before .args .a) (c .before .before .before .before .before .before .before .before .before .before .before .before .before .before .before .args .sent .now) (c .before .before .before .before .before .before .before .before .before .before .before .before .before .before .before .args .out .now) (c .before .before .before .before .before .before .before .before .before .before .before .before .before .before .before .args .at) (omega (arith, c .before .before .before .before .before .before .before .before .before .before .before .before .before .before .before .pre .1)) _ _ _ _ _ (c .before .before .before .before .before .before .is-done .ensures) (c .before .before .before .before .before .if1 .taken) (c .before .before .before .before .before .before .before .before .before .put-entry-line .ensures .0) (c .before .before .before .before .before .before .before .before .before .put-entry-line .ensures .1) (omega (arith, c .before .before .before .before .before .before .before .before .before .put-entry-line .ensures .2, c .before .before .put-group-lines .ensures .1 .2, c .before .before .before .before .before .before .before .before .before .before .before .before .before .before .before .pre .0)) (c .before .before .put-group-lines .ensures .0)
+returns c =
+    let at-put-entry-line = c .before .before .before .before .before .before .before .before .before in
+    let start = at-put-entry-line .before .before .before .before .before .before in
+    lines-groups (start .args .number) (start .args .src .now) (start .args .n) (start .args .a) (start .args .sent .now) (start .args .out .now) (start .args .at) (omega (arith, start .pre .1)) _ _ _ _ _ (c .before .before .before .before .before .before .is-done .ensures) (c .before .before .before .before .before .if1 .taken) (at-put-entry-line .put-entry-line .ensures .0) (at-put-entry-line .put-entry-line .ensures .1) (omega (arith, at-put-entry-line .put-entry-line .ensures .2, c .before .before .put-group-lines .ensures .1 .2, start .pre .0)) (c .before .before .put-group-lines .ensures .0)
 
 same-length-2 : tie.Need-same-length-2
 same-length-2 c = search needs
 
 returns-2 : tie.Need-returns-2
 returns-2 c =
-    let start = c .before .before .before .before .before .before .before .before .before .before in
+    let at-before = c .before .before .before .before .before .before .before .before .before in
+    let start = at-before .before in
     lines-only (start .args .number) (start .args .src .now) (start .args .n) (start .args .a) (start .args .sent .now) (start .args .out .now) (start .args .at) (omega (arith, start .pre .1)) _ _ _ (c .before .is-done .ensures) (c .if1 .left) (c .before .before .before .before .put-entry-line .ensures .0) (c .before .before .before .before .put-entry-line .ensures .1) (c .before .before .before .before .put-entry-line .ensures .2)
 
 pub put-lines-spec : {M : Type 1} → statement M

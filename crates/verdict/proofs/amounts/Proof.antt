@@ -58,14 +58,20 @@ prepay-requires c κs = (search needs, rw (charge-is (c .before .before .before)
 
 returns-4 : tie.Need-returns-4
 unfolding line7
-returns-4 c = rw (consumption-is (c .before .before .before .before .before .before .before .before .before .before .before), sym (c .before .before .before .before .before .before .before .before .same .ensures) ∙ not-false _ (c .before .before .before .before .before .before .before .if1 .left), charge-is (c .before .before .before .before), sym (c .before .before .is-prepay .ensures) ∙ c .before .if2 .taken) (c .prepay .ensures)
+returns-4 c =
+    let at-same = c .before .before .before .before .before .before .before .before in
+    let at-before = at-same .before .before in
+    rw (consumption-is (at-before .before), sym (at-same .same .ensures) ∙ not-false _ (c .before .before .before .before .before .before .before .if1 .left), charge-is (c .before .before .before .before), sym (c .before .before .is-prepay .ensures) ∙ c .before .if2 .taken) (c .prepay .ensures)
 
 bill-ready-requires : tie.Need-bill-ready-requires
 bill-ready-requires c κs = search needs
 
 returns-5 : tie.Need-returns-5
 unfolding line7 line8 line10 amountsOf
-returns-5 c = rw (consumption-is (c .before .before .before .before .before .before .before .before .before .before .before), sym (c .before .before .before .before .before .before .before .before .same .ensures) ∙ not-false _ (c .before .before .before .before .before .before .before .if1 .left), charge-is (c .before .before .before .before), sym (c .before .before .is-prepay .ensures) ∙ c .before .if2 .left, append-nil (line9 _ _ _)) (c .bill-ready .ensures)
+returns-5 c =
+    let at-same = c .before .before .before .before .before .before .before .before in
+    let at-before = at-same .before .before in
+    rw (consumption-is (at-before .before), sym (at-same .same .ensures) ∙ not-false _ (c .before .before .before .before .before .before .before .if1 .left), charge-is (c .before .before .before .before), sym (c .before .before .is-prepay .ensures) ∙ c .before .if2 .left, append-nil (line9 _ _ _)) (c .bill-ready .ensures)
 
 pub amounts-spec : {M : Type 1} → statement M
 amounts-spec =

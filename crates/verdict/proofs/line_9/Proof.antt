@@ -36,7 +36,9 @@ charges-are : (c : tie.After-p) → tierCharges (c .before .before .before .befo
 charges-are c = sym (c .before .before .tier-charges .ensures) ∙ c .p .given .1
 
 charges-below : (c : tie.After-p) → c .p .given .0 .0 + (c .p .given .0 .1 .0 + (c .p .given .0 .1 .1 .0 + c .p .given .0 .1 .1 .1 .0)) < 2 ^ 64
-charges-below c = charges-fit _ (c .before .before .before .before .before .before .before .before .before .before .before .before .before .before .before .before .pre) (charges-are c)
+charges-below c =
+    let start = c .before .before .before .before .before .before .before .before .before .before .before .before .before .before .before .before in
+    charges-fit _ (start .pre) (charges-are c)
 
 charges-sum : (c : tie.After-plus6) → c .plus6 .result .0 ≡ c .before .before .before .before .p .given .0 .0 + (c .before .before .before .before .p .given .0 .1 .0 + (c .before .before .before .before .p .given .0 .1 .1 .0 + c .before .before .before .before .p .given .0 .1 .1 .1 .0))
 charges-sum c = rw (c .plus6 .ensures, c .before .plus5 .ensures, c .before .before .plus4 .ensures)
@@ -84,7 +86,9 @@ same-requires c κs = search needs
 
 returns-3 : tie.Need-returns-3
 unfolding line9
-returns-3 c = rw (rate-is (c .before .before .before .before .before .before .before .before .before), consumptions-miss (c .before) ∙ c .if1 .taken)
+returns-3 c =
+    let at-before = c .before .before .before .before .before .before .before .before in
+    rw (rate-is (at-before .before), consumptions-miss (c .before) ∙ c .if1 .taken)
 
 tier-charges-requires : tie.Need-tier-charges-requires
 tier-charges-requires c κs = search needs
@@ -97,7 +101,9 @@ enum-told-4 c = search needs
 
 returns-4 : tie.Need-returns-4
 unfolding line9
-returns-4 c = rw (rate-is (c .before .before .before .before .before .before .before .before .before .before .before .before), consumptions-miss (c .before .before .before .before) ∙ c .before .before .before .if1 .left, sym (c .before .before .tier-charges .ensures) ∙ c .enum-told4 .given .1)
+returns-4 c =
+    let at-before = c .before .before .before .before .before .before .before .before .before .before .before in
+    rw (rate-is (at-before .before), consumptions-miss (c .before .before .before .before) ∙ c .before .before .before .if1 .left, sym (c .before .before .tier-charges .ensures) ∙ c .enum-told4 .given .1)
 
 plus-requires-4 : tie.Need-plus-requires-4
 plus-requires-4 c κs = omega (arith, charges-below (c .before))
@@ -113,11 +119,17 @@ same-requires-2 c κs = search needs
 
 returns-5 : tie.Need-returns-5
 unfolding line9
-returns-5 c = rw (rate-is (c .before .before .before .before .before .before .before .before .before .before .before .before .before .before .before .before .before .before), consumptions-miss (c .before .before .before .before .before .before .before .before .before .before) ∙ c .before .before .before .before .before .before .before .before .before .if1 .left, charges-miss (c .before) ∙ c .if2 .taken)
+returns-5 c =
+    let at-before = c .before .before .before .before .before .before .before .before .before in
+    let at-before-2 = at-before .before .before .before .before .before .before .before .before in
+    rw (rate-is (at-before-2 .before), consumptions-miss (at-before .before) ∙ at-before .if1 .left, charges-miss (c .before) ∙ c .if2 .taken)
 
 returns-6 : tie.Need-returns-6
 unfolding line9
-returns-6 c = rw (rate-is (c .before .before .before .before .before .before .before .before .before .before .before .before .before .before .before .before .before .before), consumptions-miss (c .before .before .before .before .before .before .before .before .before .before) ∙ c .before .before .before .before .before .before .before .before .before .if1 .left, charges-miss (c .before) ∙ c .if2 .left)
+returns-6 c =
+    let at-before = c .before .before .before .before .before .before .before .before .before in
+    let at-before-2 = at-before .before .before .before .before .before .before .before .before in
+    rw (rate-is (at-before-2 .before), consumptions-miss (at-before .before) ∙ at-before .if1 .left, charges-miss (c .before) ∙ c .if2 .left)
 
 pub line-9-spec : {M : Type 1} → statement M
 line-9-spec =

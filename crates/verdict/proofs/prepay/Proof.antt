@@ -76,7 +76,10 @@ enum-known-check c = search needs
 
 returns-4 : tie.Need-returns-4
 unfolding line8
-returns-4 c = rw (balance-is (c .before .before .before .before .before .before .before .before .before .before .before .before), applied-is (c .before .before .before .before .before .before .before .before .before), owed-is (c .before .before .before .before .before), first-stop _ _ (sym (c .before .before .before .line-9 .ensures) ∙ c .before .check .given .1))
+returns-4 c =
+    let at-before = c .before .before .before .before .before .before .before .before in
+    let at-before-2 = at-before .before .before .before in
+    rw (balance-is (at-before-2 .before), applied-is (at-before .before), owed-is (c .before .before .before .before .before), first-stop _ _ (sym (c .before .before .before .line-9 .ensures) ∙ c .before .check .given .1))
 
 enum-told-5 : tie.Need-enum-told-5
 enum-told-5 c = search needs
@@ -89,11 +92,18 @@ same-requires c κs = search needs
 
 returns-5 : tie.Need-returns-5
 unfolding line8 line10
-returns-5 c = rw (balance-is (c .before .before .before .before .before .before .before .before .before .before .before .before .before .before), applied-is (c .before .before .before .before .before .before .before .before .before .before .before), owed-is (c .before .before .before .before .before .before .before), first-clear (line9 _ _ _) _ (sym (c .before .before .before .before .before .line-9 .ensures) ∙ c .before .before .before .enum-told5 .given .1), sum-is (c .before) ∙ not-true _ (c .if1 .taken))
+returns-5 c =
+    let at-before = c .before .before .before .before .before .before .before .before .before .before in
+    let at-before-2 = at-before .before .before .before in
+    rw (balance-is (at-before-2 .before), applied-is (at-before .before), owed-is (c .before .before .before .before .before .before .before), first-clear (line9 _ _ _) _ (sym (c .before .before .before .before .before .line-9 .ensures) ∙ c .before .before .before .enum-told5 .given .1), sum-is (c .before) ∙ not-true _ (c .if1 .taken))
 
 returns-6 : tie.Need-returns-6
 unfolding line8 line10 amountsOf
-returns-6 c = rw (balance-is (c .before .before .before .before .before .before .before .before .before .before .before .before .before .before), applied-is (c .before .before .before .before .before .before .before .before .before .before .before), owed-is (c .before .before .before .before .before .before .before), first-clear (line9 _ _ _) _ (sym (c .before .before .before .before .before .line-9 .ensures) ∙ c .before .before .before .enum-told5 .given .1), sum-is (c .before) ∙ not-false _ (c .if1 .left), ← c .before .before .before .before .before .before .before .before .before .before .before .before .before .before .before .before .before .before .before .pre .1)
+returns-6 c =
+    let at-before = c .before .before .before .before .before .before .before .before .before .before in
+    let at-before-2 = at-before .before .before .before in
+    let start = at-before-2 .before .before .before .before .before .before in
+    rw (balance-is (at-before-2 .before), applied-is (at-before .before), owed-is (c .before .before .before .before .before .before .before), first-clear (line9 _ _ _) _ (sym (c .before .before .before .before .before .line-9 .ensures) ∙ c .before .before .before .enum-told5 .given .1), sum-is (c .before) ∙ not-false _ (c .if1 .left), ← start .pre .1)
 
 pub prepay-spec : {M : Type 1} → statement M
 prepay-spec =

@@ -40,7 +40,9 @@ posted-in-requires c κs = search needs
 
 returns : tie.Need-returns
 unfolding billIn
-returns c = rw (c .before .before .before .before .before .terms-in .ensures, c .posted-in .ensures) (ap billIn (rest (c .before .before .before .before .before .before .before .before .args .words .now) (c .before .before .before .before .before .before .before .before .args .at)))
+returns c =
+    let start = c .before .before .before .before .before .before .before .before in
+    rw (c .before .before .before .before .before .terms-in .ensures, c .posted-in .ensures) (ap billIn (rest (start .args .words .now) (start .args .at)))
 
 pub bill-in-spec : {M : Type 1} → statement M
 bill-in-spec =

@@ -27,7 +27,9 @@ shared-slice-read-byte-4 : tie.Need-shared-slice-read-byte-4
 shared-slice-read-byte-4 c = search needs
 
 byte-requires-4 : tie.Need-byte-requires-4
-byte-requires-4 c κs = code-bytes _ (c .before .before .before .before .before .before .before .before .pre .1) .3
+byte-requires-4 c κs =
+    let start = c .before .before .before .before .before .before .before .before in
+    code-bytes _ (start .pre .1) .3
 
 returns : tie.Need-returns
 unfolding codeIn

@@ -56,7 +56,9 @@ shared-slice-read-result c = search needs
 
 returns : tie.Need-returns
 unfolding holdsBill
-returns c = rw (c .before .before .before .before .before .before .fits-code .ensures, c .before .fits-posted .ensures) (ap holdsBill (rest (c .before .before .before .before .before .before .before .before .before .before .before .before .before .before .args .words .now) (c .before .before .before .before .before .before .before .before .before .before .before .before .before .before .args .at)))
+returns c =
+    let start = c .before .before .before .before .before .before .before .before .before .before .before .before .before .before in
+    rw (c .before .before .before .before .before .before .fits-code .ensures, c .before .fits-posted .ensures) (ap holdsBill (rest (start .args .words .now) (start .args .at)))
 
 pub fits-in-spec : {M : Type 1} → statement M
 fits-in-spec =

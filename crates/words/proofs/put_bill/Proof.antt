@@ -45,10 +45,15 @@ same-length c = search needs
 
 returns : tie.Need-returns
 returns c =
-    put-parts (c .before .before .before .before .before .before .before .before .before .before .before .before .before .before .before .before .before .before .before .before .before .args .b) (c .before .before .before .before .before .before .before .before .before .before .before .before .before .before .before .before .before .before .before .before .before .args .at) (c .before .before .before .before .before .before .before .before .before .before .before .before .before .before .before .before .before .before .before .before .before .args .words .now) (c .before .before .before .before .before .before .before .before .before .before .before .before .put-words .last .0) (c .before .before .before .before .before .before .before .put-words2 .last .0) (c .before .before .put-words3 .last .0) (omega arith)
-    (c .before .before .before .before .before .before .before .before .before .before .before .before .put-words .ensures ∙ ap (put _ _) (c .before .before .before .before .before .before .before .before .before .before .before .before .before .before .before .before .before .terms-words .ensures))
-    (c .before .before .before .before .before .before .before .put-words2 .ensures ∙ ap (put _ _) (c .before .before .before .before .before .before .before .before .before .before .before .before .before .before .before .before .latest-words .ensures))
-    (c .before .before .put-words3 .ensures ∙ ap (put _ _) (c .before .before .before .before .before .before .before .before .before .before .before .before .before .before .before .posted-words .ensures))
+    let at-put-words = c .before .before .before .before .before .before .before .before .before .before .before .before in
+    let at-posted-words = at-put-words .before .before .before in
+    let at-latest-words = at-posted-words .before in
+    let at-terms-words = at-latest-words .before in
+    let start = at-terms-words .before .before .before .before in
+    put-parts (start .args .b) (start .args .at) (start .args .words .now) (at-put-words .put-words .last .0) (c .before .before .before .before .before .before .before .put-words2 .last .0) (c .before .before .put-words3 .last .0) (omega arith)
+    (at-put-words .put-words .ensures ∙ ap (put _ _) (at-terms-words .terms-words .ensures))
+    (c .before .before .before .before .before .before .before .put-words2 .ensures ∙ ap (put _ _) (at-latest-words .latest-words .ensures))
+    (c .before .before .put-words3 .ensures ∙ ap (put _ _) (at-posted-words .posted-words .ensures))
 
 pub put-bill-spec : {M : Type 1} → statement M
 put-bill-spec =

@@ -33,7 +33,9 @@ shared-slice-read-t16 c = search needs
 
 returns : tie.Need-returns
 unfolding termsIn
-returns c = rw (c .before .before .before .before .before .before .before .before .code-in .ensures, c .before .before .before .before .before .before .product-in .ensures, c .before .before .before .before .before .latest-in .ensures)
+returns c =
+    let at-code-in = c .before .before .before .before .before .before .before .before in
+    rw (at-code-in .code-in .ensures, c .before .before .before .before .before .before .product-in .ensures, c .before .before .before .before .before .latest-in .ensures)
 
 pub terms-in-spec : {M : Type 1} → statement M
 terms-in-spec =

@@ -53,7 +53,9 @@ loop-less : tie.Need-loop-less Inv-loop μ-loop
 loop-less c = omega arith
 
 loop-again : tie.Need-loop-again Inv-loop μ-loop
-loop-again c = let v = c .before .before .before .before .before .before .loop .inv in (omega arith, v .1, ap length (c .before .before .put-bill .ensures) ∙ length-put _ _ _ (rw length-bill (omega arith)) ∙ v .2, blank-more (emptyLedger (dateOf (c .before .before .before .before .before .before .before .before .args .today)) (c .before .before .before .before .before .before .before .before .args .tracking) (c .before .before .before .before .before .before .before .before .args .confirmation)) refl _ _ _ (c .before .before .before .before .before .before .loop .i) _ (omega arith) (c .before .before .before .before .blank .ensures) (v .3) (c .before .before .put-bill .ensures))
+loop-again c =
+    let start = c .before .before .before .before .before .before .before .before in
+    let v = c .before .before .before .before .before .before .loop .inv in (omega arith, v .1, ap length (c .before .before .put-bill .ensures) ∙ length-put _ _ _ (rw length-bill (omega arith)) ∙ v .2, blank-more (emptyLedger (dateOf (start .args .today)) (start .args .tracking) (start .args .confirmation)) refl _ _ _ (c .before .before .before .before .before .before .loop .i) _ (omega arith) (c .before .before .before .before .blank .ensures) (v .3) (c .before .before .put-bill .ensures))
 
 same-length : tie.Need-same-length Inv-loop μ-loop
 same-length c = omega (arith, c .before .loop .inv .2, c .before .before .before .pre)

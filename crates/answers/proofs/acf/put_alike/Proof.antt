@@ -48,10 +48,15 @@ same-length c = search needs
 returns : tie.Need-returns
 unfolding acfAlike
 returns c =
-    let a = c .before .before .before .before .before .before .before .before .before .before .before .before .before .before .before .before .before .before .before .before .before .before .before .before .args in
-    let w1 = first (a .out .now) (a .at) _ (omega (arith, c .before .before .before .before .before .before .before .before .before .before .before .before .before .before .before .before .before .before .before .before .before .before .before .before .pre)) (c .before .before .before .before .before .before .before .before .before .before .before .before .before .before .before .before .before .before .before .put-part .ensures) (length-within (a .h .now) (c .before .before .before .before .before .before .before .before .before .before .before .before .before .before .before .before .before .before .before .before .before .before .before .before .pre .1) 0 19 (omega arith)) in
-    let w2 = next w1 _ (rw (c .before .before .before .before .before .before .before .before .before .before .before .before .before .before .before .before .before .before .before .before .before .is-sup .ensures) at (c .before .before .before .before .before .before .before .before .before .before .before .before .before .before .before .put-tracking .ensures)) (length-tracking (a .h .now) (c .before .before .before .before .before .before .before .before .before .before .before .before .before .before .before .before .before .before .before .before .before .before .before .before .pre .1) (a .a)) in
-    let w3 = next w2 _ (c .before .before .before .before .before .before .before .before .before .before .before .put-part2 .ensures) (length-within (a .h .now) (c .before .before .before .before .before .before .before .before .before .before .before .before .before .before .before .before .before .before .before .before .before .before .before .before .pre .1) 28 2 (omega arith)) in
+    let at-put-part2 = c .before .before .before .before .before .before .before .before .before .before .before in
+    let at-put-tracking = at-put-part2 .before .before .before .before in
+    let at-put-part = at-put-tracking .before .before .before .before in
+    let at-is-sup = at-put-part .before .before in
+    let start = at-is-sup .before .before .before in
+    let a = start .args in
+    let w1 = first (a .out .now) (a .at) _ (omega (arith, start .pre)) (at-put-part .put-part .ensures) (length-within (a .h .now) (start .pre .1) 0 19 (omega arith)) in
+    let w2 = next w1 _ (rw (at-is-sup .is-sup .ensures) at (at-put-tracking .put-tracking .ensures)) (length-tracking (a .h .now) (start .pre .1) (a .a)) in
+    let w3 = next w2 _ (at-put-part2 .put-part2 .ensures) (length-within (a .h .now) (start .pre .1) 28 2 (omega arith)) in
     let w4 = next w3 _ (c .before .before .before .before .before .before .put-bytes .ensures) refl in
     next w4 _ (c .before .before .put-digits .ensures) (length-digits 8 _) .same
 

@@ -58,12 +58,20 @@ same-length c = search needs
 returns : tie.Need-returns
 unfolding acf
 returns c =
-    let a = c .before .before .before .before .before .before .before .before .before .before .before .before .before .before .before .before .before .before .before .before .before .before .before .before .before .before .before .before .before .before .before .before .args in
-    let w1 = first (a .out .now) (a .at) _ (omega (arith, c .before .before .before .before .before .before .before .before .before .before .before .before .before .before .before .before .before .before .before .before .before .before .before .before .before .before .before .before .before .before .before .before .pre)) (c .before .before .before .before .before .before .before .before .before .before .before .before .before .before .before .before .before .before .before .before .before .before .before .put-alike .ensures) (length-acf-alike (a .h .now) (c .before .before .before .before .before .before .before .before .before .before .before .before .before .before .before .before .before .before .before .before .before .before .before .before .before .before .before .before .before .before .before .before .pre .1) (a .a)) in
-    let w2 = next w1 _ (c .before .before .before .before .before .before .before .before .before .before .before .before .before .before .before .before .before .before .before .put-digits .ensures) (length-digits 9 _) in
-    let w3 = next w2 _ (rw (c .before .before .before .before .before .before .before .before .before .before .before .before .before .before .before .before .before .before .before .before .before .before .before .before .before .scheduled-of .ensures, c .before .before .before .before .before .before .before .before .before .before .before .before .before .before .before .before .before .before .before .before .before .before .before .before .before .before .is-sup .ensures) at (c .before .before .before .before .before .before .before .before .before .before .before .before .before .before .before .put-digits2 .ensures)) (length-digits 8 _) in
-    let w4 = next w3 _ (c .before .before .before .before .before .before .before .before .before .before .put-bytes .ensures) refl in
-    let w5 = next w4 _ (rw (c .before .before .before .before .before .before .before .before .before .before .before .before .before .before .before .before .before .before .before .before .before .before .before .before .before .before .before .before .is-prepay .ensures) at (c .before .before .before .before .before .before .put-balance .ensures)) (length-balance (a .h .now) (c .before .before .before .before .before .before .before .before .before .before .before .before .before .before .before .before .before .before .before .before .before .before .before .before .before .before .before .before .before .before .before .before .pre .1) (a .a)) in
+    let at-put-bytes = c .before .before .before .before .before .before .before .before .before .before in
+    let at-put-digits2 = at-put-bytes .before .before .before .before .before in
+    let at-put-digits = at-put-digits2 .before .before .before .before in
+    let at-put-alike = at-put-digits .before .before .before .before in
+    let at-scheduled-of = at-put-alike .before .before in
+    let at-is-sup = at-scheduled-of .before in
+    let at-is-prepay = at-is-sup .before .before in
+    let start = at-is-prepay .before .before .before .before in
+    let a = start .args in
+    let w1 = first (a .out .now) (a .at) _ (omega (arith, start .pre)) (at-put-alike .put-alike .ensures) (length-acf-alike (a .h .now) (start .pre .1) (a .a)) in
+    let w2 = next w1 _ (at-put-digits .put-digits .ensures) (length-digits 9 _) in
+    let w3 = next w2 _ (rw (at-scheduled-of .scheduled-of .ensures, at-is-sup .is-sup .ensures) at (at-put-digits2 .put-digits2 .ensures)) (length-digits 8 _) in
+    let w4 = next w3 _ (at-put-bytes .put-bytes .ensures) refl in
+    let w5 = next w4 _ (rw (at-is-prepay .is-prepay .ensures) at (c .before .before .before .before .before .before .put-balance .ensures)) (length-balance (a .h .now) (start .pre .1) (a .a)) in
     next w5 _ (c .before .before .put-end .ensures) (length-spaces-from 74) .same
 
 pub write-spec : {M : Type 1} → statement M

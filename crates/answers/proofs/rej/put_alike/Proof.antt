@@ -33,8 +33,10 @@ same-length c = search needs
 returns : tie.Need-returns
 unfolding rejAlike
 returns c =
-    let a = c .before .before .before .before .before .before .before .before .before .before .before .before .before .before .before .args in
-    let w1 = first (a .out .now) (a .at) _ (omega (arith, c .before .before .before .before .before .before .before .before .before .before .before .before .before .before .before .pre)) (c .before .before .before .before .before .before .before .before .before .before .before .put-part .ensures) (length-within (a .r .now) (c .before .before .before .before .before .before .before .before .before .before .before .before .before .before .before .pre .1) 0 30 (omega arith)) in
+    let at-put-part = c .before .before .before .before .before .before .before .before .before .before .before in
+    let start = at-put-part .before .before .before .before in
+    let a = start .args in
+    let w1 = first (a .out .now) (a .at) _ (omega (arith, start .pre)) (at-put-part .put-part .ensures) (length-within (a .r .now) (start .pre .1) 0 30 (omega arith)) in
     let w2 = next w1 _ (c .before .before .before .before .before .before .put-bytes .ensures) refl in
     next w2 _ (c .before .before .put-digits .ensures) (length-digits 8 _) .same
 

@@ -55,12 +55,18 @@ same-length c = search needs
 returns : tie.Need-returns
 unfolding rejDetail
 returns c =
-    let a = c .before .before .before .before .before .before .before .before .before .before .before .before .before .before .before .before .before .before .before .before .before .before .before .before .before .before .before .before .before .before .before .args in
-    let w1 = first (a .out .now) (a .at) _ (omega (arith, c .before .before .before .before .before .before .before .before .before .before .before .before .before .before .before .before .before .before .before .before .before .before .before .before .before .before .before .before .before .before .before .pre)) (c .before .before .before .before .before .before .before .before .before .before .before .before .before .before .before .before .before .before .before .before .before .before .before .before .before .before .before .put-alike .ensures) (length-rej-alike (a .d .now) (c .before .before .before .before .before .before .before .before .before .before .before .before .before .before .before .before .before .before .before .before .before .before .before .before .before .before .before .before .before .before .before .pre .1) _) in
-    let w2 = next w1 _ (c .before .before .before .before .before .before .before .before .before .before .before .before .before .before .before .before .before .before .before .before .before .before .before .put-part .ensures) (length-within (a .d .now) (c .before .before .before .before .before .before .before .before .before .before .before .before .before .before .before .before .before .before .before .before .before .before .before .before .before .before .before .before .before .before .before .pre .1) 41 38 (omega arith)) in
-    let w3 = next w2 _ (c .before .before .before .before .before .before .before .before .before .before .before .before .before .before .before .before .before .before .before .put-from .ensures) (length-from (a .d .now) (c .before .before .before .before .before .before .before .before .before .before .before .before .before .before .before .before .before .before .before .before .before .before .before .before .before .before .before .before .before .before .before .pre .1) _) in
-    let w4 = next w3 _ (c .before .before .before .before .before .before .before .before .before .before .before .before .before .before .before .put-part2 .ensures) (length-within (a .d .now) (c .before .before .before .before .before .before .before .before .before .before .before .before .before .before .before .before .before .before .before .before .before .before .before .before .before .before .before .before .before .before .before .pre .1) 87 172 (omega arith)) in
-    let w5 = next w4 _ (c .before .before .before .before .before .before .before .before .before .before .put-bytes .ensures) refl in
+    let at-put-bytes = c .before .before .before .before .before .before .before .before .before .before in
+    let at-put-part2 = at-put-bytes .before .before .before .before .before in
+    let at-put-from = at-put-part2 .before .before .before .before in
+    let at-put-part = at-put-from .before .before .before .before in
+    let at-put-alike = at-put-part .before .before .before .before in
+    let start = at-put-alike .before .before .before .before in
+    let a = start .args in
+    let w1 = first (a .out .now) (a .at) _ (omega (arith, start .pre)) (at-put-alike .put-alike .ensures) (length-rej-alike (a .d .now) (start .pre .1) _) in
+    let w2 = next w1 _ (at-put-part .put-part .ensures) (length-within (a .d .now) (start .pre .1) 41 38 (omega arith)) in
+    let w3 = next w2 _ (at-put-from .put-from .ensures) (length-from (a .d .now) (start .pre .1) _) in
+    let w4 = next w3 _ (at-put-part2 .put-part2 .ensures) (length-within (a .d .now) (start .pre .1) 87 172 (omega arith)) in
+    let w5 = next w4 _ (at-put-bytes .put-bytes .ensures) refl in
     let w6 = next w5 _ (c .before .before .before .before .before .before .put-digits .ensures) (length-digits 2 _) in
     next w6 _ (c .before .before .put-end .ensures) (length-spaces-from 264) .same
 

@@ -29,10 +29,12 @@ same-length c = search needs
 returns : tie.Need-returns
 unfolding rejHeader
 returns c =
-    let a = c .before .before .before .before .before .before .before .before .before .before .before .before .before .before .args in
-    let w1 = first (a .out .now) (a .at) _ (omega (arith, c .before .before .before .before .before .before .before .before .before .before .before .before .before .before .pre)) (c .before .before .before .before .before .before .before .before .before .before .put-alike .ensures) (length-rej-alike (a .h .now) (c .before .before .before .before .before .before .before .before .before .before .before .before .before .before .pre .1) _) in
+    let at-put-alike = c .before .before .before .before .before .before .before .before .before .before in
+    let start = at-put-alike .before .before .before .before in
+    let a = start .args in
+    let w1 = first (a .out .now) (a .at) _ (omega (arith, start .pre)) (at-put-alike .put-alike .ensures) (length-rej-alike (a .h .now) (start .pre .1) _) in
     let w2 = next w1 _ (c .before .before .before .before .before .before .put-digits .ensures) (length-digits 9 _) in
-    next w2 _ (c .before .before .put-part .ensures) (length-within (a .h .now) (c .before .before .before .before .before .before .before .before .before .before .before .before .before .before .pre .1) 50 271 (omega arith)) .same
+    next w2 _ (c .before .before .put-part .ensures) (length-within (a .h .now) (start .pre .1) 50 271 (omega arith)) .same
 
 pub put-header-spec : {M : Type 1} → statement M
 put-header-spec =

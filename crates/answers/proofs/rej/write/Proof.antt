@@ -60,32 +60,45 @@ put-header-requires c κs = (omega (arith, c .before .before .before .before .be
 
 loop-holds : tie.Need-loop-holds Inv-loop μ-loop
 loop-holds c =
-    let a = c .before .before .before .before .before .before .before .before .before .args in
+    let start = c .before .before .before .before .before .before .before .before .before in
+    let a = start .args in
     record {
       within = omega arith;
       kept = refl;
       wrote =
           rw (details-none _ (a .x) (a .s .now) (a .i + 1))
-          (record { same = put-nil _ _; long = refl; fits = omega (arith, c .before .before .before .before .before .before .before .before .before .pre, c .before .before .put-header .kept .0) });
+          (record { same = put-nil _ _; long = refl; fits = omega (arith, start .pre, c .before .before .put-header .kept .0) });
     }
 
 add-put-detail-at : tie.Need-add-put-detail-at Inv-loop μ-loop
-add-put-detail-at c = omega (arith, c .before .before .before .before .before .before .before .before .before .before .before .before .pre, c .before .before .before .before .before .before .before .before .before .before .before .before .good)
+add-put-detail-at c =
+    let start = c .before .before .before .before .before .before .before .before .before .before .before .before in
+    omega (arith, start .pre, start .good)
 
 mul-put-detail-at : tie.Need-mul-put-detail-at Inv-loop μ-loop
-mul-put-detail-at c = omega (arith, c .before .before .before .before .before .before .before .before .before .before .before .before .pre, c .before .before .before .before .before .before .before .before .before .before .before .before .good)
+mul-put-detail-at c =
+    let start = c .before .before .before .before .before .before .before .before .before .before .before .before in
+    omega (arith, start .pre, start .good)
 
 add-put-detail-at-2 : tie.Need-add-put-detail-at-2 Inv-loop μ-loop
-add-put-detail-at-2 c = omega (arith, c .before .before .before .before .before .before .before .before .before .before .before .before .pre, c .before .before .before .before .before .before .before .before .before .before .before .before .good)
+add-put-detail-at-2 c =
+    let start = c .before .before .before .before .before .before .before .before .before .before .before .before in
+    omega (arith, start .pre, start .good)
 
 add-put-detail-at-3 : tie.Need-add-put-detail-at-3 Inv-loop μ-loop
-add-put-detail-at-3 c = omega (arith, c .before .before .before .before .before .before .before .before .before .before .before .before .pre, c .before .before .before .before .before .before .before .before .before .before .before .before .good)
+add-put-detail-at-3 c =
+    let start = c .before .before .before .before .before .before .before .before .before .before .before .before in
+    omega (arith, start .pre, start .good)
 
 add-put-detail-at-4 : tie.Need-add-put-detail-at-4 Inv-loop μ-loop
-add-put-detail-at-4 c = omega (arith, c .before .before .before .before .before .before .before .before .before .before .before .before .pre, c .before .before .before .before .before .before .before .before .before .before .before .before .good)
+add-put-detail-at-4 c =
+    let start = c .before .before .before .before .before .before .before .before .before .before .before .before in
+    omega (arith, start .pre, start .good)
 
 put-detail-at-requires : tie.Need-put-detail-at-requires Inv-loop μ-loop
-put-detail-at-requires c κs = (omega (arith, c .before .before .before .before .before .before .before .before .before .before .before .before .pre, c .before .before), omega (arith, c .before .before .before .before .before .before .before .before .before .before .before .before .pre, c .before .before))
+put-detail-at-requires c κs =
+    let start = c .before .before .before .before .before .before .before .before .before .before .before .before in
+    (omega (arith, start .pre, c .before .before), omega (arith, start .pre, c .before .before))
 
 add-j : tie.Need-add-j Inv-loop μ-loop
 add-j c = search needs
@@ -95,9 +108,11 @@ loop-less c = search needs
 
 loop-again : tie.Need-loop-again Inv-loop μ-loop
 loop-again c =
-    let a = c .before .before .before .before .before .before .before .before .before .before .before .before .before .before .before .args in
+    let at-is-sup = c .before .before .before .before .before .before .before .before .before .before .before in
+    let start = at-is-sup .before .before .before .before in
+    let a = start .args in
     let l = c .before .before .before .before .before .loop in
-    let m = details-more (c .before .before .before .before .before .before .before .before .before .before .before .is-sup .result) (a .x) (a .s .now) (a .i + 1) (l .j) in
+    let m = details-more (at-is-sup .is-sup .result) (a .x) (a .s .now) (a .i + 1) (l .j) in
     let q : l .j * 321 + 321 ≡ (l .j + 1) * 321 = omega arith in
     record {
       within = omega arith;
@@ -105,7 +120,7 @@ loop-again c =
       wrote =
           rw (m, ← q)
           (next (l .inv .wrote) _ (c .before .before .put-detail-at .ensures)
-          (long-detail (c .before .before .before .before .before .before .before .before .before .before .before .is-sup .result) (a .x) (a .s .now) (a .i + 1 + l .j) (omega (arith, c .before .before .before .before .before .before .before .before .before .before .before .before .before .before .before .pre, c .before .before .before .before .loop-test .taken))));
+          (long-detail (at-is-sup .is-sup .result) (a .x) (a .s .now) (a .i + 1 + l .j) (omega (arith, start .pre, c .before .before .before .before .loop-test .taken))));
     }
 
 same-length : tie.Need-same-length Inv-loop μ-loop
@@ -114,12 +129,13 @@ same-length c = c .before .loop .inv .kept ∙ c .before .before .before .before
 returns : tie.Need-returns Inv-loop μ-loop
 unfolding rej
 returns c =
-    let a = c .before .before .before .before .before .before .before .before .before .before .before .args in
+    let start = c .before .before .before .before .before .before .before .before .before .before .before in
+    let a = start .args in
     let l = c .before .loop in
     let e : l .j ≡ a .k = omega arith in
     let z = lent-record (a .s .now) (a .i) in
-    let h = first (a .out .now) (a .at) (rejHeader (recordAt (a .s .now) (a .i)) (a .x)) (omega (arith, c .before .before .before .before .before .before .before .before .before .before .before .pre)) (rw z at (c .before .before .before .before .put-header .ensures))
-    (length-rej-header (recordAt (a .s .now) (a .i)) (omega (arith, long-record (a .s .now) (a .i) (omega (arith, c .before .before .before .before .before .before .before .before .before .before .before .pre)))) (a .x)) in
+    let h = first (a .out .now) (a .at) (rejHeader (recordAt (a .s .now) (a .i)) (a .x)) (omega (arith, start .pre)) (rw z at (c .before .before .before .before .put-header .ensures))
+    (length-rej-header (recordAt (a .s .now) (a .i)) (omega (arith, long-record (a .s .now) (a .i) (omega (arith, start .pre)))) (a .x)) in
     let sup : c .before .before .before .before .before .before .before .is-sup .result ≡ isSup (recordAt (a .s .now) (a .i)) = rw z at (c .before .before .before .before .before .before .before .is-sup .ensures) in
     let w = next h _ (rw (e, sup) at (l .inv .wrote .same)) (rw (e, sup) at (l .inv .wrote .long)) in
     w .same

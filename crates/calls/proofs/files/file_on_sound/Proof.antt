@@ -31,7 +31,10 @@ same-length : tie.Need-same-length
 same-length c = search needs
 
 returns-2 : tie.Need-returns-2
-returns-2 c = rw (c .cleared .ensures) (carried-called (file-done (c .before .before .before .before .before .before .before .before .before .before .before .before .args .l) (c .before .before .before .before .before .before .before .before .before .before .before .before .pre) (c .before .before .before .before .before .before .before .before .before .before .before .before .args .s .now) _ _ (c .before .before .before .before .before .before .before .before .before .file-check .ensures) (c .before .before .before .before .before .before .before .enum-told .given .1) _ _ _ _ _ (c .before .before .before .before .before .take-groups .ensures)) _ _ (c .before .before .before .before .before .take-groups .ensures .bytes))
+returns-2 c =
+    let at-file-check = c .before .before .before .before .before .before .before .before .before in
+    let start = at-file-check .before .before .before in
+    rw (c .cleared .ensures) (carried-called (file-done (start .args .l) (start .pre) (start .args .s .now) _ _ (at-file-check .file-check .ensures) (c .before .before .before .before .before .before .before .enum-told .given .1) _ _ _ _ _ (c .before .before .before .before .before .take-groups .ensures)) _ _ (c .before .before .before .before .before .take-groups .ensures .bytes))
 
 pub file-on-sound-spec : {M : Type 1} → statement M
 file-on-sound-spec =

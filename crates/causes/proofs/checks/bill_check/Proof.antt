@@ -39,15 +39,26 @@ same-requires c κs = search needs
 
 returns-5 : tie.Need-returns-5
 unfolding billCauses
-returns-5 c = rw (c .before .before .before .before .before .before .before .before .before .before .b .given .1, c .before .before .before .before .before .before .before .before .if2 .left, rw (c .before .before .before .before .before .before .same-code .ensures, c .before .before .before .before .before .byte .ensures) at (c .before .before .before .if3 .left), sym (c .before .same .ensures) ∙ c .if4 .taken)
+returns-5 c =
+    let at-if2 = c .before .before .before .before .before .before .before .before in
+    let at-b = at-if2 .before .before in
+    rw (at-b .b .given .1, at-if2 .if2 .left, rw (c .before .before .before .before .before .before .same-code .ensures, c .before .before .before .before .before .byte .ensures) at (c .before .before .before .if3 .left), sym (c .before .same .ensures) ∙ c .if4 .taken)
 
 returns-6 : tie.Need-returns-6
 unfolding billCauses
-returns-6 c = rw (c .before .before .before .before .before .before .before .before .before .before .before .before .b .given .1, c .before .before .before .before .before .before .before .before .before .before .if2 .left, rw (c .before .before .before .before .before .before .before .before .same-code .ensures, c .before .before .before .before .before .before .before .byte .ensures) at (c .before .before .before .before .before .if3 .left), sym (c .before .before .before .same .ensures) ∙ c .before .before .if4 .left, eq-eqb _ _ (c .if5 .taken))
+returns-6 c =
+    let at-same-code = c .before .before .before .before .before .before .before .before in
+    let at-if2 = at-same-code .before .before in
+    let at-b = at-if2 .before .before in
+    rw (at-b .b .given .1, at-if2 .if2 .left, rw (at-same-code .same-code .ensures, c .before .before .before .before .before .before .before .byte .ensures) at (c .before .before .before .before .before .if3 .left), sym (c .before .before .before .same .ensures) ∙ c .before .before .if4 .left, eq-eqb _ _ (c .if5 .taken))
 
 returns-7 : tie.Need-returns-7
 unfolding billCauses
-returns-7 c = rw (c .before .before .before .before .before .before .before .before .before .before .before .before .b .given .1, c .before .before .before .before .before .before .before .before .before .before .if2 .left, rw (c .before .before .before .before .before .before .before .before .same-code .ensures, c .before .before .before .before .before .before .before .byte .ensures) at (c .before .before .before .before .before .if3 .left), sym (c .before .before .before .same .ensures) ∙ c .before .before .if4 .left, ne-eqb _ _ (c .if5 .left))
+returns-7 c =
+    let at-same-code = c .before .before .before .before .before .before .before .before in
+    let at-if2 = at-same-code .before .before in
+    let at-b = at-if2 .before .before in
+    rw (at-b .b .given .1, at-if2 .if2 .left, rw (at-same-code .same-code .ensures, c .before .before .before .before .before .before .before .byte .ensures) at (c .before .before .before .before .before .if3 .left), sym (c .before .before .before .same .ensures) ∙ c .before .before .if4 .left, ne-eqb _ _ (c .if5 .left))
 
 pub bill-check-spec : {M : Type 1} → statement M
 bill-check-spec =

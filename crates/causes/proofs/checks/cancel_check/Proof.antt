@@ -36,11 +36,15 @@ lacks-requires c κs = search needs
 
 returns-5 : tie.Need-returns-5
 unfolding cancelCauses
-returns-5 c = rw (sym (c .before .before .before .before .before .before .before .before .good-identity .ensures) ∙ not-false _ (c .before .before .before .before .before .before .before .if1 .left), le-ltb _ _ (c .before .before .before .before .before .before .if2 .left), c .before .before .before .before .b .given .1, c .before .before .if3 .left, sym (c .before .lacks .ensures) ∙ c .if4 .taken)
+returns-5 c =
+    let at-good-identity = c .before .before .before .before .before .before .before .before in
+    rw (sym (at-good-identity .good-identity .ensures) ∙ not-false _ (c .before .before .before .before .before .before .before .if1 .left), le-ltb _ _ (c .before .before .before .before .before .before .if2 .left), c .before .before .before .before .b .given .1, c .before .before .if3 .left, sym (c .before .lacks .ensures) ∙ c .if4 .taken)
 
 returns-6 : tie.Need-returns-6
 unfolding cancelCauses
-returns-6 c = rw (sym (c .before .before .before .before .before .before .before .before .good-identity .ensures) ∙ not-false _ (c .before .before .before .before .before .before .before .if1 .left), le-ltb _ _ (c .before .before .before .before .before .before .if2 .left), c .before .before .before .before .b .given .1, c .before .before .if3 .left, sym (c .before .lacks .ensures) ∙ c .if4 .left)
+returns-6 c =
+    let at-good-identity = c .before .before .before .before .before .before .before .before in
+    rw (sym (at-good-identity .good-identity .ensures) ∙ not-false _ (c .before .before .before .before .before .before .before .if1 .left), le-ltb _ _ (c .before .before .before .before .before .before .if2 .left), c .before .before .before .before .b .given .1, c .before .before .if3 .left, sym (c .before .lacks .ensures) ∙ c .if4 .left)
 
 pub cancel-check-spec : {M : Type 1} → statement M
 cancel-check-spec =

@@ -31,7 +31,8 @@ valid-requires-3 c κs = search needs
 returns : tie.Need-returns
 unfolding requestTests
 returns c =
-    let r = c .before .before .before .before .before .before .before .before .before .before .before .before .before .args .r in
+    let start = c .before .before .before .before .before .before .before .before .before .before .before .before .before in
+    let r = start .args .r in
     rw (c .before .before .before .before .before .before .good-code .ensures, c .before .before .before .before .before .good-identity .ensures, c .before .before .before .before .good-product .ensures, c .before .before .before .valid .ensures, c .before .before .valid2 .ensures, c .before .fits2 .ensures, c .valid3 .ensures)
     (all-joined (isRateCode (fiveOf (r .code))) (drop 1 (requestTests r)))
 

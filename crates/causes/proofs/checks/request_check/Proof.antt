@@ -33,7 +33,10 @@ enum-known-check c = search needs
 
 returns-4 : tie.Need-returns-4
 unfolding requestCauses
-returns-4 c = rw (sym (c .before .before .before .before .before .before .before .before .before .good-request .ensures) ∙ not-false _ (c .before .before .before .before .before .before .before .before .if1 .left), le-ltb _ _ (c .before .before .before .before .before .before .before .if2 .left), sym (c .before .before .before .before .before .before2 .ensures) ∙ c .before .before .before .before .if3 .left, first-stop _ _ (sym (c .before .before .before .bill-check .ensures) ∙ c .before .check .given .1))
+returns-4 c =
+    let at-if1 = c .before .before .before .before .before .before .before .before in
+    let at-good-request = at-if1 .before in
+    rw (sym (at-good-request .good-request .ensures) ∙ not-false _ (at-if1 .if1 .left), le-ltb _ _ (c .before .before .before .before .before .before .before .if2 .left), sym (c .before .before .before .before .before .before2 .ensures) ∙ c .before .before .before .before .if3 .left, first-stop _ _ (sym (c .before .before .before .bill-check .ensures) ∙ c .before .check .given .1))
 
 enum-told : tie.Need-enum-told
 enum-told c = search needs
@@ -43,11 +46,19 @@ lacks-requires c κs = search needs
 
 returns-5 : tie.Need-returns-5
 unfolding requestCauses
-returns-5 c = rw (sym (c .before .before .before .before .before .before .before .before .before .before .good-request .ensures) ∙ not-false _ (c .before .before .before .before .before .before .before .before .before .if1 .left), le-ltb _ _ (c .before .before .before .before .before .before .before .before .if2 .left), sym (c .before .before .before .before .before .before .before2 .ensures) ∙ c .before .before .before .before .before .if3 .left, first-clear _ _ (sym (c .before .before .before .before .bill-check .ensures) ∙ c .before .before .enum-told .given .1), sym (c .before .lacks .ensures) ∙ c .if4 .taken)
+returns-5 c =
+    let at-if2 = c .before .before .before .before .before .before .before .before in
+    let at-if1 = at-if2 .before in
+    let at-good-request = at-if1 .before in
+    rw (sym (at-good-request .good-request .ensures) ∙ not-false _ (at-if1 .if1 .left), le-ltb _ _ (at-if2 .if2 .left), sym (c .before .before .before .before .before .before .before2 .ensures) ∙ c .before .before .before .before .before .if3 .left, first-clear _ _ (sym (c .before .before .before .before .bill-check .ensures) ∙ c .before .before .enum-told .given .1), sym (c .before .lacks .ensures) ∙ c .if4 .taken)
 
 returns-6 : tie.Need-returns-6
 unfolding requestCauses
-returns-6 c = rw (sym (c .before .before .before .before .before .before .before .before .before .before .good-request .ensures) ∙ not-false _ (c .before .before .before .before .before .before .before .before .before .if1 .left), le-ltb _ _ (c .before .before .before .before .before .before .before .before .if2 .left), sym (c .before .before .before .before .before .before .before2 .ensures) ∙ c .before .before .before .before .before .if3 .left, first-clear _ _ (sym (c .before .before .before .before .bill-check .ensures) ∙ c .before .before .enum-told .given .1), sym (c .before .lacks .ensures) ∙ c .if4 .left)
+returns-6 c =
+    let at-if2 = c .before .before .before .before .before .before .before .before in
+    let at-if1 = at-if2 .before in
+    let at-good-request = at-if1 .before in
+    rw (sym (at-good-request .good-request .ensures) ∙ not-false _ (at-if1 .if1 .left), le-ltb _ _ (at-if2 .if2 .left), sym (c .before .before .before .before .before .before .before2 .ensures) ∙ c .before .before .before .before .before .if3 .left, first-clear _ _ (sym (c .before .before .before .before .bill-check .ensures) ∙ c .before .before .enum-told .given .1), sym (c .before .lacks .ensures) ∙ c .if4 .left)
 
 pub request-check-spec : {M : Type 1} → statement M
 request-check-spec =

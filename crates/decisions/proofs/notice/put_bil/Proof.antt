@@ -19,7 +19,9 @@ same-length : tie.Need-same-length
 same-length c = search needs
 
 returns-2 : tie.Need-returns-2
-returns-2 c = rw (not-false (c .before .before .before .before .before .before .before .before .args .writes) (c .before .before .before .before .before .before .if1 .left)) (rw (← c .before .before .before .before .before .previous .ensures) (c .before .before .write .ensures))
+returns-2 c =
+    let start = c .before .before .before .before .before .before .before .before in
+    rw (not-false (start .args .writes) (c .before .before .before .before .before .before .if1 .left)) (rw (← c .before .before .before .before .before .previous .ensures) (c .before .before .write .ensures))
 
 pub put-bil-spec : {M : Type 1} → statement M
 put-bil-spec = tie.close (tie.spec returns previous-requires write-requires same-length returns-2)

@@ -16,7 +16,9 @@ same-length : tie.Need-same-length
 same-length c = search needs
 
 returns-2 : tie.Need-returns-2
-returns-2 c = rw (not-false (c .before .before .before .before .before .before .before .before .args .writes) (c .before .before .before .before .before .before .if1 .left)) (c .before .before .write .ensures)
+returns-2 c =
+    let start = c .before .before .before .before .before .before .before .before in
+    rw (not-false (start .args .writes) (c .before .before .before .before .before .before .if1 .left)) (c .before .before .write .ensures)
 
 pub put-cxl-spec : {M : Type 1} → statement M
 put-cxl-spec = tie.close (tie.spec returns write-requires same-length returns-2)

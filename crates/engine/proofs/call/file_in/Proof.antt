@@ -26,14 +26,18 @@ same-length : tie.Need-same-length
 same-length c = search needs
 
 returns : tie.Need-returns
-returns c = stopped-in (c .before .before .before .before .before .before .before .before .before .args .writes) _ _ _ (sound-holds _ (c .before .before .before .before .before .before .before .before .before .pre .0)) _ (file-stops (ledgerOf (c .before .before .before .before .before .before .before .before .before .args .ws .now)) (c .before .before .before .before .before .before .before .before .before .pre .0) (c .before .before .before .before .before .before .before .before .before .args .s .now) (c .before .before .before .before .before .before .before .before .before .args .room) _ (c .before .before .before .file-check .ensures ∙ ap (λ (t : LedgerHeader). first (fileCauses (c .before .before .before .before .before .before .before .before .before .args .s .now) (c .before .before .before .before .before .before .before .before .before .args .room) (t .tracking) (t .confirmation))) (c .before .before .before .before .header .ensures)) _ (c .before .check .given .1))
+returns c =
+    let start = c .before .before .before .before .before .before .before .before .before in
+    stopped-in (start .args .writes) _ _ _ (sound-holds _ (start .pre .0)) _ (file-stops (ledgerOf (start .args .ws .now)) (start .pre .0) (start .args .s .now) (start .args .room) _ (c .before .before .before .file-check .ensures ∙ ap (λ (t : LedgerHeader). first (fileCauses (start .args .s .now) (start .args .room) (t .tracking) (t .confirmation))) (c .before .before .before .before .header .ensures)) _ (c .before .check .given .1))
 
 enum-told : tie.Need-enum-told
 enum-told c = search needs
 
 take-requires : tie.Need-take-requires
-take-requires c κs = let x = file-short (ledgerOf (c .before .before .before .before .before .before .before .before .before .before .args .ws .now)) (c .before .before .before .before .before .before .before .before .before .before .pre .0) (c .before .before .before .before .before .before .before .before .before .before .args .s .now) (c .before .before .before .before .before .before .before .before .before .before .args .room) _ (c .before .before .before .before .file-check .ensures ∙ ap (λ (t : LedgerHeader). first (fileCauses (c .before .before .before .before .before .before .before .before .before .before .args .s .now) (c .before .before .before .before .before .before .before .before .before .before .args .room) (t .tracking) (t .confirmation))) (c .before .before .before .before .before .header .ensures)) (c .before .before .enum-told .given .1) in
-    ((omega (arith, x .0), omega arith, λ w. omega (arith, x .1, c .before .before .before .before .before .before .before .before .before .before .pre .1 w)), ((sound-holds _ (c .before .before .before .before .before .before .before .before .before .before .pre .0)), sound-ready _ (c .before .before .before .before .before .before .before .before .before .before .pre .0)))
+take-requires c κs =
+    let start = c .before .before .before .before .before .before .before .before .before .before in
+    let x = file-short (ledgerOf (start .args .ws .now)) (start .pre .0) (start .args .s .now) (start .args .room) _ (c .before .before .before .before .file-check .ensures ∙ ap (λ (t : LedgerHeader). first (fileCauses (start .args .s .now) (start .args .room) (t .tracking) (t .confirmation))) (c .before .before .before .before .before .header .ensures)) (c .before .before .enum-told .given .1) in
+    ((omega (arith, x .0), omega arith, λ w. omega (arith, x .1, start .pre .1 w)), ((sound-holds _ (start .pre .0)), sound-ready _ (start .pre .0)))
 
 cleared-requires : tie.Need-cleared-requires
 cleared-requires c κs = (omega (arith, c .before .before .before .before .take .ensures .1 .came), omega (arith, c .before .before .before .before .take .ensures .1 .went))
@@ -45,7 +49,12 @@ same-length-3 : tie.Need-same-length-3
 same-length-3 c = search needs
 
 returns-2 : tie.Need-returns-2
-returns-2 c = rw (c .cleared .ensures) (carried-in (c .before .before .before .before .before .before .before .before .before .before .before .before .before .before .before .before .args .writes) _ _ _ (sound-holds _ (c .before .before .before .before .before .before .before .before .before .before .before .before .before .before .before .before .pre .0)) _ _ _ (file-done (ledgerOf (c .before .before .before .before .before .before .before .before .before .before .before .before .before .before .before .before .args .ws .now)) (c .before .before .before .before .before .before .before .before .before .before .before .before .before .before .before .before .pre .0) (c .before .before .before .before .before .before .before .before .before .before .before .before .before .before .before .before .args .s .now) (c .before .before .before .before .before .before .before .before .before .before .before .before .before .before .before .before .args .room) _ (c .before .before .before .before .before .before .before .before .before .before .file-check .ensures ∙ ap (λ (t : LedgerHeader). first (fileCauses (c .before .before .before .before .before .before .before .before .before .before .before .before .before .before .before .before .args .s .now) (c .before .before .before .before .before .before .before .before .before .before .before .before .before .before .before .before .args .room) (t .tracking) (t .confirmation))) (c .before .before .before .before .before .before .before .before .before .before .before .header .ensures)) (c .before .before .before .before .before .before .before .before .enum-told .given .1) _ _ _ _ _ (c .before .before .before .before .before .take .ensures .1)) _ _ (c .before .before .before .before .before .take .ensures .0) refl (c .before .before .before .before .before .take .ensures .1 .bytes))
+returns-2 c =
+    let at-enum-told = c .before .before .before .before .before .before .before .before in
+    let at-file-check = at-enum-told .before .before in
+    let at-header = at-file-check .before in
+    let start = at-header .before .before .before .before .before in
+    rw (c .cleared .ensures) (carried-in (start .args .writes) _ _ _ (sound-holds _ (start .pre .0)) _ _ _ (file-done (ledgerOf (start .args .ws .now)) (start .pre .0) (start .args .s .now) (start .args .room) _ (at-file-check .file-check .ensures ∙ ap (λ (t : LedgerHeader). first (fileCauses (start .args .s .now) (start .args .room) (t .tracking) (t .confirmation))) (at-header .header .ensures)) (at-enum-told .enum-told .given .1) _ _ _ _ _ (c .before .before .before .before .before .take .ensures .1)) _ _ (c .before .before .before .before .before .take .ensures .0) refl (c .before .before .before .before .before .take .ensures .1 .bytes))
 
 pub file-in-spec : {M : Type 1} → statement M
 file-in-spec =

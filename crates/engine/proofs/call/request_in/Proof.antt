@@ -21,11 +21,15 @@ slot-requires : tie.Need-slot-requires
 slot-requires c κs = search needs
 
 bill-at-requires : tie.Need-bill-at-requires
-bill-at-requires c κs = ((sound-holds _ (c .before .before .before .before .before .before .before .before .pre .0)), c .before .slot .ensures .1)
+bill-at-requires c κs =
+    let start = c .before .before .before .before .before .before .before .before in
+    ((sound-holds _ (start .pre .0)), c .before .slot .ensures .1)
 
 request-requires : tie.Need-request-requires
-request-requires c κs = let q = sound-ready _ (c .before .before .before .before .before .before .before .before .before .pre .0) in
-    ((rw (c .before .before .before .before .before .header .ensures) (q .tracking), rw (c .before .before .before .before .before .header .ensures) (q .confirmation), rw (c .before .before .before .before .before .header .ensures) (q .count)), rw (c .bill-at .ensures) (sound-here (ledgerOf (c .before .before .before .before .before .before .before .before .before .args .ws .now)) (places-of _ (sound-holds _ (c .before .before .before .before .before .before .before .before .before .pre .0))) (c .before .before .before .before .before .before .before .before .before .pre .0) (c .before .before .before .before .before .before .before .before .before .args .r .identity) _ (found-is (c .before .before .before .before .before .before .before .before .before .args .ws .now) _ _ (c .before .before .before .before .before .header .ensures) _ (c .before .before .before .find .ensures)) _ (slot-is (c .before .before .before .before .before .before .before .before .before .args .ws .now) _ _ (c .before .before .before .before .before .header .ensures) _ (c .before .before .before .find .ensures) _ (c .before .before .slot .ensures .0))))
+request-requires c κs =
+    let start = c .before .before .before .before .before .before .before .before .before in
+    let q = sound-ready _ (start .pre .0) in
+    ((rw (c .before .before .before .before .before .header .ensures) (q .tracking), rw (c .before .before .before .before .before .header .ensures) (q .confirmation), rw (c .before .before .before .before .before .header .ensures) (q .count)), rw (c .bill-at .ensures) (sound-here (ledgerOf (start .args .ws .now)) (places-of _ (sound-holds _ (start .pre .0))) (start .pre .0) (start .args .r .identity) _ (found-is (start .args .ws .now) _ _ (c .before .before .before .before .before .header .ensures) _ (c .before .before .before .find .ensures)) _ (slot-is (start .args .ws .now) _ _ (c .before .before .before .before .before .header .ensures) _ (c .before .before .before .find .ensures) _ (c .before .before .slot .ensures .0))))
 
 enum-known-check : tie.Need-enum-known-check
 enum-known-check c = search needs
@@ -34,16 +38,27 @@ same-length : tie.Need-same-length
 same-length c = search needs
 
 returns : tie.Need-returns
-returns c = stopped-in (c .before .before .before .before .before .before .before .before .before .before .before .before .before .args .writes) _ _ _ (sound-holds _ (c .before .before .before .before .before .before .before .before .before .before .before .before .before .pre .0)) _ (request-stops (ledgerOf (c .before .before .before .before .before .before .before .before .before .before .before .before .before .args .ws .now)) (places-of _ (sound-holds _ (c .before .before .before .before .before .before .before .before .before .before .before .before .before .pre .0))) (c .before .before .before .before .before .before .before .before .before .before .before .before .before .pre .0) (c .before .before .before .before .before .before .before .before .before .before .before .before .before .args .r) (c .before .before .before .before .before .before .before .before .before .before .before .before .before .args .room) _ (found-is (c .before .before .before .before .before .before .before .before .before .before .before .before .before .args .ws .now) _ _ (c .before .before .before .before .before .before .before .before .before .header .ensures) _ (c .before .before .before .before .before .before .before .find .ensures)) _ (slot-is (c .before .before .before .before .before .before .before .before .before .before .before .before .before .args .ws .now) _ _ (c .before .before .before .before .before .before .before .before .before .header .ensures) _ (c .before .before .before .before .before .before .before .find .ensures) _ (c .before .before .before .before .before .before .slot .ensures .0)) _ (c .before .before .before .before .before .before .before .before .before .header .ensures) _ (c .before .before .before .before .bill-at .ensures) _ (c .before .before .before .request .ensures) _ (c .before .check .given .1))
+returns c =
+    let at-header = c .before .before .before .before .before .before .before .before .before in
+    let start = at-header .before .before .before .before in
+    stopped-in (start .args .writes) _ _ _ (sound-holds _ (start .pre .0)) _ (request-stops (ledgerOf (start .args .ws .now)) (places-of _ (sound-holds _ (start .pre .0))) (start .pre .0) (start .args .r) (start .args .room) _ (found-is (start .args .ws .now) _ _ (at-header .header .ensures) _ (c .before .before .before .before .before .before .before .find .ensures)) _ (slot-is (start .args .ws .now) _ _ (at-header .header .ensures) _ (c .before .before .before .before .before .before .before .find .ensures) _ (c .before .before .before .before .before .before .slot .ensures .0)) _ (at-header .header .ensures) _ (c .before .before .before .before .bill-at .ensures) _ (c .before .before .before .request .ensures) _ (c .before .check .given .1))
 
 enum-told : tie.Need-enum-told
 enum-told c = search needs
 
 put-bil-requires : tie.Need-put-bil-requires
-put-bil-requires c κs = λ z. omega (arith, c .before .before .before .before .before .before .before .before .before .before .before .before .before .before .before .pre .1 z, request-room (ledgerOf (c .before .before .before .before .before .before .before .before .before .before .before .before .before .before .before .args .ws .now)) (places-of _ (sound-holds _ (c .before .before .before .before .before .before .before .before .before .before .before .before .before .before .before .pre .0))) (c .before .before .before .before .before .before .before .before .before .before .before .before .before .before .before .pre .0) (c .before .before .before .before .before .before .before .before .before .before .before .before .before .before .before .args .r) (c .before .before .before .before .before .before .before .before .before .before .before .before .before .before .before .args .room) _ (found-is (c .before .before .before .before .before .before .before .before .before .before .before .before .before .before .before .args .ws .now) _ _ (c .before .before .before .before .before .before .before .before .before .before .before .header .ensures) _ (c .before .before .before .before .before .before .before .before .before .find .ensures)) _ (slot-is (c .before .before .before .before .before .before .before .before .before .before .before .before .before .before .before .args .ws .now) _ _ (c .before .before .before .before .before .before .before .before .before .before .before .header .ensures) _ (c .before .before .before .before .before .before .before .before .before .find .ensures) _ (c .before .before .before .before .before .before .before .before .slot .ensures .0)) _ (c .before .before .before .before .before .before .before .before .before .before .before .header .ensures) _ (c .before .before .before .before .before .before .bill-at .ensures) _ (c .before .before .before .before .before .request .ensures) (c .before .before .before .enum-told .given .1))
+put-bil-requires c κs =
+    let at-slot = c .before .before .before .before .before .before .before .before in
+    let at-find = at-slot .before in
+    let at-header = at-find .before .before in
+    let start = at-header .before .before .before .before in
+    λ z. omega (arith, start .pre .1 z, request-room (ledgerOf (start .args .ws .now)) (places-of _ (sound-holds _ (start .pre .0))) (start .pre .0) (start .args .r) (start .args .room) _ (found-is (start .args .ws .now) _ _ (at-header .header .ensures) _ (at-find .find .ensures)) _ (slot-is (start .args .ws .now) _ _ (at-header .header .ensures) _ (at-find .find .ensures) _ (at-slot .slot .ensures .0)) _ (at-header .header .ensures) _ (c .before .before .before .before .before .before .bill-at .ensures) _ (c .before .before .before .before .before .request .ensures) (c .before .before .before .enum-told .given .1))
 
 update-requires : tie.Need-update-requires
-update-requires c κs = ((sound-holds _ (c .before .before .before .before .before .before .before .before .before .before .before .before .before .before .before .before .before .before .before .pre .0)), c .before .before .before .before .before .before .before .before .before .before .before .before .slot .ensures .1)
+update-requires c κs =
+    let at-slot = c .before .before .before .before .before .before .before .before .before .before .before .before in
+    let start = at-slot .before .before .before .before .before .before .before in
+    ((sound-holds _ (start .pre .0)), at-slot .slot .ensures .1)
 
 noticed-requires : tie.Need-noticed-requires
 noticed-requires c κs = search needs
@@ -55,7 +70,15 @@ same-length-3 : tie.Need-same-length-3
 same-length-3 c = search needs
 
 returns-2 : tie.Need-returns-2
-returns-2 c = rw (c .noticed .ensures) (carried-in (c .before .before .before .before .before .before .before .before .before .before .before .before .before .before .before .before .before .before .before .before .before .before .before .args .writes) _ _ _ (sound-holds _ (c .before .before .before .before .before .before .before .before .before .before .before .before .before .before .before .before .before .before .before .before .before .before .before .pre .0)) _ _ _ (request-done (ledgerOf (c .before .before .before .before .before .before .before .before .before .before .before .before .before .before .before .before .before .before .before .before .before .before .before .args .ws .now)) (places-of _ (sound-holds _ (c .before .before .before .before .before .before .before .before .before .before .before .before .before .before .before .before .before .before .before .before .before .before .before .pre .0))) (c .before .before .before .before .before .before .before .before .before .before .before .before .before .before .before .before .before .before .before .before .before .before .before .pre .0) (c .before .before .before .before .before .before .before .before .before .before .before .before .before .before .before .before .before .before .before .before .before .before .before .args .r) (c .before .before .before .before .before .before .before .before .before .before .before .before .before .before .before .before .before .before .before .before .before .before .before .args .room) _ (found-is (c .before .before .before .before .before .before .before .before .before .before .before .before .before .before .before .before .before .before .before .before .before .before .before .args .ws .now) _ _ (c .before .before .before .before .before .before .before .before .before .before .before .before .before .before .before .before .before .before .before .header .ensures) _ (c .before .before .before .before .before .before .before .before .before .before .before .before .before .before .before .before .before .find .ensures)) _ (slot-is (c .before .before .before .before .before .before .before .before .before .before .before .before .before .before .before .before .before .before .before .before .before .before .before .args .ws .now) _ _ (c .before .before .before .before .before .before .before .before .before .before .before .before .before .before .before .before .before .before .before .header .ensures) _ (c .before .before .before .before .before .before .before .before .before .before .before .before .before .before .before .before .before .find .ensures) _ (c .before .before .before .before .before .before .before .before .before .before .before .before .before .before .before .before .slot .ensures .0)) _ (c .before .before .before .before .before .before .before .before .before .before .before .before .before .before .before .before .before .before .before .header .ensures) _ (c .before .before .before .before .before .before .before .before .before .before .before .before .before .before .bill-at .ensures) _ (c .before .before .before .before .before .before .before .before .before .before .before .before .before .request .ensures) (c .before .before .before .before .before .before .before .before .before .before .before .enum-told .given .1)) _ _ (c .before .before .before .update .ensures .0) (c .before .before .before .update .ensures .1) (c .before .before .before .before .before .before .before .put-bil .ensures))
+returns-2 c =
+    let at-enum-told = c .before .before .before .before .before .before .before .before .before .before .before in
+    let at-request = at-enum-told .before .before in
+    let at-bill-at = at-request .before in
+    let at-slot = at-bill-at .before .before in
+    let at-find = at-slot .before in
+    let at-header = at-find .before .before in
+    let start = at-header .before .before .before .before in
+    rw (c .noticed .ensures) (carried-in (start .args .writes) _ _ _ (sound-holds _ (start .pre .0)) _ _ _ (request-done (ledgerOf (start .args .ws .now)) (places-of _ (sound-holds _ (start .pre .0))) (start .pre .0) (start .args .r) (start .args .room) _ (found-is (start .args .ws .now) _ _ (at-header .header .ensures) _ (at-find .find .ensures)) _ (slot-is (start .args .ws .now) _ _ (at-header .header .ensures) _ (at-find .find .ensures) _ (at-slot .slot .ensures .0)) _ (at-header .header .ensures) _ (at-bill-at .bill-at .ensures) _ (at-request .request .ensures) (at-enum-told .enum-told .given .1)) _ _ (c .before .before .before .update .ensures .0) (c .before .before .before .update .ensures .1) (c .before .before .before .before .before .before .before .put-bil .ensures))
 
 pub request-in-spec : {M : Type 1} → statement M
 request-in-spec =

@@ -38,11 +38,15 @@ header-at-requires : tie.Need-header-at-requires Inv-loop μ-loop
 header-at-requires c κs = omega (arith, c .before .loop .inv .walk .within, c .before .before .before .before .before .before .before .pre .0 .1)
 
 array-read-duplicate : tie.Need-array-read-duplicate Inv-loop μ-loop
-array-read-duplicate c = omega (arith, c .before .before .before .loop .inv .walk .within, c .before .before .before .before .before .before .before .before .before .pre .0 .0)
+array-read-duplicate c =
+    let start = c .before .before .before .before .before .before .before .before .before in
+    omega (arith, c .before .before .before .loop .inv .walk .within, start .pre .0 .0)
 
 turn-requires : tie.Need-turn-requires Inv-loop μ-loop
-turn-requires c κs = let e = sym (c .before .before .before .header-at .ensures) ∙ c .before .before .if1 .taken in
-    ((omega arith, c .before .before .before .before .before .before .before .before .before .before .before .pre .0 .1, c .before .before .before .before .before .before .before .before .before .before .before .pre .0 .0, walk-room _ _ _ _ _ _ _ _ _ (c .before .before .before .before .before .loop .inv .walk) (omega arith) e (c .before .before .before .before .before .before .before .before .before .before .before .pre .0 .2)), (c .before .before .before .before .before .loop .inv .holds, walk-fine _ _ _ _ _ _ _ _ _ (c .before .before .before .before .before .loop .inv .walk) (omega arith) e (c .before .before .before .before .before .before .before .before .before .before .before .pre .0 .0)))
+turn-requires c κs =
+    let start = c .before .before .before .before .before .before .before .before .before .before .before in
+    let e = sym (c .before .before .before .header-at .ensures) ∙ c .before .before .if1 .taken in
+    ((omega arith, start .pre .0 .1, start .pre .0 .0, walk-room _ _ _ _ _ _ _ _ _ (c .before .before .before .before .before .loop .inv .walk) (omega arith) e (start .pre .0 .2)), (c .before .before .before .before .before .loop .inv .holds, walk-fine _ _ _ _ _ _ _ _ _ (c .before .before .before .before .before .loop .inv .walk) (omega arith) e (start .pre .0 .0)))
 
 add-i : tie.Need-add-i Inv-loop μ-loop
 add-i c = search needs
@@ -51,12 +55,14 @@ loop-less : tie.Need-loop-less Inv-loop μ-loop
 loop-less c = omega (arith, c .before .before .before .loop .inv .walk .within)
 
 loop-again : tie.Need-loop-again Inv-loop μ-loop
-loop-again c = let h : c .before .before .before .loop .i < c .before .before .before .before .before .before .before .before .before .args .n = omega arith in
+loop-again c =
+    let start = c .before .before .before .before .before .before .before .before .before in
+    let h : c .before .before .before .loop .i < start .args .n = omega arith in
     let m = c .before .before .before .before .before .marks .ensures .0 (c .before .before .before .loop .i) h in
     ⊎-elim
     (λ w.
     let e = sym (c .before .header-at .ensures) ∙ w .0 .taken in
-    rw (w .8, w .9, w .10) (record { holds = w .3 .ensures .0; walk = walk-turn _ _ _ _ _ _ _ _ _ (c .before .before .before .loop .inv .walk) h e (c .before .before .before .before .before .before .before .before .before .pre .0 .1) _ m (c .before .before .before .before .before .before .before .before .before .pre .0 .2) _ _ _ (w .3 .ensures .1) }))
+    rw (w .8, w .9, w .10) (record { holds = w .3 .ensures .0; walk = walk-turn _ _ _ _ _ _ _ _ _ (c .before .before .before .loop .inv .walk) h e (start .pre .0 .1) _ m (start .pre .0 .2) _ _ _ (w .3 .ensures .1) }))
     (λ w. rw (w .1, w .2, w .3) (record { holds = c .before .before .before .loop .inv .holds; walk = walk-detail _ _ _ _ _ _ _ _ _ (c .before .before .before .loop .inv .walk) h (sym (c .before .header-at .ensures) ∙ w .0 .left) }))
     (c .if1 .came)
 

@@ -26,10 +26,15 @@ bill-at-requires : tie.Need-bill-at-requires
 bill-at-requires c κs = search needs
 
 turn-requires : tie.Need-turn-requires
-turn-requires c κs = (c .before .before .before .before .before .before .before .before .before .before .before .before .pre .0, (turn-calm (ledgerOf (c .before .before .before .before .before .before .before .before .before .before .before .before .args .ws .now)) (c .before .before .before .before .before .before .before .before .before .before .before .before .args .c) (c .before .before .before .before .before .before .before .before .before .before .before .before .pre .1 .1) (c .before .before .before .before .before .before .before .before .before .before .before .before .args .s .now) (c .before .before .before .before .before .before .before .before .before .before .before .before .args .i) (c .before .before .before .before .before .before .before .before .before .before .before .before .args .n) _ (c .before .before .before .before .before .identity-at .ensures) _ (found-is (c .before .before .before .before .before .before .before .before .before .before .before .before .args .ws .now) _ _ (c .before .before .before .before .before .before .before .header .ensures) _ (c .before .before .before .before .find .ensures)) _ (slot-is (c .before .before .before .before .before .before .before .before .before .before .before .before .args .ws .now) _ _ (c .before .before .before .before .before .before .before .header .ensures) _ (c .before .before .before .before .find .ensures) _ (c .before .before .before .slot .ensures .0)) _ (c .before .bill-at .ensures), c .before .before .before .before .before .before .before .before .before .before .before .before .pre .1 .1 .few, rw (c .before .before .before .before .before .before .before .header .ensures) (c .before .before .before .before .before .before .before .before .before .before .before .before .pre .1 .1 .tracking), rw (c .before .before .before .before .before .before .before .header .ensures) (c .before .before .before .before .before .before .before .before .before .before .before .before .pre .1 .1 .confirmation)))
+turn-requires c κs =
+    let start = c .before .before .before .before .before .before .before .before .before .before .before .before in
+    (start .pre .0, (turn-calm (ledgerOf (start .args .ws .now)) (start .args .c) (start .pre .1 .1) (start .args .s .now) (start .args .i) (start .args .n) _ (c .before .before .before .before .before .identity-at .ensures) _ (found-is (start .args .ws .now) _ _ (c .before .before .before .before .before .before .before .header .ensures) _ (c .before .before .before .before .find .ensures)) _ (slot-is (start .args .ws .now) _ _ (c .before .before .before .before .before .before .before .header .ensures) _ (c .before .before .before .before .find .ensures) _ (c .before .before .before .slot .ensures .0)) _ (c .before .bill-at .ensures), start .pre .1 .1 .few, rw (c .before .before .before .before .before .before .before .header .ensures) (start .pre .1 .1 .tracking), rw (c .before .before .before .before .before .before .before .header .ensures) (start .pre .1 .1 .confirmation)))
 
 update-requires : tie.Need-update-requires
-update-requires c κs = (c .before .before .before .before .before .before .before .before .before .before .before .before .before .before .before .before .before .pre .1 .0, c .before .before .before .before .before .before .before .before .slot .ensures .1)
+update-requires c κs =
+    let at-slot = c .before .before .before .before .before .before .before .before in
+    let start = at-slot .before .before .before .before .before .before .before .before .before in
+    (start .pre .1 .0, at-slot .slot .ensures .1)
 
 same-length : tie.Need-same-length
 same-length c = search needs
@@ -38,7 +43,15 @@ same-length-2 : tie.Need-same-length-2
 same-length-2 c = search needs
 
 returns : tie.Need-returns
-returns c = (c .before .before .before .update .ensures .0, turn-on (ledgerOf (c .before .before .before .before .before .before .before .before .before .before .before .before .before .before .before .before .before .before .before .before .before .args .ws .now)) (c .before .before .before .before .before .before .before .before .before .before .before .before .before .before .before .before .before .before .before .before .before .args .c) (c .before .before .before .before .before .before .before .before .before .before .before .before .before .before .before .before .before .before .before .before .before .pre .1 .1) (c .before .before .before .before .before .before .before .before .before .before .before .before .before .before .before .before .before .before .before .before .before .args .s .now) (c .before .before .before .before .before .before .before .before .before .before .before .before .before .before .before .before .before .before .before .before .before .args .i) (c .before .before .before .before .before .before .before .before .before .before .before .before .before .before .before .before .before .before .before .before .before .args .n) _ (c .before .before .before .before .before .before .before .before .before .before .before .before .before .before .identity-at .ensures) _ (found-is (c .before .before .before .before .before .before .before .before .before .before .before .before .before .before .before .before .before .before .before .before .before .args .ws .now) _ _ (c .before .before .before .before .before .before .before .before .before .before .before .before .before .before .before .before .header .ensures) _ (c .before .before .before .before .before .before .before .before .before .before .before .before .before .find .ensures)) _ (slot-is (c .before .before .before .before .before .before .before .before .before .before .before .before .before .before .before .before .before .before .before .before .before .args .ws .now) _ _ (c .before .before .before .before .before .before .before .before .before .before .before .before .before .before .before .before .header .ensures) _ (c .before .before .before .before .before .before .before .before .before .before .before .before .before .find .ensures) _ (c .before .before .before .before .before .before .before .before .before .before .before .before .slot .ensures .0)) _ (c .before .before .before .before .before .before .before .before .before .before .bill-at .ensures) (c .before .before .before .before .before .before .before .before .before .before .before .before .before .before .before .before .before .before .before .before .before .args .duplicate) (c .before .before .before .before .before .before .before .before .before .before .before .before .before .before .before .before .before .before .before .before .before .args .writes) (c .before .before .before .before .before .before .before .before .before .before .before .before .before .before .before .before .before .before .before .before .before .args .out .now) _ (c .before .before .before .before .before .before .before .before .turn .result) (turned-here (c .before .before .before .before .before .before .before .before .before .before .before .before .before .before .before .before .before .before .before .before .before .args .duplicate) (c .before .before .before .before .before .before .before .before .before .before .before .before .before .find .result) (c .before .before .before .before .before .before .before .before .before .before .bill-at .result) (groupAt (c .before .before .before .before .before .before .before .before .before .before .before .before .before .before .before .before .before .before .before .before .before .args .s .now) (c .before .before .before .before .before .before .before .before .before .before .before .before .before .before .before .before .before .before .before .before .before .args .i) (c .before .before .before .before .before .before .before .before .before .before .before .before .before .before .before .before .before .before .before .before .before .args .n)) (c .before .before .before .before .before .before .before .before .before .before .before .before .before .before .before .before .before .before .before .before .before .args .c) (c .before .before .before .before .before .before .before .before .before .before .before .before .before .before .before .before .before .before .before .before .before .args .writes) (c .before .before .before .before .before .before .before .before .before .before .before .before .before .before .before .before .before .before .before .before .before .args .out .now) _ (c .before .before .before .before .before .before .before .before .turn .result) (c .before .before .before .before .before .before .before .before .before .before .before .before .before .before .before .before .header .result) (headerOf (ledgerOf (c .before .before .before .before .before .before .before .before .before .before .before .before .before .before .before .before .before .before .before .before .before .args .ws .now))) (c .before .before .before .before .before .before .before .before .before .before .before .before .before .before .before .before .header .ensures) (c .before .before .before .before .before .before .before .before .turn .ensures)) _ (c .before .before .before .update .ensures .1))
+returns c =
+    let at-turn = c .before .before .before .before .before .before .before .before in
+    let at-bill-at = at-turn .before .before in
+    let at-slot = at-bill-at .before .before in
+    let at-find = at-slot .before in
+    let at-identity-at = at-find .before in
+    let at-header = at-identity-at .before .before in
+    let start = at-header .before .before .before .before .before in
+    (c .before .before .before .update .ensures .0, turn-on (ledgerOf (start .args .ws .now)) (start .args .c) (start .pre .1 .1) (start .args .s .now) (start .args .i) (start .args .n) _ (at-identity-at .identity-at .ensures) _ (found-is (start .args .ws .now) _ _ (at-header .header .ensures) _ (at-find .find .ensures)) _ (slot-is (start .args .ws .now) _ _ (at-header .header .ensures) _ (at-find .find .ensures) _ (at-slot .slot .ensures .0)) _ (at-bill-at .bill-at .ensures) (start .args .duplicate) (start .args .writes) (start .args .out .now) _ (at-turn .turn .result) (turned-here (start .args .duplicate) (at-find .find .result) (at-bill-at .bill-at .result) (groupAt (start .args .s .now) (start .args .i) (start .args .n)) (start .args .c) (start .args .writes) (start .args .out .now) _ (at-turn .turn .result) (at-header .header .result) (headerOf (ledgerOf (start .args .ws .now))) (at-header .header .ensures) (at-turn .turn .ensures)) _ (c .before .before .before .update .ensures .1))
 
 pub turn-spec : {M : Type 1} → statement M
 turn-spec =

@@ -48,7 +48,10 @@ same-length-2 : tie.Need-same-length-2
 same-length-2 c = search needs
 
 returns : tie.Need-returns
-returns c = rw (c .before .before .before .before .before .before .before .before .body .given .1) (made-by (c .before .before .before .before .before .before .before .before .before .before .before .before .before .args .writes) (c .before .before .before .before .before .before .before .before .before .before .before .before .before .args .room) (c .before .before .before .before .before .before .before .before .before .before .before .before .before .args .ws .now) (c .before .before .before .before .before .before .before .before .before .before .before .before .before .args .out .now) (c .before .before .before .before .before .before .before .before .before .before .before .before .before .pre .0 .0) (c .before .before .before .before .before .before .before .before .before .before .before .before .before .args .s .now) _ tt _ _ _ (c .before .before .before .before .request-in .ensures .ledger) (c .before .before .before .before .request-in .ensures .answer) (c .before .before .before .before .request-in .ensures .bytes))
+returns c =
+    let at-body = c .before .before .before .before .before .before .before .before in
+    let start = at-body .before .before .before .before .before in
+    rw (at-body .body .given .1) (made-by (start .args .writes) (start .args .room) (start .args .ws .now) (start .args .out .now) (start .pre .0 .0) (start .args .s .now) _ tt _ _ _ (c .before .before .before .before .request-in .ensures .ledger) (c .before .before .before .before .request-in .ensures .answer) (c .before .before .before .before .request-in .ensures .bytes))
 
 same-length-3 : tie.Need-same-length-3
 same-length-3 c = search needs
@@ -58,7 +61,8 @@ same-length-4 c = search needs
 
 returns-2 : tie.Need-returns-2
 returns-2 c =
-    let start = c .before .before .before .before .before .before .before .before .before .before .before .before in
+    let at-before = c .before .before .before .before .before .before .before .before .before .before .before in
+    let start = at-before .before in
     rw (c .before .before .before .before .before .before .before .enum-told .given .1) (made-by (start .args .writes) (start .args .room) (start .args .ws .now) (start .args .out .now) (start .pre .0 .0) (start .args .s .now) _ tt _ _ _ (c .before .before .before .before .file-in .ensures .ledger) (c .before .before .before .before .file-in .ensures .answer) (c .before .before .before .before .file-in .ensures .bytes))
 
 same-length-5 : tie.Need-same-length-5
@@ -68,14 +72,18 @@ same-length-6 : tie.Need-same-length-6
 same-length-6 c = search needs
 
 returns-3 : tie.Need-returns-3
-returns-3 c = rw (c .before .before .before .before .before .before .before .before .body2 .given .1) (made-by (c .before .before .before .before .before .before .before .before .before .before .before .before .before .args .writes) (c .before .before .before .before .before .before .before .before .before .before .before .before .before .args .room) (c .before .before .before .before .before .before .before .before .before .before .before .before .before .args .ws .now) (c .before .before .before .before .before .before .before .before .before .before .before .before .before .args .out .now) (c .before .before .before .before .before .before .before .before .before .before .before .before .before .pre .0 .0) (c .before .before .before .before .before .before .before .before .before .before .before .before .before .args .s .now) _ tt _ _ _ (c .before .before .before .before .cancel-in .ensures .ledger) (c .before .before .before .before .cancel-in .ensures .answer) (c .before .before .before .before .cancel-in .ensures .bytes))
+returns-3 c =
+    let at-body2 = c .before .before .before .before .before .before .before .before in
+    let start = at-body2 .before .before .before .before .before in
+    rw (at-body2 .body2 .given .1) (made-by (start .args .writes) (start .args .room) (start .args .ws .now) (start .args .out .now) (start .pre .0 .0) (start .args .s .now) _ tt _ _ _ (c .before .before .before .before .cancel-in .ensures .ledger) (c .before .before .before .before .cancel-in .ensures .answer) (c .before .before .before .before .cancel-in .ensures .bytes))
 
 same-length-7 : tie.Need-same-length-7
 same-length-7 c = search needs
 
 returns-4 : tie.Need-returns-4
 returns-4 c =
-    let start = c .before .before .before .before .before .before .before .before .before .before in
+    let at-before = c .before .before .before .before .before .before .before .before .before in
+    let start = at-before .before in
     rw (c .before .before .before .before .before .body3 .given .1) (made-by (start .args .writes) (start .args .room) (start .args .ws .now) (start .args .out .now) (start .pre .0 .0) (start .args .s .now) _ tt _ _ _ (c .before .before .close-in .ensures .1) (c .before .before .close-in .ensures .2) (said-none (start .args .writes) _))
 
 same-length-8 : tie.Need-same-length-8
@@ -83,7 +91,8 @@ same-length-8 c = search needs
 
 returns-5 : tie.Need-returns-5
 returns-5 c =
-    let start = c .before .before .before .before .before .before .before .before .before .before in
+    let at-before = c .before .before .before .before .before .before .before .before .before in
+    let start = at-before .before in
     rw (c .before .before .before .before .before .body4 .given .1) (made-by (start .args .writes) (start .args .room) (start .args .ws .now) (start .args .out .now) (start .pre .0 .0) (start .args .s .now) _ (subst Taken (c .before .before .before .before .before .body4 .given .1) (start .pre .0 .1)) _ _ _ (c .before .before .fresh-in .ensures .0) (c .before .before .fresh-in .ensures .1) (said-none (start .args .writes) _))
 
 returns-6 : tie.Need-returns-6

@@ -31,7 +31,8 @@ part-entry-end c = omega (arith, whole-fits _ _ _ _ (sym (c .before .before .bef
 
 entry-requires : tie.Need-entry-requires
 entry-requires c κs =
-    let start = c .before .before .before .before .before .before .before .before .before .before in
+    let at-before = c .before .before .before .before .before .before .before .before .before in
+    let start = at-before .before in
     ((start .pre .0, whole-taken _ _ _ _ (sym (c .before .before .before .before .before .before .head-at .ensures) ∙ c .before .before .before .before .h .given .1)), start .pre .1)
 
 returns : tie.Need-returns
@@ -47,7 +48,11 @@ same-length-2 : tie.Need-same-length-2
 same-length-2 c = search needs
 
 returns-3 : tie.Need-returns-3
-returns-3 c = step-made (c .before .before .before .before .before .before .before .before .before .before .before .before .before .before .before .args .writes) (c .before .before .before .before .before .before .before .before .before .before .before .before .before .before .before .args .seen) (c .before .before .before .before .before .before .before .before .before .before .before .before .before .before .before .args .src .now) _ _ _ _ (sym (c .before .before .before .before .before .before .before .before .before .before .before .head-at .ensures) ∙ c .before .before .before .before .before .before .before .before .before .h .given .1) _ _ _ (c .before .before .before .before .entry .ensures)
+returns-3 c =
+    let at-h = c .before .before .before .before .before .before .before .before .before in
+    let at-head-at = at-h .before .before in
+    let start = at-head-at .before .before .before .before in
+    step-made (start .args .writes) (start .args .seen) (start .args .src .now) _ _ _ _ (sym (at-head-at .head-at .ensures) ∙ at-h .h .given .1) _ _ _ (c .before .before .before .before .entry .ensures)
 
 pub step-spec : {M : Type 1} → statement M
 step-spec =

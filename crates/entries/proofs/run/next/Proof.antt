@@ -40,7 +40,8 @@ same-length-2 c = search needs
 
 returns : tie.Need-returns
 returns c =
-    let start = c .before .before .before .before .before .before .before .before .before .before .before .before in
+    let at-before = c .before .before .before .before .before .before .before .before .before .before .before in
+    let start = at-before .before in
     let placed = c .before .before .before .before .before .before .before .before in
     next-in (start .args .writes) (start .args .n) (start .args .out .now) (start .pre .2) _ (placed .place-for .ensures) (start .args .seen) (drop (start .args .at) (start .args .src .now)) _ _ _ _ _ (take-all (length (start .args .src .now) - start .args .at) (drop (start .args .at) (start .args .src .now)) (omega (arith, length-drop (start .args .at) (start .args .src .now)))) (c .before .before .before .before .step .ensures)
 

@@ -33,10 +33,14 @@ ran-to-requires c κs = search needs
 
 same-length : tie.Need-same-length Inv-loop μ-loop
 same-length c =
-    let start = c .before .before .before .before .before .before .before .before .before .before .before .before .before .before .before .before in
-    let top = c .before .before .before .before .before .before .before .before .before .before .before .before in
-    let tested = c .before .before .before .before .before .before .before .before .before .before .before in
-    let chosen = c .before .before .before .before .before .before .before .before .before .before in
+    let at-before = c .before .before .before .before .before .before .before .before .before in
+    let at-before-2 = at-before .before in
+    let at-before-3 = at-before-2 .before in
+    let at-before-4 = at-before-3 .before .before .before .before in
+    let start = at-before-4 .before in
+    let top = at-before-3 .before in
+    let tested = at-before-2 .before in
+    let chosen = at-before .before in
     omega (arith, words-long _ (sound-holds _ (ran-cut _ _ _ _ _ _ _ _ _ _ (top .loop .inv) _ _ _ (c .before .before .before .before .before .before .before .next .ensures) (sym (tested .is-full .ensures) ∙ not-true _ (chosen .if1 .taken)) (c .before .enum-told .given .1) .made .sound)), words-long _ (sound-holds _ (start .pre)))
 
 same-length-2 : tie.Need-same-length-2 Inv-loop μ-loop
@@ -44,9 +48,12 @@ same-length-2 c = search needs
 
 returns : tie.Need-returns Inv-loop μ-loop
 returns c =
-    let top = c .before .before .before .before .before .before .before .before .before .before .before .before in
-    let tested = c .before .before .before .before .before .before .before .before .before .before .before in
-    let chosen = c .before .before .before .before .before .before .before .before .before .before in
+    let at-before = c .before .before .before .before .before .before .before .before .before in
+    let at-before-2 = at-before .before in
+    let at-before-3 = at-before-2 .before in
+    let top = at-before-3 .before in
+    let tested = at-before-2 .before in
+    let chosen = at-before .before in
     rw (c .ran-to .ensures) (ran-cut _ _ _ _ _ _ _ _ _ _ (top .loop .inv) _ _ _ (c .before .before .before .before .before .before .before .next .ensures) (sym (tested .is-full .ensures) ∙ not-true _ (chosen .if1 .taken)) (c .before .enum-told .given .1))
 
 enum-told-2 : tie.Need-enum-told-2 Inv-loop μ-loop
@@ -57,10 +64,14 @@ ran-to-requires-2 c κs = search needs
 
 same-length-3 : tie.Need-same-length-3 Inv-loop μ-loop
 same-length-3 c =
-    let start = c .before .before .before .before .before .before .before .before .before .before .before .before .before .before .before .before in
-    let top = c .before .before .before .before .before .before .before .before .before .before .before .before in
-    let tested = c .before .before .before .before .before .before .before .before .before .before .before in
-    let chosen = c .before .before .before .before .before .before .before .before .before .before in
+    let at-before = c .before .before .before .before .before .before .before .before .before in
+    let at-before-2 = at-before .before in
+    let at-before-3 = at-before-2 .before in
+    let at-before-4 = at-before-3 .before .before .before .before in
+    let start = at-before-4 .before in
+    let top = at-before-3 .before in
+    let tested = at-before-2 .before in
+    let chosen = at-before .before in
     omega (arith, words-long _ (sound-holds _ (ran-bad _ _ _ _ _ _ _ _ _ _ (top .loop .inv) _ _ _ (c .before .before .before .before .before .before .before .next .ensures) (sym (tested .is-full .ensures) ∙ not-true _ (chosen .if1 .taken)) (c .before .enum-told2 .given .1) .made .sound)), words-long _ (sound-holds _ (start .pre)))
 
 same-length-4 : tie.Need-same-length-4 Inv-loop μ-loop
@@ -68,9 +79,12 @@ same-length-4 c = search needs
 
 returns-2 : tie.Need-returns-2 Inv-loop μ-loop
 returns-2 c =
-    let top = c .before .before .before .before .before .before .before .before .before .before .before .before in
-    let tested = c .before .before .before .before .before .before .before .before .before .before .before in
-    let chosen = c .before .before .before .before .before .before .before .before .before .before in
+    let at-before = c .before .before .before .before .before .before .before .before .before in
+    let at-before-2 = at-before .before in
+    let at-before-3 = at-before-2 .before in
+    let top = at-before-3 .before in
+    let tested = at-before-2 .before in
+    let chosen = at-before .before in
     rw (c .ran-to2 .ensures) (ran-bad _ _ _ _ _ _ _ _ _ _ (top .loop .inv) _ _ _ (c .before .before .before .before .before .before .before .next .ensures) (sym (tested .is-full .ensures) ∙ not-true _ (chosen .if1 .taken)) (c .before .enum-told2 .given .1))
 
 enum-known-r : tie.Need-enum-known-r Inv-loop μ-loop
@@ -78,12 +92,14 @@ enum-known-r c = search needs
 
 add-at : tie.Need-add-at Inv-loop μ-loop
 add-at c =
-    let top = c .before .before .before .before .before .before .before .before .before .before .before .before in
+    let at-before = c .before .before .before .before .before .before .before .before .before .before .before in
+    let top = at-before .before in
     omega (arith, ran-fits _ _ _ _ _ _ _ _ _ _ (top .loop .inv) _ _ _ (c .before .before .before .before .before .before .before .next .ensures) _ _ (c .before .r .given .1))
 
 add-k : tie.Need-add-k Inv-loop μ-loop
 add-k c =
-    let top = c .before .before .before .before .before .before .before .before .before .before .before .before in
+    let at-before = c .before .before .before .before .before .before .before .before .before .before .before in
+    let top = at-before .before in
     omega (arith, ran-fits _ _ _ _ _ _ _ _ _ _ (top .loop .inv) _ _ _ (c .before .before .before .before .before .before .before .next .ensures) _ _ (c .before .r .given .1))
 
 written-requires : tie.Need-written-requires Inv-loop μ-loop
@@ -91,21 +107,26 @@ written-requires c κs = search needs
 
 add-n : tie.Need-add-n Inv-loop μ-loop
 add-n c =
-    let top = c .before .before .before .before .before .before .before .before .before .before .before .before .before in
+    let at-before = c .before .before .before .before .before .before .before .before .before .before .before .before in
+    let top = at-before .before in
     let made = c .before .before .before .before .before .before .before .before in
     omega (arith, c .written .ensures, ran-fits _ _ _ _ _ _ _ _ _ _ (top .loop .inv) _ _ _ (made .next .ensures) _ _ (c .before .before .r .given .1))
 
 loop-less : tie.Need-loop-less Inv-loop μ-loop
 loop-less c =
-    let top = c .before .before .before .before .before .before .before .before .before .before .before .before .before in
+    let at-before = c .before .before .before .before .before .before .before .before .before .before .before .before in
+    let top = at-before .before in
     let made = c .before .before .before .before .before .before .before .before in
     omega (arith, ran-fits _ _ _ _ _ _ _ _ _ _ (top .loop .inv) _ _ _ (made .next .ensures) _ _ (c .before .before .r .given .1))
 
 loop-again : tie.Need-loop-again Inv-loop μ-loop
 loop-again c =
-    let top = c .before .before .before .before .before .before .before .before .before .before .before .before .before in
-    let tested = c .before .before .before .before .before .before .before .before .before .before .before .before in
-    let chosen = c .before .before .before .before .before .before .before .before .before .before .before in
+    let at-before = c .before .before .before .before .before .before .before .before .before .before in
+    let at-before-2 = at-before .before in
+    let at-before-3 = at-before-2 .before in
+    let top = at-before-3 .before in
+    let tested = at-before-2 .before in
+    let chosen = at-before .before in
     let made = c .before .before .before .before .before .before .before .before in
     rw (c .written .ensures) (ran-on _ _ _ _ _ _ _ _ _ _ (top .loop .inv) _ _ _ (made .next .ensures) _ _ (c .before .before .r .given .1) (sym (tested .is-full .ensures) ∙ not-true _ (chosen .if1 .taken)))
 

@@ -21,7 +21,9 @@ same-length : tie.Need-same-length
 same-length c = search needs
 
 returns : tie.Need-returns
-returns c = let e = answer-size (c .before .before .before .before .before .before .before .before .args .v) (c .before .before .before .before .before .before .before .before .args .h) (c .before .before .before .before .before .before .before .before .args .b) (c .before .before .before .before .before .before .before .before .args .s .now) (c .before .before .before .before .before .before .before .before .args .i) (c .before .before .before .before .before .before .before .before .args .n) (c .before .before .before .before .before .before .before .before .pre .0 .0) (c .before .before .before .before .before .before .before .before .pre .0 .1) in
+returns c =
+    let start = c .before .before .before .before .before .before .before .before in
+    let e = answer-size (start .args .v) (start .args .h) (start .args .b) (start .args .s .now) (start .args .i) (start .args .n) (start .pre .0 .0) (start .pre .0 .1) in
     (rw (c .before .before .before .before .if1 .taken) (c .before .before .write-answer .ensures), ap (λ (k : ℕ). k * 321) (c .before .before .before .before .before .records .ensures .0) ∙ sym e, omega (arith, c .before .before .before .before .before .records .ensures .1))
 
 mul-result-2 : tie.Need-mul-result-2

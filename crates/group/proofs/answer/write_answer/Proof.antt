@@ -33,16 +33,20 @@ same-length c = search needs
 
 returns : tie.Need-returns
 unfolding answerAt
-returns c = rw (c .before .before .before .before .before .enum-told .given .1, header-is (c .before .before .before .before .before .before .before .before .before .before .args .s .now) (c .before .before .before .before .before .before .before .before .before .before .args .i) (c .before .before .before .before .before .before .before .before .before .before .args .n)) (c .before .before .write-acf .ensures)
+returns c =
+    let start = c .before .before .before .before .before .before .before .before .before .before in
+    rw (c .before .before .before .before .before .enum-told .given .1, header-is (start .args .s .now) (start .args .i) (start .args .n)) (c .before .before .write-acf .ensures)
 
 same-length-2 : tie.Need-same-length-2
 same-length-2 c = search needs
 
 returns-2 : tie.Need-returns-2
 unfolding answerAt
-returns-2 c = let k = rw (c .before .before .before .before .before .v .given .1) at (c .before .before .before .before .before .before .before .before .before .before .pre .1 .0) in
-    let j : c .before .before .before .before .before .before .before .before .before .before .args .k - 1 ≡ leading (recordsAfter (c .before .before .before .before .before .before .before .before .before .before .args .s .now) (c .before .before .before .before .before .before .before .before .before .before .args .i) (c .before .before .before .before .before .before .before .before .before .before .args .n)) = omega (arith, k, length-details (c .before .before .before .before .before .before .before .before .before .before .args .s .now) (c .before .before .before .before .before .before .before .before .before .before .args .i) (c .before .before .before .before .before .before .before .before .before .before .args .n)) in
-    rw (c .before .before .before .before .before .v .given .1, header-is (c .before .before .before .before .before .before .before .before .before .before .args .s .now) (c .before .before .before .before .before .before .before .before .before .before .args .i) (c .before .before .before .before .before .before .before .before .before .before .args .n), details-are (c .before .before .before .before .before .before .before .before .before .before .args .s .now) (c .before .before .before .before .before .before .before .before .before .before .args .i) (c .before .before .before .before .before .before .before .before .before .before .args .n) _ j) (c .before .before .write .ensures)
+returns-2 c =
+    let start = c .before .before .before .before .before .before .before .before .before .before in
+    let k = rw (c .before .before .before .before .before .v .given .1) at (start .pre .1 .0) in
+    let j : start .args .k - 1 ≡ leading (recordsAfter (start .args .s .now) (start .args .i) (start .args .n)) = omega (arith, k, length-details (start .args .s .now) (start .args .i) (start .args .n)) in
+    rw (c .before .before .before .before .before .v .given .1, header-is (start .args .s .now) (start .args .i) (start .args .n), details-are (start .args .s .now) (start .args .i) (start .args .n) _ j) (c .before .before .write .ensures)
 
 pub write-answer-spec : {M : Type 1} → statement M
 write-answer-spec =

@@ -31,7 +31,9 @@ add-t13 : tie.Need-add-t13
 add-t13 c = search needs
 
 returns : tie.Need-returns
-returns c = rw (c .before .before .before .before .before .before .before .before .one-accepted .ensures .0, c .before .before .before .before .before .before .one-rejected .ensures .0, c .before .before .before .one-came .ensures, c .before .one-went .ensures)
+returns c =
+    let at-one-accepted = c .before .before .before .before .before .before .before .before in
+    rw (at-one-accepted .one-accepted .ensures .0, c .before .before .before .before .before .before .one-rejected .ensures .0, c .before .before .before .one-came .ensures, c .before .one-went .ensures)
 
 pub add-spec : {M : Type 1} → statement M
 add-spec =

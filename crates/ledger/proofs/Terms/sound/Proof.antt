@@ -25,9 +25,11 @@ valid-requires-4 c κs = search needs
 returns : tie.Need-returns
 unfolding termsTests
 returns c =
-    let t = c .before .before .before .before .before .before .before .before .before .before .before .before .before .before .before .args .self in
+    let at-valid = c .before .before .before .before .before .before .before .before .before in
+    let start = at-valid .before .before .before .before .before .before in
+    let t = start .args .self in
     rw (
-      c .before .before .before .before .before .before .before .before .before .valid .ensures,
+      at-valid .valid .ensures,
       c .before .before .before .fits2 .ensures,
       c .before .before .valid2 .ensures,
       c .before .valid3 .ensures,

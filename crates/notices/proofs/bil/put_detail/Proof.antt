@@ -19,8 +19,9 @@ same-length c = search needs
 returns : tie.Need-returns
 unfolding bilDetail
 returns c =
-    let a = c .before .before .before .before .before .before .before .before .before .args in
-    let w1 = first (a .out .now) (a .at) _ (omega (arith, c .before .before .before .before .before .before .before .before .before .pre)) (c .before .before .before .before .before .before .put-to-owed .ensures) (length-bil-to-owed _) in
+    let start = c .before .before .before .before .before .before .before .before .before in
+    let a = start .args in
+    let w1 = first (a .out .now) (a .at) _ (omega (arith, start .pre)) (c .before .before .before .before .before .before .put-to-owed .ensures) (length-bil-to-owed _) in
     next w1 _ (c .before .before .put-end .ensures) (length-spaces-from 260) .same
 
 pub put-detail-spec : {M : Type 1} → statement M

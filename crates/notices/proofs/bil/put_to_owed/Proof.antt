@@ -53,12 +53,19 @@ same-length c = search needs
 returns : tie.Need-returns
 unfolding bilToOwed
 returns c =
-    let a = c .before .before .before .before .before .before .before .before .before .before .before .before .before .before .before .before .before .before .before .before .before .before .before .before .before .before .args in
-    let w1 = first (a .out .now) (a .at) _ (omega (arith, c .before .before .before .before .before .before .before .before .before .before .before .before .before .before .before .before .before .before .before .before .before .before .before .before .before .before .pre)) (c .before .before .before .before .before .before .before .before .before .before .before .before .before .before .before .before .before .before .put-to-tiers .ensures) (length-bil-to-tiers _) in
-    let w2 = next w1 _ (c .before .before .before .before .before .before .before .before .before .before .before .before .before .before .put-digits .ensures) (length-digits 3 _) in
-    let w3 = next w2 _ (c .before .before .before .before .before .before .before .before .before .before .put-digits2 .ensures) (length-digits 10 _) in
-    let w4 = next w3 _ (rw (c .before .before .before .before .before .before .before .before .before .before .before .before .before .before .before .before .before .before .before .before .before .before .charge .ensures) at (c .before .before .before .before .before .before .put-digits3 .ensures)) (length-digits 13 _) in
-    next w4 _ (rw (c .before .before .before .before .before .before .before .before .before .before .before .before .before .before .before .before .before .before .before .before .product-fill .ensures, c .before .before .before .before .before .before .before .before .before .before .before .before .before .before .before .before .before .before .before .before .before .is-prepay .ensures) at (c .before .before .put-fill .ensures)) (length-filled 26 _) .same
+    let at-put-digits2 = c .before .before .before .before .before .before .before .before .before .before in
+    let at-put-digits = at-put-digits2 .before .before .before .before in
+    let at-put-to-tiers = at-put-digits .before .before .before .before in
+    let at-product-fill = at-put-to-tiers .before .before in
+    let at-is-prepay = at-product-fill .before in
+    let at-charge = at-is-prepay .before in
+    let start = at-charge .before .before .before .before in
+    let a = start .args in
+    let w1 = first (a .out .now) (a .at) _ (omega (arith, start .pre)) (at-put-to-tiers .put-to-tiers .ensures) (length-bil-to-tiers _) in
+    let w2 = next w1 _ (at-put-digits .put-digits .ensures) (length-digits 3 _) in
+    let w3 = next w2 _ (at-put-digits2 .put-digits2 .ensures) (length-digits 10 _) in
+    let w4 = next w3 _ (rw (at-charge .charge .ensures) at (c .before .before .before .before .before .before .put-digits3 .ensures)) (length-digits 13 _) in
+    next w4 _ (rw (at-product-fill .product-fill .ensures, at-is-prepay .is-prepay .ensures) at (c .before .before .put-fill .ensures)) (length-filled 26 _) .same
 
 pub put-to-owed-spec : {M : Type 1} → statement M
 put-to-owed-spec =

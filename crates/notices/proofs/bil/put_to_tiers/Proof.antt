@@ -49,7 +49,9 @@ put-digits-requires-4 : tie.Need-put-digits-requires-4
 put-digits-requires-4 c κs = search needs
 
 add-put-fill-2 : tie.Need-add-put-fill-2
-add-put-fill-2 c = omega (arith, c .before .before .before .before .before .before .before .before .before .before .before .before .before .before .before .before .before .before .before .before .before .before .before .before .before .before .before .before .before .pre, c .before .before .before .before .before .before .before .before .before .before .before .before .before .before .before .before .before .before .before .before .before .before .before .before .before .before .before .before .before .good)
+add-put-fill-2 c =
+    let start = c .before .before .before .before .before .before .before .before .before .before .before .before .before .before .before .before .before .before .before .before .before .before .before .before .before .before .before .before .before in
+    omega (arith, start .pre, start .good)
 
 put-fill-requires-2 : tie.Need-put-fill-requires-2
 put-fill-requires-2 c κs = search needs
@@ -60,12 +62,19 @@ same-length c = search needs
 returns : tie.Need-returns
 unfolding bilToTiers
 returns c =
-    let a = c .before .before .before .before .before .before .before .before .before .before .before .before .before .before .before .before .before .before .before .before .before .before .before .before .before .before .before .before .before .before .before .before .args in
-    let w1 = first (a .out .now) (a .at) _ (omega (arith, c .before .before .before .before .before .before .before .before .before .before .before .before .before .before .before .before .before .before .before .before .before .before .before .before .before .before .before .before .before .before .before .before .pre)) (rw (c .before .before .before .before .before .before .before .before .before .before .before .before .before .before .before .before .before .before .before .before .before .before .before .before .before .before .before .before .before .before .alike-of .ensures) at (c .before .before .before .before .before .before .before .before .before .before .before .before .before .before .before .before .before .before .before .before .before .before .before .before .before .before .put-detail-to-key .ensures)) (length-detail-to-key _ _ refl _) in
-    let w2 = next w1 _ (c .before .before .before .before .before .before .before .before .before .before .before .before .before .before .before .before .before .before .before .before .before .before .put-digits .ensures) (length-digits 8 _) in
-    let w3 = next w2 _ (c .before .before .before .before .before .before .before .before .before .before .before .before .before .before .before .before .before .before .put-digits2 .ensures) (length-digits 3 _) in
-    let w4 = next w3 _ (c .before .before .before .before .before .before .before .before .before .before .before .before .before .before .put-digits3 .ensures) (length-digits 10 _) in
-    let w5 = next w4 _ (c .before .before .before .before .before .before .before .before .before .before .put-fill .ensures) (length-filled 13 48) in
+    let at-put-fill = c .before .before .before .before .before .before .before .before .before .before in
+    let at-put-digits3 = at-put-fill .before .before .before .before in
+    let at-put-digits2 = at-put-digits3 .before .before .before .before in
+    let at-put-digits = at-put-digits2 .before .before .before .before in
+    let at-put-detail-to-key = at-put-digits .before .before .before .before in
+    let at-alike-of = at-put-detail-to-key .before .before .before .before in
+    let start = at-alike-of .before .before in
+    let a = start .args in
+    let w1 = first (a .out .now) (a .at) _ (omega (arith, start .pre)) (rw (at-alike-of .alike-of .ensures) at (at-put-detail-to-key .put-detail-to-key .ensures)) (length-detail-to-key _ _ refl _) in
+    let w2 = next w1 _ (at-put-digits .put-digits .ensures) (length-digits 8 _) in
+    let w3 = next w2 _ (at-put-digits2 .put-digits2 .ensures) (length-digits 3 _) in
+    let w4 = next w3 _ (at-put-digits3 .put-digits3 .ensures) (length-digits 10 _) in
+    let w5 = next w4 _ (at-put-fill .put-fill .ensures) (length-filled 13 48) in
     let w6 = next w5 _ (c .before .before .before .before .before .before .put-digits4 .ensures) (length-digits 8 _) in
     next w6 _ (c .before .before .put-fill2 .ensures) (length-filled 120 48) .same
 

@@ -26,8 +26,10 @@ same-length c = search needs
 returns : tie.Need-returns
 unfolding cxlDetail
 returns c =
-    let a = c .before .before .before .before .before .before .before .before .before .before .before .args in
-    let w1 = first (a .out .now) (a .at) _ (omega (arith, c .before .before .before .before .before .before .before .before .before .before .before .pre)) (rw (c .before .before .before .before .before .before .before .before .before .alike-of .ensures) at (c .before .before .before .before .before .before .put-detail-to-key .ensures)) (length-detail-to-key _ _ refl _) in
+    let at-alike-of = c .before .before .before .before .before .before .before .before .before in
+    let start = at-alike-of .before .before in
+    let a = start .args in
+    let w1 = first (a .out .now) (a .at) _ (omega (arith, start .pre)) (rw (at-alike-of .alike-of .ensures) at (c .before .before .before .before .before .before .put-detail-to-key .ensures)) (length-detail-to-key _ _ refl _) in
     next w1 _ (c .before .before .put-end .ensures) (length-spaces-from 46) .same
 
 pub put-detail-spec : {M : Type 1} → statement M

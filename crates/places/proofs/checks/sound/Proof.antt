@@ -29,7 +29,9 @@ all-distinct-requires : tie.Need-all-distinct-requires
 all-distinct-requires c κs = (sym (c .before .before .before .before .before .fits2 .ensures) ∙ not-false _ (c .before .before .before .before .if1 .left), header-count (c .before .before .before .before .before .before .before .args .words .now) (sym (c .before .before .before .before .before .fits2 .ensures) ∙ not-false _ (c .before .before .before .before .if1 .left)) (c .before .before .before .header .result) (c .before .before .before .header .ensures) (c .before .before .good-header .result) (c .before .before .good-header .ensures) (not-false _ (c .before .if2 .left)))
 
 returns-3 : tie.Need-returns-3
-returns-3 c = good-header (c .before .before .before .before .before .before .before .before .args .words .now) (sym (c .before .before .before .before .before .before .fits2 .ensures) ∙ not-false _ (c .before .before .before .before .before .if1 .left)) (c .before .before .before .before .header .result) (c .before .before .before .before .header .ensures) (c .before .before .before .good-header .result) (c .before .before .before .good-header .ensures) (not-false _ (c .before .before .if2 .left)) _ _ (c .before .good-bills .ensures) (c .all-distinct .ensures)
+returns-3 c =
+    let start = c .before .before .before .before .before .before .before .before in
+    good-header (start .args .words .now) (sym (c .before .before .before .before .before .before .fits2 .ensures) ∙ not-false _ (c .before .before .before .before .before .if1 .left)) (c .before .before .before .before .header .result) (c .before .before .before .before .header .ensures) (c .before .before .before .good-header .result) (c .before .before .before .good-header .ensures) (not-false _ (c .before .before .if2 .left)) _ _ (c .before .good-bills .ensures) (c .all-distinct .ensures)
 
 pub sound-spec : {M : Type 1} → statement M
 sound-spec =

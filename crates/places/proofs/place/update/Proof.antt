@@ -16,7 +16,9 @@ same-length : tie.Need-same-length
 same-length c = search needs
 
 returns : tie.Need-returns
-returns c = (c .before .before .put-header .ensures .0, c .before .before .put-header .ensures .1 ∙ ap (λ (l : Ledger). withHeader l (c .before .before .before .before .before .before .before .before .before .before .before .args .u .header)) (c .before .before .before .before .before .before .put-bill .ensures .1))
+returns c =
+    let start = c .before .before .before .before .before .before .before .before .before .before .before in
+    (c .before .before .put-header .ensures .0, c .before .before .put-header .ensures .1 ∙ ap (λ (l : Ledger). withHeader l (start .args .u .header)) (c .before .before .before .before .before .before .put-bill .ensures .1))
 
 pub update-spec : {M : Type 1} → statement M
 update-spec = tie.close (tie.spec put-bill-requires put-header-requires same-length returns)

@@ -24,7 +24,8 @@ same-length-3 c = search needs
 
 returns : tie.Need-returns
 returns c =
-    let read = c .before .before .before .before .before .before .before .before .before .before in
+    let at-before = c .before .before .before .before .before .before .before .before .before in
+    let read = at-before .before in
     all-told _ _ _ _ _ _ _ (read .read-all .ensures) (c .before .before .stop-line .ensures)
 
 pub tell-input-spec : {M : Type 1} → statement M

@@ -35,10 +35,14 @@ ends-bad-requires : tie.Need-ends-bad-requires
 ends-bad-requires c κs = search needs
 
 returns-2 : tie.Need-returns-2
-returns-2 c = short-measured _ _ _ (journal-written false _ _ _ _ _ _ (c .before .before .before .before .before .before .run .ensures) (c .before .before .before .before .before .before .before .before .before .before .start .ensures .2) (c .before .before .before .before .before .before .run .ensures .full)) _ (c .ends-bad .ensures ∙ journal-bad false _ _ _ _ _ _ (c .before .before .before .before .before .before .run .ensures) (c .before .before .before .before .before .before .before .before .before .before .start .ensures .2) (c .before .before .before .before .before .before .run .ensures .full)) (c .before .before .if2 .taken)
+returns-2 c =
+    let at-start = c .before .before .before .before .before .before .before .before .before .before in
+    short-measured _ _ _ (journal-written false _ _ _ _ _ _ (c .before .before .before .before .before .before .run .ensures) (at-start .start .ensures .2) (c .before .before .before .before .before .before .run .ensures .full)) _ (c .ends-bad .ensures ∙ journal-bad false _ _ _ _ _ _ (c .before .before .before .before .before .before .run .ensures) (at-start .start .ensures .2) (c .before .before .before .before .before .before .run .ensures .full)) (c .before .before .if2 .taken)
 
 returns-3 : tie.Need-returns-3
-returns-3 c = fits-measured _ _ _ (journal-written false _ _ _ _ _ _ (c .before .before .before .before .run .ensures) (c .before .before .before .before .before .before .before .before .start .ensures .2) (c .before .before .before .before .run .ensures .full)) (c .if2 .left)
+returns-3 c =
+    let at-start = c .before .before .before .before .before .before .before .before in
+    fits-measured _ _ _ (journal-written false _ _ _ _ _ _ (c .before .before .before .before .run .ensures) (at-start .start .ensures .2) (c .before .before .before .before .run .ensures .full)) (c .if2 .left)
 
 pub fit-in-spec : {M : Type 1} → statement M
 fit-in-spec =

@@ -32,7 +32,10 @@ same-length : tie.Need-same-length
 same-length c = search needs
 
 returns : tie.Need-returns
-returns c = all-given _ _ _ _ _ _ (c .before .before .before .before .before .before .run .ensures) (c .before .before .before .before .before .before .before .before .before .before .start .ensures .2) (c .before .before .before .before .before .before .before .before .before .before .before .before .before .before .pre) (not-true _ (c .before .if1 .taken)) _ (c .ends-bad .ensures)
+returns c =
+    let at-start = c .before .before .before .before .before .before .before .before .before .before in
+    let start-2 = at-start .before .before .before .before in
+    all-given _ _ _ _ _ _ (c .before .before .before .before .before .before .run .ensures) (at-start .start .ensures .2) (start-2 .pre) (not-true _ (c .before .if1 .taken)) _ (c .ends-bad .ensures)
 
 slice-aggregate-run-2 : tie.Need-slice-aggregate-run-2
 slice-aggregate-run-2 c = search needs
@@ -53,28 +56,66 @@ run-requires-2 : tie.Need-run-requires-2
 run-requires-2 c κs = search needs
 
 array-share-prefix-last : tie.Need-array-share-prefix-last
-array-share-prefix-last c = size-within _ _ _ _ _ _ (c .before .before .before .before .before .before .before .before .before .before .before .before .run .ensures) (c .before .before .before .before .before .before .before .before .before .before .before .before .before .before .before .before .start .ensures .2) (c .before .before .before .before .before .before .before .before .before .before .before .before .before .before .before .before .before .before .before .before .pre) (not-false _ (c .before .before .before .before .before .before .before .if1 .left)) _ refl _ _ _ (c .before .before .before .run2 .ensures)
+array-share-prefix-last c =
+    let at-run = c .before .before .before .before .before .before .before .before .before .before .before .before in
+    let at-start = at-run .before .before .before .before in
+    let start-2 = at-start .before .before .before .before in
+    size-within _ _ _ _ _ _ (at-run .run .ensures) (at-start .start .ensures .2) (start-2 .pre) (not-false _ (c .before .before .before .before .before .before .before .if1 .left)) _ refl _ _ _ (c .before .before .before .run2 .ensures)
 
 slice-aggregate-put-bytes : tie.Need-slice-aggregate-put-bytes
-slice-aggregate-put-bytes c = sym (length-take-le _ _ (size-within _ _ _ _ _ _ (c .before .before .before .before .before .before .before .before .before .before .before .before .before .run .ensures) (c .before .before .before .before .before .before .before .before .before .before .before .before .before .before .before .before .before .start .ensures .2) (c .before .before .before .before .before .before .before .before .before .before .before .before .before .before .before .before .before .before .before .before .before .pre) (not-false _ (c .before .before .before .before .before .before .before .before .if1 .left)) _ refl _ _ _ (c .before .before .before .before .run2 .ensures)))
+slice-aggregate-put-bytes c =
+    let at-if1 = c .before .before .before .before .before .before .before .before in
+    let at-run = at-if1 .before .before .before .before .before in
+    let at-start = at-run .before .before .before .before in
+    let start-2 = at-start .before .before .before .before in
+    sym (length-take-le _ _ (size-within _ _ _ _ _ _ (at-run .run .ensures) (at-start .start .ensures .2) (start-2 .pre) (not-false _ (at-if1 .if1 .left)) _ refl _ _ _ (c .before .before .before .before .run2 .ensures)))
 
 put-bytes-requires : tie.Need-put-bytes-requires
-put-bytes-requires c κs = room _ _ _ _ _ _ (c .before .before .before .before .before .before .before .before .before .before .before .before .before .run .ensures) (c .before .before .before .before .before .before .before .before .before .before .before .before .before .before .before .before .before .start .ensures .2) (c .before .before .before .before .before .before .before .before .before .before .before .before .before .before .before .before .before .before .before .before .before .pre) (not-false _ (c .before .before .before .before .before .before .before .before .if1 .left)) _ refl _ _ _ (c .before .before .before .before .run2 .ensures)
+put-bytes-requires c κs =
+    let at-if1 = c .before .before .before .before .before .before .before .before in
+    let at-run = at-if1 .before .before .before .before .before in
+    let at-start = at-run .before .before .before .before in
+    let start-2 = at-start .before .before .before .before in
+    room _ _ _ _ _ _ (at-run .run .ensures) (at-start .start .ensures .2) (start-2 .pre) (not-false _ (at-if1 .if1 .left)) _ refl _ _ _ (c .before .before .before .before .run2 .ensures)
 
 add-t18 : tie.Need-add-t18
-add-t18 c = omega (arith, c .before .before .before .before .before .before .before .before .before .before .before .before .before .before .before .before .before .before .before .before .before .before .before .before .before .good .1 .0 .0, sum-within _ _ _ _ _ _ (c .before .before .before .before .before .before .before .before .before .before .before .before .before .before .before .before .before .run .ensures) (c .before .before .before .before .before .before .before .before .before .before .before .before .before .before .before .before .before .before .before .before .before .start .ensures .2) (c .before .before .before .before .before .before .before .before .before .before .before .before .before .before .before .before .before .before .before .before .before .before .before .before .before .pre) (not-false _ (c .before .before .before .before .before .before .before .before .before .before .before .before .if1 .left)) _ refl _ _ _ (c .before .before .before .before .before .before .before .before .run2 .ensures))
+add-t18 c =
+    let at-run2 = c .before .before .before .before .before .before .before .before in
+    let at-if1 = at-run2 .before .before .before .before in
+    let at-run = at-if1 .before .before .before .before .before in
+    let at-start = at-run .before .before .before .before in
+    let at-good = at-start .before .before .before .before in
+    omega (arith, at-good .good .1 .0 .0, sum-within _ _ _ _ _ _ (at-run .run .ensures) (at-start .start .ensures .2) (at-good .pre) (not-false _ (at-if1 .if1 .left)) _ refl _ _ _ (at-run2 .run2 .ensures))
 
 sub-ends-bad : tie.Need-sub-ends-bad
-sub-ends-bad c = used-within _ _ _ _ _ _ (c .before .before .before .before .before .before .before .before .before .before .before .before .before .before .before .before .before .before .run .ensures) (c .before .before .before .before .before .before .before .before .before .before .before .before .before .before .before .before .before .before .before .before .before .before .start .ensures .2) (c .before .before .before .before .before .before .before .before .before .before .before .before .before .before .before .before .before .before .before .before .before .before .before .before .before .before .pre) (not-false _ (c .before .before .before .before .before .before .before .before .before .before .before .before .before .if1 .left)) _ refl _ _ _ (c .before .before .before .before .before .before .before .before .before .run2 .ensures)
+sub-ends-bad c =
+    let at-run2 = c .before .before .before .before .before .before .before .before .before in
+    let at-if1 = at-run2 .before .before .before .before in
+    let at-run = at-if1 .before .before .before .before .before in
+    let at-start = at-run .before .before .before .before in
+    let start-2 = at-start .before .before .before .before in
+    used-within _ _ _ _ _ _ (at-run .run .ensures) (at-start .start .ensures .2) (start-2 .pre) (not-false _ (at-if1 .if1 .left)) _ refl _ _ _ (at-run2 .run2 .ensures)
 
 ends-bad-requires-2 : tie.Need-ends-bad-requires-2
 ends-bad-requires-2 c κs = search needs
 
 same-length-2 : tie.Need-same-length-2
-same-length-2 c = ap length (c .before .before .before .before .before .put-bytes .ensures) ∙ length-put _ _ _ (room _ _ _ _ _ _ (c .before .before .before .before .before .before .before .before .before .before .before .before .before .before .before .before .before .before .before .run .ensures) (c .before .before .before .before .before .before .before .before .before .before .before .before .before .before .before .before .before .before .before .before .before .before .before .start .ensures .2) (c .before .before .before .before .before .before .before .before .before .before .before .before .before .before .before .before .before .before .before .before .before .before .before .before .before .before .before .pre) (not-false _ (c .before .before .before .before .before .before .before .before .before .before .before .before .before .before .if1 .left)) _ refl _ _ _ (c .before .before .before .before .before .before .before .before .before .before .run2 .ensures)) ∙ c .before .before .before .before .before .before .before .before .before .before .before .before .before .before .before .before .before .before .before .run .ensures .kept
+same-length-2 c =
+    let at-run2 = c .before .before .before .before .before .before .before .before .before .before in
+    let at-if1 = at-run2 .before .before .before .before in
+    let at-run = at-if1 .before .before .before .before .before in
+    let at-start = at-run .before .before .before .before in
+    let start-2 = at-start .before .before .before .before in
+    ap length (c .before .before .before .before .before .put-bytes .ensures) ∙ length-put _ _ _ (room _ _ _ _ _ _ (at-run .run .ensures) (at-start .start .ensures .2) (start-2 .pre) (not-false _ (at-if1 .if1 .left)) _ refl _ _ _ (at-run2 .run2 .ensures)) ∙ at-run .run .ensures .kept
 
 returns-2 : tie.Need-returns-2
-returns-2 c = last-given _ _ _ _ _ _ (c .before .before .before .before .before .before .before .before .before .before .before .before .before .before .before .before .before .before .before .run .ensures) (c .before .before .before .before .before .before .before .before .before .before .before .before .before .before .before .before .before .before .before .before .before .before .before .start .ensures .2) (c .before .before .before .before .before .before .before .before .before .before .before .before .before .before .before .before .before .before .before .before .before .before .before .before .before .before .before .pre) (not-false _ (c .before .before .before .before .before .before .before .before .before .before .before .before .before .before .if1 .left)) _ refl _ _ _ (c .before .before .before .before .before .before .before .before .before .before .run2 .ensures) _ _ (c .before .before .before .before .before .put-bytes .ensures) (c .ends-bad2 .ensures)
+returns-2 c =
+    let at-run2 = c .before .before .before .before .before .before .before .before .before .before in
+    let at-if1 = at-run2 .before .before .before .before in
+    let at-run = at-if1 .before .before .before .before .before in
+    let at-start = at-run .before .before .before .before in
+    let start-2 = at-start .before .before .before .before in
+    last-given _ _ _ _ _ _ (at-run .run .ensures) (at-start .start .ensures .2) (start-2 .pre) (not-false _ (at-if1 .if1 .left)) _ refl _ _ _ (at-run2 .run2 .ensures) _ _ (c .before .before .before .before .before .put-bytes .ensures) (c .ends-bad2 .ensures)
 
 pub write-notices-spec : {M : Type 1} → statement M
 write-notices-spec =

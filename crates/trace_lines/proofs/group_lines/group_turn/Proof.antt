@@ -18,16 +18,18 @@ put-group-line-requires c κs =
 
 next-answer-requires : tie.Need-next-answer-requires
 next-answer-requires c κs =
-    let a = c .before .before .before .before .before .before .before .before .args in
+    let start = c .before .before .before .before .before .before .before .before in
+    let a = start .args in
     let w = leading-within (a .s .now) (a .i) (a .n) in
-    omega (arith, c .before .before .before .before .before .before .before .before .pre .0, c .before .before .before .before .detail-count .ensures)
+    omega (arith, start .pre .0, c .before .before .before .before .detail-count .ensures)
 
 same-length : tie.Need-same-length
 same-length c = search needs
 
 returns : tie.Need-returns
 returns c =
-    let a = c .before .before .before .before .before .before .before .before .before .args in
+    let start = c .before .before .before .before .before .before .before .before .before in
+    let a = start .args in
     turn-is (a .s .now) (a .sent .now) (a .i) (a .n) _ _ _ _ _ _ _ (c .before .before .before .before .before .detail-count .ensures) (c .before .before .before .put-group-line .ensures .0) (c .before .before .before .put-group-line .ensures .1) (c .next-answer .ensures)
 
 pub group-turn-spec : {M : Type 1} → statement M

@@ -22,8 +22,9 @@ same-length c = search needs
 
 returns : tie.Need-returns
 returns c =
-    let a = c .before .before .before .before .before .before .before .before .before .before .before .args in
-    field-put _ _ _ _ (a .at) (a .from) (a .n) (omega (arith, c .before .before .before .before .before .before .before .before .before .before .before .pre)) (c .before .before .before .before .before .before .before .before .before .before .before .pre .1) (c .before .before .before .before .before .before .before .put-part .ensures) (c .before .before .put-bytes .ensures)
+    let start = c .before .before .before .before .before .before .before .before .before .before .before in
+    let a = start .args in
+    field-put _ _ _ _ (a .at) (a .from) (a .n) (omega (arith, start .pre)) (start .pre .1) (c .before .before .before .before .before .before .before .put-part .ensures) (c .before .before .put-bytes .ensures)
 
 pub put-field-spec : {M : Type 1} → statement M
 put-field-spec =

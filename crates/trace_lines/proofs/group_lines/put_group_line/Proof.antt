@@ -61,8 +61,13 @@ same-length c = search needs
 
 returns : tie.Need-returns
 returns c =
-    let a = c .before .before .before .before .before .before .before .before .before .before .before .before .before .before .before .before .before .before .before .before .before .before .before .before .before .before .before .before .args in
-    group-put (a .s .now) (a .sent .now) (a .i) (a .k) (a .from) (c .before .before .before .before .before .before .before .before .before .before .before .before .before .before .before .before .before .before .before .before .before .before .before .before .before .before .before .before .pre .1 .0) (c .before .before .before .before .before .before .before .before .before .before .before .before .before .before .before .before .before .before .before .before .before .before .before .before .before .before .before .before .pre .1 .1) _ _ _ _ _ _ _ (a .at) _ (omega (arith, c .before .before .before .before .before .before .before .before .before .before .before .before .before .before .before .before .before .before .before .before .before .before .before .before .before .before .before .before .pre)) (c .before .before .before .before .before .before .before .before .before .before .before .before .before .before .before .before .before .before .before .before .before .before .put-bytes .ensures) (c .before .before .before .before .before .before .before .before .before .before .before .before .before .before .before .before .before .before .put-field .ensures) (c .before .before .before .before .before .before .before .before .before .before .before .before .before .before .put-field2 .ensures) (c .before .before .before .before .before .before .before .before .before .before .put-key .ensures) (c .before .before .before .before .before .before .put-field3 .ensures) (c .before .before .put-verdict .ensures .0) (c .before .before .put-verdict .ensures .1)
+    let at-put-key = c .before .before .before .before .before .before .before .before .before .before in
+    let at-put-field2 = at-put-key .before .before .before .before in
+    let at-put-field = at-put-field2 .before .before .before .before in
+    let at-put-bytes = at-put-field .before .before .before .before in
+    let start = at-put-bytes .before .before .before .before .before .before in
+    let a = start .args in
+    group-put (a .s .now) (a .sent .now) (a .i) (a .k) (a .from) (start .pre .1 .0) (start .pre .1 .1) _ _ _ _ _ _ _ (a .at) _ (omega (arith, start .pre)) (at-put-bytes .put-bytes .ensures) (at-put-field .put-field .ensures) (at-put-field2 .put-field2 .ensures) (at-put-key .put-key .ensures) (c .before .before .before .before .before .before .put-field3 .ensures) (c .before .before .put-verdict .ensures .0) (c .before .before .put-verdict .ensures .1)
 
 pub put-group-line-spec : {M : Type 1} → statement M
 put-group-line-spec =

@@ -25,10 +25,11 @@ header-at-requires c κs = omega (arith, c .before .loop .inv .within, c .before
 
 group-turn-requires : tie.Need-group-turn-requires Inv-loop μ-loop
 group-turn-requires c κs =
+    let start = c .before .before .before .before .before .before .before .before in
     let w = c .before .before .before .before .loop .inv in
     let e = sym (c .before .before .header-at .ensures) ∙ c .before .if1 .taken in
-    let r = leading-header (c .before .before .before .before .before .before .before .before .args .s .now) (c .before .before .before .before .loop .i) (c .before .before .before .before .before .before .before .before .args .n) (omega arith) e in
-    ((omega arith, omega arith, omega arith, omega (arith, w .room)), omega (arith, w .few, w .long, w .within, c .before .before .before .before .before .before .before .before .pre .1))
+    let r = leading-header (start .args .s .now) (c .before .before .before .before .loop .i) (start .args .n) (omega arith) e in
+    ((omega arith, omega arith, omega arith, omega (arith, w .room)), omega (arith, w .few, w .long, w .within, start .pre .1))
 
 add-i : tie.Need-add-i Inv-loop μ-loop
 add-i c = omega (arith, c .before .before .before .loop .inv .within, c .before .before .before .before .before .before .before .pre)

@@ -18,7 +18,8 @@ same-length c = search needs
 
 returns : tie.Need-returns
 returns c =
-    let a = c .before .before .before .before .before .before .before .before .args in
+    let start = c .before .before .before .before .before .before .before .before in
+    let a = start .args in
     c .before .before .put-bytes .ensures ∙ ap (put _ (a .at)) (sym (key-none (a .s .now) (a .i + 1) (a .k) (c .before .before .before .before .before .if1 .taken)))
 
 add-put-field : tie.Need-add-put-field

@@ -33,7 +33,8 @@ same-length c = search needs
 returns : tie.Need-returns
 unfolding ended
 returns c =
-    let a = c .before .before .before .before .before .before .before .before .before .before .args in
+    let start = c .before .before .before .before .before .before .before .before .before .before in
+    let a = start .args in
     verdict-put (a .sent .now) (a .from) (a .k) _ _ (a .at) 4 (text "ACF") (verdict-acf (a .sent .now) (a .from) (a .k) (sym (c .before .before .before .before .before .before .is-text .ensures) ∙ c .before .before .before .before .before .if1 .taken)) refl (c .before .before .put-bytes .ensures)
 
 slice-aggregate-put-bytes-2 : tie.Need-slice-aggregate-put-bytes-2
@@ -51,7 +52,8 @@ same-length-2 c = search needs
 returns-2 : tie.Need-returns-2
 unfolding ended
 returns-2 c =
-    let a = c .before .before .before .before .before .before .before .before .before .before .before .args in
+    let start = c .before .before .before .before .before .before .before .before .before .before .before in
+    let a = start .args in
     verdict-put (a .sent .now) (a .from) (a .k) _ _ (a .at) 5 (text "BR17") (verdict-none (a .sent .now) (a .from) (a .k) (sym (c .before .before .before .before .before .before .before .is-text .ensures) ∙ c .before .before .before .before .before .before .if1 .left) (c .before .before .before .before .before .if2 .taken)) refl (c .before .before .put-bytes2 .ensures)
 
 add-put-part : tie.Need-add-put-part
@@ -77,8 +79,12 @@ same-length-3 c = search needs
 
 returns-3 : tie.Need-returns-3
 returns-3 c =
-    let a = c .before .before .before .before .before .before .before .before .before .before .before .before .before .before .before .args in
-    verdict-put (a .sent .now) (a .from) (a .k) _ _ (a .at) 5 _ (verdict-code (a .sent .now) (a .from) (a .k) (sym (c .before .before .before .before .before .before .before .before .before .before .before .is-text .ensures) ∙ c .before .before .before .before .before .before .before .before .before .before .if1 .left) (c .before .before .before .before .before .before .before .before .before .if2 .left)) (length-code (a .sent .now) (a .from + 580) 4 (omega (arith, c .before .before .before .before .before .before .before .before .before .before .before .before .before .before .before .pre, c .before .before .before .before .before .before .before .before .before .if2 .left))) (code-put _ _ _ (a .sent .now) (a .at) (a .from + 580) 4 (omega (arith, c .before .before .before .before .before .before .before .before .before .before .before .before .before .before .before .pre)) (omega (arith, c .before .before .before .before .before .before .before .before .before .before .before .before .before .before .before .pre, c .before .before .before .before .before .before .before .before .before .if2 .left)) (c .before .before .before .before .before .before .before .put-part .ensures) (c .before .before .put-bytes3 .ensures))
+    let at-if2 = c .before .before .before .before .before .before .before .before .before in
+    let at-if1 = at-if2 .before in
+    let at-is-text = at-if1 .before in
+    let start = at-is-text .before .before .before .before in
+    let a = start .args in
+    verdict-put (a .sent .now) (a .from) (a .k) _ _ (a .at) 5 _ (verdict-code (a .sent .now) (a .from) (a .k) (sym (at-is-text .is-text .ensures) ∙ at-if1 .if1 .left) (at-if2 .if2 .left)) (length-code (a .sent .now) (a .from + 580) 4 (omega (arith, start .pre, at-if2 .if2 .left))) (code-put _ _ _ (a .sent .now) (a .at) (a .from + 580) 4 (omega (arith, start .pre)) (omega (arith, start .pre, at-if2 .if2 .left)) (c .before .before .before .before .before .before .before .put-part .ensures) (c .before .before .put-bytes3 .ensures))
 
 pub put-verdict-spec : {M : Type 1} → statement M
 put-verdict-spec =
