@@ -10,8 +10,8 @@ use Rattle.fields.proofs.PutLaws.{put-nil}
 use Rattle.ledger.specs.declared.Ledger.{Ledger}
 use Rattle.ledger.specs.Books.{Book}
 use Rattle.ledger.proofs.SoundLaws.{book-facts}
-use Rattle.notices.proofs.NoticeLengths.{length-bil, length-cxl}
-use Rattle.notices.proofs.AnswerLaws.{length-acf, length-rej-header, length-rej-detail}
+use Rattle.notices.proofs.PositionLaws.{bil-at, cxl-at}
+use Rattle.notices.proofs.AnswerPositions.{acf-at, rej-at}
 use Rattle.rules.specs.declared.Check.{Check}
 use Rattle.rules.specs.declared.Check.the-variants.{Clear, Stop}
 use Rattle.group.specs.Groups.{linesBy, verdictOn, verdictBy}
@@ -101,11 +101,10 @@ demand-2 =
       forms = form-coded;
       unread = no-line-reads;
       counted = groups-returned;
-      bilBytes = length-bil;
-      cxlBytes = length-cxl;
-      acfBytes = length-acf;
-      rejHeaderBytes = length-rej-header;
-      rejDetailBytes = length-rej-detail;
+      bilBytes = bil-at;
+      cxlBytes = cxl-at;
+      acfBytes = acf-at;
+      rejBytes = rej-at;
       notices = notices-of-calls;
     }
 

@@ -1,10 +1,9 @@
 -- The three demands side by side, each with its words (docs/CLAIMS.md). Every field is a theorem: `demands-hold` (proofs/DemandsHold) fills them in.
 -- Assumes nothing.
-use Prim.Native.Nat.{ℕ, _≤_}
+use Prim.Native.Nat.{ℕ, _≤_, _<_}
 use mathlib.Core.Path.{_≡_}
-use mathlib.Core.Bool.{Bool}
-use mathlib.Core.List.{List, _∷_}
-use lib.ListN.{length}
+use mathlib.Core.List.{List, [], _∷_}
+use lib.ListN.{length, getD}
 use lib.IntN.{ℤ}
 use Rattle.fields.specs.Put.{put}
 use Rattle.ledger.specs.declared.Ledger.{Ledger}
@@ -15,7 +14,9 @@ use Rattle.notices.specs.declared.cxl.Cxl.{Cxl}
 use Rattle.notices.specs.Notices.{bil, cxl}
 use Rattle.notices.specs.declared.acf.Acf.{Acf}
 use Rattle.notices.specs.declared.rej.Rej.{Rej}
-use Rattle.notices.specs.Answers.{acf, rejHeader, rejDetail}
+use Rattle.notices.specs.Answers.{acf, rej}
+use Rattle.notices.specs.Positions.{BilAt, CxlAt, AcfAt, RejAt}
+use Rattle.records.specs.Limits.{recordSize}
 use Rattle.file.specs.File.{Group, detailOf}
 use Rattle.rules.specs.declared.Check.the-variants.{Stop}
 use Rattle.rules.specs.Rules.{first}
@@ -71,7 +72,7 @@ pub record Demand1 : Type 0 where
 -- ---- Demand 2: "Each supplier group is accepted or rejected as document 01 lays down; each BIL, ACF, REJ and CXL has every one of its 321 bytes as
 -- laid down."
 -- Lines 1 to 10 stand in file/specs/File and verdict/specs/Lines. The bytes are the definitions `bil`, `cxl`, `acf` and `rej` (notices/specs/Notices,
--- answers/specs/Answers), to which the contracts of what writes them are equations.
+-- notices/specs/Answers), to which the contracts of what writes them are equations.
 
 -- the notices of a journal are the bytes that its calls wrote, in order
 abbrev pub NoticesOfCalls : List ℕ → Type 0
@@ -89,12 +90,12 @@ pub record Demand2 : Type 0 where
   pub unread : NoLineReads
   -- "accepted, rejected (together the number of groups)"
   pub counted : GroupsReturned
-  -- "Each record ends in byte 13", its 321st
-  pub bilBytes : (b : Bil) → length (bil b) ≡ 642
-  pub cxlBytes : (x : Cxl) → length (cxl x) ≡ 642
-  pub acfBytes : (h : List ℕ) → 321 ≤ length h → (a : Acf) → length (acf h a) ≡ 321
-  pub rejHeaderBytes : (h : List ℕ) → 321 ≤ length h → (x : Rej) → length (rejHeader h x) ≡ 321
-  pub rejDetailBytes : (d : List ℕ) → 321 ≤ length d → (sup : Bool) (x : Rej) → length (rejDetail sup d x) ≡ 321
+  -- at each position of a notice what "Notices" says (notices/specs/Positions); h is the sender's header, ds are its details
+  pub bilBytes : (b : Bil) → BilAt b (bil b)
+  pub cxlBytes : (x : Cxl) → CxlAt x (cxl x)
+  pub acfBytes : (h : List ℕ) (a : Acf) → recordSize ≤ length h → AcfAt h a (acf h a)
+  pub rejBytes : (h : List ℕ) (ds : List (List ℕ)) (x : Rej) → length h ≡ recordSize
+      → ((j : ℕ) → j < length ds → length (getD ds j []) ≡ recordSize) → RejAt h ds x (rej h ds x)
   pub notices : (s : List ℕ) → NoticesOfCalls s
 
 -- ---- Demand 3: "Over every list of calls on a fresh ledger, refused ones included: total of the table = sum of the returned signed changes = the
