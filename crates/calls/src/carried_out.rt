@@ -14,7 +14,7 @@ pub fn noticed(change: i64) -> Answer
 {
     Answer::Done(Returned {
         change,
-        written: 642,
+        written: records::NOTICE_SIZE,
         accepted: 0,
         rejected: 0,
         closed: 0,

@@ -28,7 +28,7 @@ use Rattle.history.specs.Claim.{changes, assigned, ByValue}
 use Rattle.history.proofs.ClaimProof.{claim-by-value}
 use Rattle.boundary.specs.Boundary.{numberOf, changeLeft, countsLeft}
 use Rattle.boundary.proofs.GiveLaws.{fresh-long}
-use Rattle.clearing_c.specs.InWords.{Held, MadeBy, CallsMade, changeOf, writtenOf, changesOf, assignedOf, numberBy, SumInWords}
+use Rattle.clearing_c.specs.InWords.{Held, MadeBy, CallsMade, changeOf, bytesWritten, changesOf, assignedOf, numberBy, SumInWords}
 use Rattle.clearing_c.proofs.NumberLaws.{numbered}
 
 made-ran : (cs : List Call) (hs : List Held) (ws ws₂ : List ℕ) → CallsMade ws cs hs ws₂ → ledgerOf ws₂ ≡ ran (ledgerOf ws) cs
@@ -43,7 +43,7 @@ made-ran (c ∷ cs) (a ∷ hs) ws ws₂ m = made-ran cs hs (m .0) ws₂ (m .2) �
 record Read (o : Outcome) (a : Held) : Type 0 where
   number : a .number ≡ numberBy (o .result)
   change : changeOf a ≡ o .change
-  written : writtenOf a ≡ o .written
+  written : bytesWritten a ≡ o .written
 
 -- its answer and outcome by the cause against it
 by-cause : (l : Ledger) (c : Call) (v : Check) → causeIn l c ≡ v
@@ -96,7 +96,7 @@ module _ (l : Ledger) (c : Call) (h : soundLedger l ≡ true) where
 record ReadAll (l : Ledger) (cs : List Call) (hs : List Held) : Type 0 where
   numbers : map (λ (a : Held). a .number) hs ≡ map (λ (o : Outcome). numberBy (o .result)) (outcomes (book l) cs)
   changes : changesOf hs ≡ changes (outcomes (book l) cs)
-  written : map writtenOf hs ≡ map (λ (o : Outcome). o .written) (outcomes (book l) cs)
+  written : map bytesWritten hs ≡ map (λ (o : Outcome). o .written) (outcomes (book l) cs)
 
 read-all : (cs : List Call) (hs : List Held) (ws ws₂ : List ℕ) → soundLedger (ledgerOf ws) ≡ true → CallsMade ws cs hs ws₂ → ReadAll (ledgerOf ws) cs hs
 unfolding outcomes changes
@@ -117,14 +117,14 @@ read-all (c ∷ cs) (a ∷ hs) ws ws₂ h m =
     }
 
 -- the Tracking IDs are read off the bytes written
-ids-read : (hs : List Held) (os : List Outcome) → map writtenOf hs ≡ map (λ (o : Outcome). o .written) os → assignedOf hs ≡ assigned os
+ids-read : (hs : List Held) (os : List Outcome) → map bytesWritten hs ≡ map (λ (o : Outcome). o .written) os → assignedOf hs ≡ assigned os
 unfolding assigned
 ids-read [] [] e = refl
 ids-read [] (o ∷ os) e = let z : _≡_ {A = ℕ} 0 1 = cc in absurd (omega arith)
 ids-read (a ∷ hs) [] e = let z : _≡_ {A = ℕ} 0 1 = cc in absurd (omega arith)
 ids-read (a ∷ hs) (o ∷ os) e =
-    let w : writtenOf a ≡ o .written = cc in
-    let more : map writtenOf hs ≡ map (λ (x : Outcome). x .written) os = cc in
+    let w : bytesWritten a ≡ o .written = cc in
+    let more : map bytesWritten hs ≡ map (λ (x : Outcome). x .written) os = cc in
     rw (w, ids-read hs os more)
 
 fresh-kept : (l : Ledger) (s : Start) → first (freshCauses s) ≡ Clear → soundLedger (freshCalled l s .ledger) ≡ true

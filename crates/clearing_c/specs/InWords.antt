@@ -49,8 +49,8 @@ abbrev pub changeOf : Held → ℤ
 changeOf a = cond (eqb (a .number) 0) (a .change) (pos 0)
 
 -- the bytes written: as many as `counts` says
-abbrev pub writtenOf : Held → List ℕ
-writtenOf a = cond (eqb (a .number) 0) (part (a .output) 0 (getD (a .counts) 0 0)) []
+abbrev pub bytesWritten : Held → List ℕ
+bytesWritten a = cond (eqb (a .number) 0) (part (a .output) 0 (getD (a .counts) 0 0)) []
 
 -- the sum of the changes, and the Tracking IDs that the bytes assign
 abbrev pub changesOf : List Held → ℤ
@@ -59,7 +59,7 @@ changesOf (a ∷ hs) = changeOf a +ℤ changesOf hs
 
 abbrev pub assignedOf : List Held → List ℕ
 assignedOf [] = []
-assignedOf (a ∷ hs) = assignedIn (writtenOf a) ++ assignedOf hs
+assignedOf (a ∷ hs) = assignedIn (bytesWritten a) ++ assignedOf hs
 
 -- the number answered where the causes say this
 abbrev pub numberBy : Check → ℕ
@@ -77,7 +77,7 @@ pub record ClaimsInWords (s : Start) (ws₁ : List ℕ) (cs : List Call) (hs : L
   pub returned : pos (total (book (ledgerOf ws₂))) ≡ changesOf hs
   pub history : total (book (ledgerOf ws₂)) ≡ historySum (hAfter (begun s) cs)
   -- the bytes that the caller holds are those of the claim, and assign no Tracking ID twice
-  pub written : map writtenOf hs ≡ map (λ (o : Outcome). o .written) (outcomes (book (ledgerOf ws₁)) cs)
+  pub written : map bytesWritten hs ≡ map (λ (o : Outcome). o .written) (outcomes (book (ledgerOf ws₁)) cs)
   pub once : NoneTwice (assignedOf hs)
 
 -- after a fresh that succeeded on any 2,436 words and any list of calls

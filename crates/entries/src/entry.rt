@@ -54,7 +54,7 @@ pub fn step(ws: &mut [u64], out: &mut [u8], src: &[u8], seen: u64, writes: bool)
         Head::Cut => Stepped::Cut,
         Head::Bad => Stepped::Bad,
         Head::Whole(body, n) => {
-            let a = entry(ws, out, writes, 64200, body, &src[3..n]);
+            let a = entry(ws, out, writes, records::FILE_SIZE, body, &src[3..n]);
             Stepped::Made(n, a)
         }
     }

@@ -143,7 +143,7 @@ fn good_length(tag: u8, n: usize) -> bool
     match tag {
         0 => n == 26,
         1 => n == 56,
-        2 => n <= 64200,
+        2 => n <= records::FILE_SIZE,
         3 => n == 16,
         4 => n == 8,
         _ => false,

@@ -47,10 +47,10 @@ fn show_answer(l: Ledger, id: Identity) {
         0,
         b"34ZZC4012345678001900000000101RSP201711130000000002017111601",
     );
-    fields::put_fill(&mut file, 321, 233, b'0');
+    fields::put_fill(&mut file, records::RECORD_SIZE, 233, b'0');
     fields::put_bytes(
         &mut file,
-        321,
+        records::RECORD_SIZE,
         b"34ZZC4012345678001900000000102RSP201711130007201711130010000000085000000000425020171013000000000000000850000000004250",
     );
     file[320] = 13;

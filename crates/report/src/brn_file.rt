@@ -9,6 +9,9 @@ use crate::Report;
 use crate::Reported;
 use entries::run;
 
+// Twice what one entry may write: room for the last notices of a journal.
+const LAST_ROOM: usize = 2 * records::FILE_SIZE;
+
 // Whether the notices of a journal have room in an output; where they have none, whether the journal ended bad.
 enum Fit {
     Fits,
@@ -49,7 +52,7 @@ fn write_notices(src: &[u8], out: &mut [u8]) -> Reported
             stopped: journal::ends_bad(r.stopped, left, r.seen),
         };
     }
-    let mut last = [0u8; 128400];
+    let mut last = [0u8; LAST_ROOM];
     let from = r.used;
     let q = run::run(&mut ws, &mut last, true, &src[from..], r.seen);
     let size = q.written;

@@ -87,8 +87,8 @@ demand-1 =
       numbers = numbered;
       buffers = buffers;
       within = within;
-      tableRoom = table-room;
-      noticesRoom = brn-within;
+      tableWithin = table-room;
+      noticesWithin = brn-within;
       stops = stops;
     }
 

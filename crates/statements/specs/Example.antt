@@ -5,7 +5,7 @@ use mathlib.Core.List.{List, [], _∷_, _++_}
 use lib.ListN.{length}
 use Rattle.fields.specs.Text.{text}
 use Rattle.fields.specs.Put.{put, filled}
-use Rattle.table.specs.Table.{ended}
+use Rattle.table.specs.Table.{tableRoom, ended}
 use Rattle.table.specs.Example.{exampleTable, emptyTable}
 use Rattle.report.specs.declared.Reported.{Reported}
 use Rattle.report.specs.Report.{postedOf, Reports}
@@ -33,17 +33,17 @@ requestEntry =
     ++ text "20171116")
 
 -- positions 1 to 41 of the RSP's records: Company, rate code, account, Tracking ID, type, Notification Code, Transmission Date
-abbrev start : List ℕ → List ℕ
-start type = text "34" ++ text "ZZC40" ++ text "123456780019" ++ text "000000001" ++ type ++ text "RSP" ++ text "20171113"
+abbrev rspStart : List ℕ → List ℕ
+rspStart type = text "34" ++ text "ZZC40" ++ text "123456780019" ++ text "000000001" ++ type ++ text "RSP" ++ text "20171113"
 
--- its header: Confirmation Number, Scheduled Date, Record Count
-abbrev header : List ℕ
-header = start (text "01") ++ text "000000000" ++ text "20171116" ++ text "01" ++ filled 260 32 ++ (13 ∷ [])
+-- its rspHeader: Confirmation Number, Scheduled Date, Record Count
+abbrev rspHeader : List ℕ
+rspHeader = rspStart (text "01") ++ text "000000000" ++ text "20171116" ++ text "01" ++ filled 260 32 ++ (13 ∷ [])
 
--- its detail, "of 4250 cents": Bill Key, Billing Date, sequence, consumption, charge, From Date, the four tiers, the previous fields
-abbrev detail : List ℕ
-detail =
-    start (text "02")
+-- its rspDetail, "of 4250 cents": Bill Key, Billing Date, sequence, consumption, charge, From Date, the four tiers, the previous fields
+abbrev rspDetail : List ℕ
+rspDetail =
+    rspStart (text "02")
     ++ text "0007"
     ++ text "20171113"
     ++ text "001"
@@ -58,7 +58,7 @@ detail =
 
 -- "2 file": "For fresh 20171113, a request (..) and an accepted RSP of 4250 cents"; these are the bytes of reference/examples/example.journal
 unfoldable pub exampleJournal : List ℕ
-exampleJournal = freshEntry (text "20171113") ++ requestEntry ++ entry 2 (header ++ detail)
+exampleJournal = freshEntry (text "20171113") ++ requestEntry ++ entry 2 (rspHeader ++ rspDetail)
 
 -- a fresh that is refused: 20171132 is no date
 unfoldable pub refusedJournal : List ℕ
@@ -76,4 +76,4 @@ pub record ExamplePosted : Type 0 where
 -- so, by its contract (`Reports`), `post_table` writes this table into any output with room for the longest
 abbrev pub ExampleWritten : Type 0
 ExampleWritten =
-    (out₀ out : List ℕ) (r : Reported) → 10970 ≤ length out₀ → Reports exampleJournal out₀ out r → out ≡ put out₀ 0 exampleTable
+    (out₀ out : List ℕ) (r : Reported) → tableRoom ≤ length out₀ → Reports exampleJournal out₀ out r → out ≡ put out₀ 0 exampleTable

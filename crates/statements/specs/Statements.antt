@@ -36,6 +36,7 @@ use Rattle.journal.specs.EntryCalls.{writtenBy, brnOf}
 use Rattle.history.specs.Written.{assignedIn}
 use Rattle.history.specs.Claim.{All, NoneTwice, SumFromHistory, SumByValue}
 use Rattle.history.specs.Cases.{table, Holds}
+use Rattle.table.specs.Table.{tableRoom}
 use Rattle.room.specs.Room.{mostIn}
 use Rattle.report.specs.Report.{postedOf, Claimed}
 use Rattle.boundary.specs.Boundary.{Gives}
@@ -64,8 +65,8 @@ pub record Demand1 : Type 0 where
   -- within its memory: no call writes past the output lent to it; a table has at most 10,970 bytes, and a journal's notices at most 642 for each
   -- request and cancel and the length of each file
   pub within : (l : Book) (c : Call) → length (step l c .written) ≤ roomOf c
-  pub tableRoom : (s : List ℕ) → length (postedOf s) ≤ 10970
-  pub noticesRoom : (s : List ℕ) → length (brnOf s) ≤ mostIn s
+  pub tableWithin : (s : List ℕ) → length (postedOf s) ≤ tableRoom
+  pub noticesWithin : (s : List ℕ) → length (brnOf s) ≤ mostIn s
   -- a journal is read to its end, or to an entry that is cut or bad (13)
   pub stops : (s : List ℕ) → Stops s
 

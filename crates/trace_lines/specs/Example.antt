@@ -21,8 +21,8 @@ abbrev response : Sent
 response =
     record { sup = false; tracking = 1; sequence = 1; first = 60; second = 25; charge = 4250; applied = 0; owed = 0 }
 
-abbrev pub exampleJournal : List ℕ
-exampleJournal = opening ++ (2 ∷ 2 ∷ 130 ∷ []) ++ sent (response ∷ [])
+abbrev pub tracedJournal : List ℕ
+tracedJournal = opening ++ (2 ∷ 2 ∷ 130 ∷ []) ++ sent (response ∷ [])
 
 -- what `trace` prints for it
 abbrev pub exampleTrace : List ℕ
@@ -33,7 +33,7 @@ exampleTrace =
     ++ ended (text "group,000000002,123456780019,0007,RSP,ACF")
 
 abbrev pub ExampleTrace : Type 0
-ExampleTrace = traceOf exampleJournal ≡ exampleTrace
+ExampleTrace = traceOf tracedJournal ≡ exampleTrace
 
 -- ---- a journal with rejected groups, refused calls and negative changes
 -- the same with another charge, and a SUP

@@ -34,7 +34,7 @@ fn put_lines(
     a: Answer,
     sent: &[u8],
 ) -> usize
-    requires { ⌜ (3 ≤ n) × (n ≤ length (now src)) × (n ≤ 64203) × (fileSize ≤ length (now sent)) ⌝ }
+    requires { ⌜ (3 ≤ n) × (n ≤ length (now src)) × (n ≤ fileSize + 3) × (fileSize ≤ length (now sent)) ⌝ }
     requires { ⌜ at + entryRoom ≤ length (now out) ⌝ }
     ensures { λ r. ⌜ LinesOf number (now (src .entry)) n a (now (sent .entry)) (now (out .entry)) at (now (out .exit)) r ⌝ }
 {
