@@ -20,8 +20,8 @@ pub fn put_digits(out: &mut [u8], at: usize, width: usize, n: u64)
     }
 }
 
-// Writes src into out from index `at` on.
-pub fn put_bytes(out: &mut [u8], at: usize, src: &[u8])
+// Writes src into out from index `at` on, byte by byte.
+fn put_each(out: &mut [u8], at: usize, src: &[u8])
     requires { ⌜ at + length (now src) ≤ length (now out) ⌝ }
     ensures { λ _. ⌜ now (out .exit) ≡ put (now (out .entry)) at (now (src .entry)) ⌝ }
 {
@@ -30,6 +30,31 @@ pub fn put_bytes(out: &mut [u8], at: usize, src: &[u8])
         out[at + i] = src[i];
         i += 1;
     }
+}
+
+// The eight bytes of src from index i on.
+fn eight_from(src: &[u8], i: usize) -> [u8; 8]
+    requires { ⌜ i + 8 ≤ length (now src) ⌝ }
+    ensures { λ r. ⌜ r ≡ part (now (src .entry)) i 8 ⌝ }
+{
+    let mut w = [0u8; 8];
+    put_each(&mut w, 0, &src[i..i + 8]);
+    w
+}
+
+// Writes src into out from index `at` on. Eight bytes are read before they are written, so that they are moved as one word.
+pub fn put_bytes(out: &mut [u8], at: usize, src: &[u8])
+    requires { ⌜ at + length (now src) ≤ length (now out) ⌝ }
+    ensures { λ _. ⌜ now (out .exit) ≡ put (now (out .entry)) at (now (src .entry)) ⌝ }
+{
+    let n = src.len();
+    let mut i = 0;
+    while 8 <= n - i {
+        let w = eight_from(src, i);
+        put_each(out, at + i, &w);
+        i += 8;
+    }
+    put_each(out, at + i, &src[i..]);
 }
 
 // Writes n bytes of src from index `from` on into out from index `at` on.
