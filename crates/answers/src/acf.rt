@@ -9,6 +9,7 @@ ghost use Rattle.records.specs.Limits.{recordSize};
 ghost use Rattle.records.specs.Layout.{trackingIn, balanceIn};
 ghost use Rattle.notices.specs.Notices.{spaces};
 ghost use Rattle.notices.specs.Answers.{acfAlike, acf};
+use crate::is_sup;
 use notices::acf::Acf;
 use records::layout;
 use units::Date;
@@ -42,7 +43,7 @@ fn put_alike(out: &mut [u8], at: usize, h: &[u8], a: Acf)
     requires { ⌜ (at + 41 ≤ length (now out)) × (recordSize ≤ length (now h)) ⌝ }
     ensures { λ _. ⌜ now (out .exit) ≡ put (now (out .entry)) at (acfAlike (now (h .entry)) a) ⌝ }
 {
-    let sup = records::is_sup(h);
+    let sup = is_sup(h);
     fields::put_part(out, at, h, layout::COMPANY, layout::TRACKING);
     put_tracking(out, at + layout::TRACKING, h, sup, a.tracking);
     fields::put_part(out, at + layout::TYPE, h, layout::TYPE, layout::TYPE_WIDTH);
@@ -71,7 +72,7 @@ pub fn write(out: &mut [u8], at: usize, h: &[u8], a: Acf)
     let product = terms.product;
     let prepay = product.is_prepay();
     let due = terms.latest.scheduled;
-    let scheduled = scheduled_of(records::is_sup(h), due);
+    let scheduled = scheduled_of(is_sup(h), due);
     put_alike(out, at, h, a);
     fields::put_digits(
         out,

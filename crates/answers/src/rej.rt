@@ -6,6 +6,7 @@ ghost use Rattle.fields.specs.Put.{put};
 ghost use Rattle.records.specs.Limits.{recordSize};
 ghost use Rattle.records.specs.Layout.{fromIn, recordAt, recordsFrom};
 ghost use Rattle.notices.specs.Answers.{rejAlike, rejHeader, isBlank, fromBack, rejDetail, rej};
+use crate::is_sup;
 use notices::rej::Rej;
 use records::RECORD_SIZE;
 use records::layout;
@@ -114,7 +115,7 @@ pub fn write(out: &mut [u8], at: usize, s: &[u8], i: usize, k: usize, x: Rej)
 {
     let a = i * RECORD_SIZE;
     let e = a + RECORD_SIZE;
-    let sup = records::is_sup(&s[a..e]);
+    let sup = is_sup(&s[a..e]);
     put_header(out, at, &s[a..e], x);
     let mut j = 0;
     while j < k {

@@ -1,10 +1,11 @@
 // Fixed-width fields in lent bytes: digits for every width, parts of a slice, writes into a lent output.
 ghost use mathlib.Core.Path.{_≡_};
+ghost use mathlib.Core.Bool.{not};
 ghost use Prim.Native.Nat.{_+_, _≤_};
 ghost use lib.ListN.{length};
-ghost use Rattle.fields.specs.Digits.{digits, isDigit, numeric};
+ghost use Rattle.fields.specs.Digits.{digits, isDigit};
 ghost use Rattle.fields.specs.Put.{put, part, filled, sameList, holds};
-ghost use Rattle.fields.specs.Field.{fieldOf};
+ghost use Rattle.fields.specs.Field.{fieldOf, bad, value};
 
 // Writes the `width` lowest digits of n into out from index `at` on.
 pub fn put_digits(out: &mut [u8], at: usize, width: usize, n: u64)
@@ -91,6 +92,28 @@ pub enum Field {
     NotNumeric,
 }
 
+impl Field {
+    // Whether it holds a number.
+    pub fn is_number(self) -> bool
+        ensures { λ r. ⌜ r ≡ not (bad self) ⌝ }
+    {
+        match self {
+            Field::Number(_) => true,
+            Field::NotNumeric => false,
+        }
+    }
+
+    // Its number, 0 where it is not numeric.
+    pub fn value(self) -> u64
+        ensures { λ r. ⌜ r ≡ value self ⌝ }
+    {
+        match self {
+            Field::Number(n) => n,
+            Field::NotNumeric => 0,
+        }
+    }
+}
+
 // Reads a whole slice as a field. Nineteen digits always fit a u64.
 pub fn read_digits(f: &[u8]) -> Field
     requires { ⌜ length (now f) ≤ 19 ⌝ }
@@ -120,17 +143,6 @@ pub fn read_field(s: &[u8], at: usize, width: usize) -> Field
     read_digits(&s[at..at + width])
 }
 
-// Whether the `width` bytes of s from index `at` on are digits only.
-pub fn is_numeric(s: &[u8], at: usize, width: usize) -> bool
-    requires { ⌜ (at + width ≤ length (now s)) × (width ≤ 19) ⌝ }
-    ensures { λ r. ⌜ r ≡ numeric (part (now (s .entry)) at width) ⌝ }
-{
-    let Field::Number(_) = read_field(s, at, width) else {
-        return false;
-    };
-    true
-}
-
 // Whether n bytes of a from index i on are those of b from index j on.
 pub fn same_part(a: &[u8], i: usize, b: &[u8], j: usize, n: usize) -> bool
     requires { ⌜ i + n ≤ length (now a) ⌝ }
@@ -158,7 +170,7 @@ pub fn is_text(s: &[u8], at: usize, text: &[u8]) -> bool
 // Whether the `width` bytes of s from index `at` on are the lowest digits of n.
 pub fn is_digits(s: &[u8], at: usize, width: usize, n: u64) -> bool
     requires { ⌜ at + width ≤ length (now s) ⌝ }
-    ensures { λ r. ⌜ r ≡ holds (now (s .entry)) at (digits width n) ⌝ }
+    ensures { λ r. ⌜ r ≡ sameList (part (now (s .entry)) at width) (digits width n) ⌝ }
 {
     let mut i = width;
     let mut m = n;

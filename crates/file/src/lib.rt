@@ -39,7 +39,7 @@ fn is_header(r: &[u8]) -> bool
     requires { ⌜ 30 ≤ length (now r) ⌝ }
     ensures { λ b. ⌜ b ≡ isHeader (now (r .entry)) ⌝ }
 {
-    records::has_type_01(r)
+    records::has_type(r, b"01")
 }
 
 // Whether a record is as document 01 asks.
@@ -48,7 +48,7 @@ fn good_record(r: &[u8]) -> bool
     ensures { λ b. ⌜ b ≡ goodRecord (now (r .entry)) ⌝ }
 {
     let last = r[layout::END];
-    all_printable(r, layout::END) & (last == 13) & (is_header(r) | records::has_type_02(r))
+    all_printable(r, layout::END) & (last == 13) & (is_header(r) | records::has_type(r, b"02"))
 }
 
 // Whether record i is a header.
@@ -68,7 +68,7 @@ pub fn sup_at(s: &[u8], i: usize) -> bool
 {
     let a = i * RECORD_SIZE;
     let e = a + RECORD_SIZE;
-    records::is_sup(&s[a..e])
+    records::has_notice(&s[a..e], b"SUP")
 }
 
 // The check of a whole file: cause 11 where it is false.
@@ -146,8 +146,8 @@ fn unfit_pair(h: &[u8], d: &[u8]) -> bool
         | !records::has_company_34(h)
         | !fields::same_part(h, layout::COMPANY, d, layout::COMPANY, layout::TYPE)
         | !fields::same_part(h, layout::NOTICE, d, layout::NOTICE, layout::NOTICE_WIDTH)
-        | !records::has_numeric_account(h)
-        | !records::has_numeric_key(d)
+        | !records::account(h).is_number()
+        | !records::key(d).is_number()
 }
 
 // Lines 1 and 2 for a header and its only detail.
@@ -158,10 +158,10 @@ fn pair_form(h: &[u8], d: &[u8]) -> Form
     if unfit_pair(h, d) {
         return Form::Broken;
     }
-    if records::is_rsp(h) {
+    if records::has_notice(h, b"RSP") {
         return Form::Response;
     }
-    if records::is_sup(h) {
+    if records::has_notice(h, b"SUP") {
         return Form::Supplement;
     }
     Form::Unknown

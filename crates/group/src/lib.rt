@@ -46,8 +46,8 @@ fn identity_of(h: &[u8], d: &[u8]) -> Identity
     ensures { λ r. ⌜ r ≡ identityIn (now (h .entry)) (now (d .entry)) ⌝ }
 {
     Identity {
-        account: records::account_number(h),
-        key: records::key_number(d),
+        account: records::account(h).value(),
+        key: records::key(d).value(),
     }
 }
 

@@ -27,8 +27,8 @@ fn named(h: &[u8], d: &[u8], code: u64) -> u64
     requires { ⌜ (19 ≤ length (now h)) × (45 ≤ length (now d)) × (code ≤ 2) ⌝ }
     ensures { λ r. ⌜ r ≡ namedBy (now (h .entry)) (now (d .entry)) code ⌝ }
 {
-    let account = records::account_number(h);
-    let key = records::key_number(d);
+    let account = records::account(h).value();
+    let key = records::key(d).value();
     code * 10000000000000000 + (account * 10000 + key)
 }
 

@@ -2,13 +2,13 @@
 pub mod layout;
 
 ghost use mathlib.Core.Path.{_≡_};
-ghost use Prim.Native.Nat.{_+_, _≤_, _<_, _^_};
+ghost use Prim.Native.Nat.{_+_, _≤_};
 ghost use lib.ListN.{length};
 ghost use Rattle.fields.specs.Text.{text};
-ghost use Rattle.fields.specs.Digits.{digits, numeric};
+ghost use Rattle.fields.specs.Digits.{digits};
 ghost use Rattle.fields.specs.Put.{part, sameList};
-ghost use Rattle.fields.specs.Field.{fieldOf, value};
-ghost use Rattle.records.specs.Layout.{companyIn, rateCodeIn, accountIn, trackingIn, typeIn, recordCountIn, balanceIn, keyIn, sequenceIn, consumptionIn, detailChargeIn, fromIn, tierRateIn, appliedIn, owedIn, isRsp, isSup};
+ghost use Rattle.fields.specs.Field.{fieldOf};
+ghost use Rattle.records.specs.Layout.{companyIn, rateCodeIn, accountIn, trackingIn, typeIn, noticeIn, recordCountIn, balanceIn, keyIn, sequenceIn, consumptionIn, detailChargeIn, fromIn, tierRateIn, appliedIn, owedIn};
 ghost use Rattle.records.specs.Tiers.{fourFields, tierConsumptions, tierCharges};
 use fields::Field;
 
@@ -27,15 +27,13 @@ pub enum Tiers {
     NotNumeric,
 }
 
-// The number of a field, 0 where it is not numeric.
-fn number_at(r: &[u8], at: usize, width: usize) -> u64
-    requires { ⌜ (at + width ≤ length (now r)) × (width ≤ 19) ⌝ }
-    ensures { λ v. ⌜ (v ≡ value (fieldOf (part (now (r .entry)) at width))) × (v < 10 ^ width) ⌝ }
+// Whether the field of `width` bytes from index `at` on holds `text`.
+fn has_text(r: &[u8], at: usize, width: usize, text: &[u8]) -> bool
+    requires { ⌜ at + width ≤ length (now r) ⌝ }
+    requires { ⌜ length (now text) ≡ width ⌝ }
+    ensures { λ b. ⌜ b ≡ sameList (part (now (r .entry)) at width) (now (text .entry)) ⌝ }
 {
-    let Field::Number(n) = fields::read_field(r, at, width) else {
-        return 0;
-    };
-    n
+    fields::is_text(r, at, text)
 }
 
 // ---- header and detail alike
@@ -54,23 +52,15 @@ pub fn has_rate_code(r: &[u8], code: &[u8]) -> bool
     requires { ⌜ length (now code) ≡ 5 ⌝ }
     ensures { λ b. ⌜ b ≡ sameList (rateCodeIn (now (r .entry))) (now (code .entry)) ⌝ }
 {
-    fields::is_text(r, layout::RATE_CODE, code)
+    has_text(r, layout::RATE_CODE, layout::RATE_CODE_WIDTH, code)
 }
 
-// Whether the account is numeric.
-pub fn has_numeric_account(r: &[u8]) -> bool
+// The account.
+pub fn account(r: &[u8]) -> Field
     requires { ⌜ 19 ≤ length (now r) ⌝ }
-    ensures { λ b. ⌜ b ≡ numeric (accountIn (now (r .entry))) ⌝ }
+    ensures { λ b. ⌜ b ≡ fieldOf (accountIn (now (r .entry))) ⌝ }
 {
-    fields::is_numeric(r, layout::ACCOUNT, layout::ACCOUNT_WIDTH)
-}
-
-// The account's number, 0 where it is not numeric.
-pub fn account_number(r: &[u8]) -> u64
-    requires { ⌜ 19 ≤ length (now r) ⌝ }
-    ensures { λ b. ⌜ (b ≡ value (fieldOf (accountIn (now (r .entry))))) × (b < 10 ^ 12) ⌝ }
-{
-    number_at(r, layout::ACCOUNT, layout::ACCOUNT_WIDTH)
+    fields::read_field(r, layout::ACCOUNT, layout::ACCOUNT_WIDTH)
 }
 
 // Whether a record has this Tracking ID.
@@ -81,36 +71,22 @@ pub fn has_tracking(r: &[u8], n: u64) -> bool
     fields::is_digits(r, layout::TRACKING, layout::TRACKING_WIDTH, n)
 }
 
-// Whether a record is of type 01, a header.
-pub fn has_type_01(r: &[u8]) -> bool
+// Whether a record is of this type, two bytes: 01 is a header, 02 a detail.
+pub fn has_type(r: &[u8], text: &[u8]) -> bool
     requires { ⌜ 30 ≤ length (now r) ⌝ }
-    ensures { λ b. ⌜ b ≡ sameList (typeIn (now (r .entry))) (text "01") ⌝ }
+    requires { ⌜ length (now text) ≡ 2 ⌝ }
+    ensures { λ b. ⌜ b ≡ sameList (typeIn (now (r .entry))) (now (text .entry)) ⌝ }
 {
-    fields::is_text(r, layout::TYPE, b"01")
+    has_text(r, layout::TYPE, layout::TYPE_WIDTH, text)
 }
 
-// Whether a record is of type 02, a detail.
-pub fn has_type_02(r: &[u8]) -> bool
-    requires { ⌜ 30 ≤ length (now r) ⌝ }
-    ensures { λ b. ⌜ b ≡ sameList (typeIn (now (r .entry))) (text "02") ⌝ }
+// Whether a record has this Notification Code, three bytes.
+pub fn has_notice(r: &[u8], code: &[u8]) -> bool
+    requires { ⌜ 33 ≤ length (now r) ⌝ }
+    requires { ⌜ length (now code) ≡ 3 ⌝ }
+    ensures { λ b. ⌜ b ≡ sameList (noticeIn (now (r .entry))) (now (code .entry)) ⌝ }
 {
-    fields::is_text(r, layout::TYPE, b"02")
-}
-
-// Whether a header has the Notification Code RSP.
-pub fn is_rsp(h: &[u8]) -> bool
-    requires { ⌜ 33 ≤ length (now h) ⌝ }
-    ensures { λ r. ⌜ r ≡ isRsp (now (h .entry)) ⌝ }
-{
-    fields::is_text(h, layout::NOTICE, b"RSP")
-}
-
-// Whether a header has the Notification Code SUP.
-pub fn is_sup(h: &[u8]) -> bool
-    requires { ⌜ 33 ≤ length (now h) ⌝ }
-    ensures { λ r. ⌜ r ≡ isSup (now (h .entry)) ⌝ }
-{
-    fields::is_text(h, layout::NOTICE, b"SUP")
+    has_text(r, layout::NOTICE, layout::NOTICE_WIDTH, code)
 }
 
 // ---- header
@@ -133,20 +109,12 @@ pub fn balance(h: &[u8]) -> Field
 
 // ---- detail
 
-// Whether the Bill Key is numeric.
-pub fn has_numeric_key(d: &[u8]) -> bool
+// The Bill Key.
+pub fn key(d: &[u8]) -> Field
     requires { ⌜ 45 ≤ length (now d) ⌝ }
-    ensures { λ b. ⌜ b ≡ numeric (keyIn (now (d .entry))) ⌝ }
+    ensures { λ b. ⌜ b ≡ fieldOf (keyIn (now (d .entry))) ⌝ }
 {
-    fields::is_numeric(d, layout::KEY, layout::KEY_WIDTH)
-}
-
-// The Bill Key's number, 0 where it is not numeric.
-pub fn key_number(d: &[u8]) -> u64
-    requires { ⌜ 45 ≤ length (now d) ⌝ }
-    ensures { λ b. ⌜ (b ≡ value (fieldOf (keyIn (now (d .entry))))) × (b < 10 ^ 4) ⌝ }
-{
-    number_at(d, layout::KEY, layout::KEY_WIDTH)
+    fields::read_field(d, layout::KEY, layout::KEY_WIDTH)
 }
 
 // Whether a detail has this sequence.
@@ -179,7 +147,7 @@ pub fn has_from_date(d: &[u8], date: &[u8]) -> bool
     requires { ⌜ length (now date) ≡ 8 ⌝ }
     ensures { λ b. ⌜ b ≡ sameList (fromIn (now (d .entry))) (now (date .entry)) ⌝ }
 {
-    fields::is_text(d, layout::FROM, date)
+    has_text(d, layout::FROM, layout::FROM_WIDTH, date)
 }
 
 // The rate of tier 1.

@@ -57,7 +57,7 @@ returns c =
     let l = c .before .before .before .loop in
     let g : l .i - 1 < length (digits (a .width) (a .n)) = rw length-digits (omega arith) in
     let t : getD (digits (a .width) (a .n)) (0 + (l .i - 1)) 0 ≡ 48 + l .m % 10 = turn _ _ _ _ (omega arith) (l .inv .0) (l .inv .2) in
-    sym (holds-differ (a .s .now) (digits (a .width) (a .n)) (a .at) (l .i - 1) g (λ e. c .if1 .taken (e ∙ t)))
+    rw length-digits at (sym (holds-differ (a .s .now) (digits (a .width) (a .n)) (a .at) (l .i - 1) g (λ e. c .if1 .taken (e ∙ t))))
 
 loop-less : tie.Need-loop-less Inv-loop μ-loop
 loop-less c = search needs
@@ -79,7 +79,7 @@ returns-2 : tie.Need-returns-2 Inv-loop μ-loop
 returns-2 c =
     let a = c .before .before .args in
     let e : length (digits (a .width) (a .n)) ≡ a .width = length-digits _ _ in
-    sym (holds-same (a .s .now) (digits (a .width) (a .n)) (a .at) (omega arith) (λ k h. c .before .loop .inv .1 k (omega arith) (omega arith)))
+    rw length-digits at (sym (holds-same (a .s .now) (digits (a .width) (a .n)) (a .at) (omega arith) (λ k h. c .before .loop .inv .1 k (omega arith) (omega arith))))
 
 pub is-digits-spec : {M : Type 1} → statement M
 is-digits-spec =

@@ -13,12 +13,15 @@ all-printable-requires c κs = search needs
 is-header-requires : tie.Need-is-header-requires
 is-header-requires c κs = search needs
 
-has-type-02-requires : tie.Need-has-type-02-requires
-has-type-02-requires c κs = search needs
+slice-aggregate-has-type : tie.Need-slice-aggregate-has-type
+slice-aggregate-has-type c = search needs
+
+has-type-requires : tie.Need-has-type-requires
+has-type-requires c κs = search needs
 
 returns : tie.Need-returns
 unfolding goodRecord isDetail
-returns c = rw (c .before .before .all-printable .ensures, c .before .is-header .ensures, c .has-type-02 .ensures)
+returns c = rw (c .before .before .before .all-printable .ensures, c .before .before .is-header .ensures, c .has-type .ensures)
 
 pub good-record-spec : {M : Type 1} → statement M
 good-record-spec =
@@ -27,5 +30,6 @@ good-record-spec =
     shared-slice-read-last
     all-printable-requires
     is-header-requires
-    has-type-02-requires
+    slice-aggregate-has-type
+    has-type-requires
     returns)

@@ -12,22 +12,35 @@ mul-a c = search needs
 add-e : tie.Need-add-e
 add-e c = search needs
 
-sub-is-sup : tie.Need-sub-is-sup
-sub-is-sup c = search needs
+sub-has-notice : tie.Need-sub-has-notice
+sub-has-notice c = search needs
 
-part-is-sup-start : tie.Need-part-is-sup-start
-part-is-sup-start c = search needs
+part-has-notice-start : tie.Need-part-has-notice-start
+part-has-notice-start c = search needs
 
-part-is-sup-end : tie.Need-part-is-sup-end
-part-is-sup-end c = search needs
+part-has-notice-end : tie.Need-part-has-notice-end
+part-has-notice-end c = search needs
 
-is-sup-requires : tie.Need-is-sup-requires
-is-sup-requires c κs = search needs
+slice-aggregate-has-notice : tie.Need-slice-aggregate-has-notice
+slice-aggregate-has-notice c = search needs
+
+has-notice-requires : tie.Need-has-notice-requires
+has-notice-requires c κs = search needs
 
 returns : tie.Need-returns
-returns c = c .is-sup .ensures ∙ ap isSup (lent-record (c .before .before .before .args .s .now) (c .before .before .before .args .i))
+returns c =
+    let start = c .before .before .before .before in
+    c .has-notice .ensures ∙ ap isSup (lent-record (start .args .s .now) (start .args .i))
 
 pub sup-at-spec : {M : Type 1} → statement M
 sup-at-spec =
     tie.close
-    (tie.spec mul-a add-e sub-is-sup part-is-sup-start part-is-sup-end is-sup-requires returns)
+    (tie.spec
+    mul-a
+    add-e
+    sub-has-notice
+    part-has-notice-start
+    part-has-notice-end
+    slice-aggregate-has-notice
+    has-notice-requires
+    returns)
