@@ -1,4 +1,4 @@
 -- Laws that belong to no one function.
-pub mod IdLaws
+pub mod GroupNumberLaws
 pub mod MarkLaws
 pub mod SlotLaws

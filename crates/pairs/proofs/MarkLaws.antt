@@ -13,45 +13,45 @@ use Rattle.records.specs.Layout.{recordAt}
 use Rattle.file.specs.File.{isHeader, alike, passes, line3}
 use Rattle.file.specs.parts.Walk.{groupAt, before, later, markAt}
 use Rattle.file.proofs.WalkLaws.{others-none, others-hit}
-use Rattle.pairs.specs.parts.GroupNumbers.{idAt}
-use Rattle.pairs.proofs.IdLaws.{id-passes, id-not-zero, alike-id}
+use Rattle.pairs.specs.parts.GroupNumbers.{numberAt}
+use Rattle.pairs.proofs.GroupNumberLaws.{number-passes, number-not-zero, alike-number}
 
 -- record j matches record i
 abbrev pub matches : List ℕ → ℕ → ℕ → ℕ → Bool
-matches s n i j = eqb (idAt s n j) (idAt s n i) && not (eqb j i)
+matches s n i j = eqb (numberAt s n j) (numberAt s n i) && not (eqb j i)
 
 module _ (s : List ℕ) (n : ℕ) (b : n * 321 ≤ length s) (i : ℕ) (h : i < n) where
   -- a match was met
-  pub mark-hit : (idAt s n i ≡ 0 → ⊥) → (j : ℕ) → j < n → matches s n i j ≡ true → markAt s n i ≡ true
+  pub mark-hit : (numberAt s n i ≡ 0 → ⊥) → (j : ℕ) → j < n → matches s n i j ≡ true → markAt s n i ≡ true
   unfolding markAt line3
   mark-hit z j l m =
-      let q = id-passes s n b i z in
-      let e = eqb-true (idAt s n j) (idAt s n i) (and-left (eqb (idAt s n j) (idAt s n i)) (not (eqb j i)) m) in
-      let d = eqb-false j i (not-true (eqb j i) (and-right (eqb (idAt s n j) (idAt s n i)) (not (eqb j i)) m)) in
-      let p = id-passes s n b j (λ y. z (sym e ∙ y)) in
+      let q = number-passes s n b i z in
+      let e = eqb-true (numberAt s n j) (numberAt s n i) (and-left (eqb (numberAt s n j) (numberAt s n i)) (not (eqb j i)) m) in
+      let d = eqb-false j i (not-true (eqb j i) (and-right (eqb (numberAt s n j) (numberAt s n i)) (not (eqb j i)) m)) in
+      let p = number-passes s n b j (λ y. z (sym e ∙ y)) in
       rw (q .0, q .1)
-      (others-hit s n (alike (groupAt s i n)) i j l d (p .0) (alike-id s n b i j z (p .0) ∙ eq-eqb (idAt s n j) (idAt s n i) e))
+      (others-hit s n (alike (groupAt s i n)) i j l d (p .0) (alike-number s n b i j z (p .0) ∙ eq-eqb (numberAt s n j) (numberAt s n i) e))
 
   -- none was
-  pub mark-miss : (idAt s n i ≡ 0 → ⊥) → ((j : ℕ) → j < n → matches s n i j ≡ false) → markAt s n i ≡ false
+  pub mark-miss : (numberAt s n i ≡ 0 → ⊥) → ((j : ℕ) → j < n → matches s n i j ≡ false) → markAt s n i ≡ false
   unfolding markAt line3
   mark-miss z f =
-      let q = id-passes s n b i z in
+      let q = number-passes s n b i z in
       rw (q .0, q .1)
-      (others-none s n (alike (groupAt s i n)) i (λ j l d e. alike-id s n b i j z e ∙ go j d (eqb (idAt s n j) (idAt s n i)) (f j l)) h)
+      (others-none s n (alike (groupAt s i n)) i (λ j l d e. alike-number s n b i j z e ∙ go j d (eqb (numberAt s n j) (numberAt s n i)) (f j l)) h)
     where
       go : (j : ℕ) → (j ≡ i → ⊥) → (t : Bool) → (t && not (eqb j i)) ≡ false → t ≡ false
       go j d true e = absurd (false≢true (sym e ∙ ap not (ne-eqb j i d)))
       go j d false e = refl
 
   -- a record without a number
-  pub mark-none : idAt s n i ≡ 0 → markAt s n i ≡ false
+  pub mark-none : numberAt s n i ≡ 0 → markAt s n i ≡ false
   unfolding markAt
   mark-none z = go (isHeader (recordAt s i)) refl (passes (groupAt s i n)) refl
     where
       go : (t : Bool) → isHeader (recordAt s i) ≡ t → (u : Bool) → passes (groupAt s i n) ≡ u
           → (t && u && line3 (before s n i ++ later s n i) (groupAt s i n)) ≡ false
-      go true e true f = absurd (id-not-zero s n b i e f z)
+      go true e true f = absurd (number-not-zero s n b i e f z)
       go true e false f = refl
       go false e u f = refl
 

@@ -13,15 +13,15 @@ use Rattle.pairs.specs.parts.GroupNumbers.{numberSlot}
 
 -- the slot of record k
 abbrev pub slotAt : List ℕ → ℕ → ℕ
-slotAt id k = numberSlot (getD id k 0)
+slotAt numbers k = numberSlot (getD numbers k 0)
 
 -- every record before i is noted
 abbrev pub Once : List ℕ → List Bool → ℕ → Type 0
-Once id m i = (k : ℕ) → k < i → getD m (slotAt id k) false ≡ true
+Once numbers m i = (k : ℕ) → k < i → getD m (slotAt numbers k) false ≡ true
 
 -- and so is every one before i that has the number of an earlier one
 abbrev pub Twice : List ℕ → List Bool → ℕ → Type 0
-Twice id m i = (j k : ℕ) → j < k → k < i → getD id j 0 ≡ getD id k 0 → getD m (slotAt id k) false ≡ true
+Twice numbers m i = (j k : ℕ) → j < k → k < i → getD numbers j 0 ≡ getD numbers k 0 → getD m (slotAt numbers k) false ≡ true
 
 or-left : (a b : Bool) → a ≡ true → (a || b) ≡ true
 or-left true b e = refl
@@ -39,52 +39,52 @@ keeps m h a v b f e = go (eqb a h) refl
     go true p = let q = eqb-true a h p in ap (λ (o : ℕ). getD (set m h v) o false) q ∙ getD-set-same m h v false b ∙ f q
     go false p = getD-set-other m h a v false (eqb-false a h p) ∙ e
 
-module _ (id : List ℕ) (i h : ℕ) (s : h ≡ slotAt id i) where
-  pub once-more : (m : List Bool) → h < length m → Once id m i → Once id (set m h true) (i + 1)
+module _ (numbers : List ℕ) (i h : ℕ) (s : h ≡ slotAt numbers i) where
+  pub once-more : (m : List Bool) → h < length m → Once numbers m i → Once numbers (set m h true) (i + 1)
   once-more m b w k l = go (eqb k i) refl
     where
-      go : (t : Bool) → eqb k i ≡ t → getD (set m h true) (slotAt id k) false ≡ true
-      go true p = ap (λ (o : ℕ). getD (set m h true) o false) (ap (slotAt id) (eqb-true k i p) ∙ sym s) ∙ getD-set-same m h true false b
-      go false p = keeps m h (slotAt id k) true b (λ z. refl) (w k (omega (arith, eqb-false k i p)))
+      go : (t : Bool) → eqb k i ≡ t → getD (set m h true) (slotAt numbers k) false ≡ true
+      go true p = ap (λ (o : ℕ). getD (set m h true) o false) (ap (slotAt numbers) (eqb-true k i p) ∙ sym s) ∙ getD-set-same m h true false b
+      go false p = keeps m h (slotAt numbers k) true b (λ z. refl) (w k (omega (arith, eqb-false k i p)))
 
-  pub twice-more : (o m : List Bool) → h < length m → Once id o i → Twice id m i → Twice id (set m h (getD m h false || getD o h false)) (i + 1)
+  pub twice-more : (o m : List Bool) → h < length m → Once numbers o i → Twice numbers m i → Twice numbers (set m h (getD m h false || getD o h false)) (i + 1)
   twice-more o m b u w j k d l e = go (eqb k i) refl
     where
       v : Bool
       v = getD m h false || getD o h false
 
-      go : (t : Bool) → eqb k i ≡ t → getD (set m h v) (slotAt id k) false ≡ true
+      go : (t : Bool) → eqb k i ≡ t → getD (set m h v) (slotAt numbers k) false ≡ true
       go true p =
-          let q = ap (slotAt id) (eqb-true k i p) ∙ sym s in
+          let q = ap (slotAt numbers) (eqb-true k i p) ∙ sym s in
           let z = ap (λ (a : ℕ). getD o a false) (sym q ∙ ap numberSlot (sym e)) ∙ u j (omega (arith, eqb-true k i p)) in
           ap (λ (a : ℕ). getD (set m h v) a false) q ∙ getD-set-same m h v false b ∙ or-right (getD m h false) (getD o h false) z
       go false p =
           let z = w j k d (omega (arith, eqb-false k i p)) e in
-          keeps m h (slotAt id k) v b (λ q. or-left (getD m h false) (getD o h false) (ap (λ (a : ℕ). getD m a false) (sym q) ∙ z)) z
+          keeps m h (slotAt numbers k) v b (λ q. or-left (getD m h false) (getD o h false) (ap (λ (a : ℕ). getD m a false) (sym q) ∙ z)) z
 
 -- in whatever order the two come
-pub twice-both : (id : List ℕ) (m : List Bool) (n : ℕ) → Twice id m n → (j k : ℕ) → j < n → k < n → (j ≡ k → ⊥) → getD id j 0 ≡ getD id k 0
-    → getD m (slotAt id k) false ≡ true
-twice-both id m n w j k a b d e = go (ltb j k) refl
+pub twice-both : (numbers : List ℕ) (m : List Bool) (n : ℕ) → Twice numbers m n → (j k : ℕ) → j < n → k < n → (j ≡ k → ⊥) → getD numbers j 0 ≡ getD numbers k 0
+    → getD m (slotAt numbers k) false ≡ true
+twice-both numbers m n w j k a b d e = go (ltb j k) refl
   where
-    go : (t : Bool) → ltb j k ≡ t → getD m (slotAt id k) false ≡ true
+    go : (t : Bool) → ltb j k ≡ t → getD m (slotAt numbers k) false ≡ true
     go true p = w j k (ltb-true j k p) b e
     go false p = ap (λ (x : ℕ). getD m (numberSlot x) false) (sym e) ∙ w k j (omega (arith, ltb-false j k p, d)) a (sym e)
 
 -- the test of the walk, on the numbers of the records
 abbrev pub meets : List ℕ → ℕ → ℕ → Bool
-meets id i j = eqb (getD id j 0) (getD id i 0) && not (eqb j i)
+meets numbers i j = eqb (getD numbers j 0) (getD numbers i 0) && not (eqb j i)
 
 -- where the slot of record i is not noted twice, no other has its number
-pub unmet : (id : List ℕ) (m : List Bool) (i n : ℕ) → getD m (slotAt id i) false ≡ false
-    → ((j : ℕ) → j < n → (j ≡ i → ⊥) → getD id j 0 ≡ getD id i 0 → getD m (slotAt id i) false ≡ true) → (j : ℕ) → j < n → meets id i j ≡ false
-unmet id m i n e w j l = go (meets id i j) refl
+pub unmet : (numbers : List ℕ) (m : List Bool) (i n : ℕ) → getD m (slotAt numbers i) false ≡ false
+    → ((j : ℕ) → j < n → (j ≡ i → ⊥) → getD numbers j 0 ≡ getD numbers i 0 → getD m (slotAt numbers i) false ≡ true) → (j : ℕ) → j < n → meets numbers i j ≡ false
+unmet numbers m i n e w j l = go (meets numbers i j) refl
   where
-    go : (t : Bool) → meets id i j ≡ t → meets id i j ≡ false
+    go : (t : Bool) → meets numbers i j ≡ t → meets numbers i j ≡ false
     go false p = p
     go true p =
-        let a = eqb-true (getD id j 0) (getD id i 0) (and-left (eqb (getD id j 0) (getD id i 0)) (not (eqb j i)) p) in
-        let d = eqb-false j i (not-true (eqb j i) (and-right (eqb (getD id j 0) (getD id i 0)) (not (eqb j i)) p)) in
+        let a = eqb-true (getD numbers j 0) (getD numbers i 0) (and-left (eqb (getD numbers j 0) (getD numbers i 0)) (not (eqb j i)) p) in
+        let d = eqb-false j i (not-true (eqb j i) (and-right (eqb (getD numbers j 0) (getD numbers i 0)) (not (eqb j i)) p)) in
         absurd (false≢true (sym e ∙ w j l d a))
 
 -- a guard that holds, and one that does not

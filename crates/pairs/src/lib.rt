@@ -5,7 +5,7 @@ ghost use Prim.Native.Nat.{ℕ, _+_, _*_, _≤_, _<_};
 ghost use lib.ListN.{length, getD};
 ghost use Rattle.records.specs.Limits.{recordSize, fileRecords};
 ghost use Rattle.file.specs.parts.Walk.{groupAt, markAt};
-ghost use Rattle.pairs.specs.parts.GroupNumbers.{codeNumber, namedBy, idOf, idAt, numberSlot};
+ghost use Rattle.pairs.specs.parts.GroupNumbers.{codeNumber, namedBy, groupNumber, numberAt, numberSlot};
 use file::Form;
 use records::FILE_RECORDS;
 use records::RECORD_SIZE;
@@ -33,9 +33,9 @@ fn named(h: &[u8], d: &[u8], code: u64) -> u64
 }
 
 // The number of the group whose header is record i, 0 where it fails line 1 or 2.
-fn id_of(s: &[u8], i: usize, n: usize) -> u64
+fn group_number(s: &[u8], i: usize, n: usize) -> u64
     requires { ⌜ (i < n) × (n * recordSize ≤ length (now s)) ⌝ }
-    ensures { λ r. ⌜ r ≡ idOf (groupAt (now (s .entry)) i n) ⌝ }
+    ensures { λ r. ⌜ r ≡ groupNumber (groupAt (now (s .entry)) i n) ⌝ }
 {
     let form = file::form_at(s, i, n);
     let code = code_number(form);
@@ -49,44 +49,44 @@ fn id_of(s: &[u8], i: usize, n: usize) -> u64
 }
 
 // The number of record i, 0 where it is no header.
-fn id_at(s: &[u8], i: usize, n: usize) -> u64
+fn number_at(s: &[u8], i: usize, n: usize) -> u64
     requires { ⌜ (i < n) × (n * recordSize ≤ length (now s)) ⌝ }
-    ensures { λ r. ⌜ r ≡ idAt (now (s .entry)) n i ⌝ }
+    ensures { λ r. ⌜ r ≡ numberAt (now (s .entry)) n i ⌝ }
 {
     if file::header_at(s, i) {
-        return id_of(s, i, n);
+        return group_number(s, i, n);
     }
     0
 }
 
 // The numbers of the records of a file.
-fn ids(s: &[u8], n: usize) -> [u64; FILE_RECORDS]
+fn group_numbers(s: &[u8], n: usize) -> [u64; FILE_RECORDS]
     requires { ⌜ (n ≤ fileRecords) × (n * recordSize ≤ length (now s)) ⌝ }
-    ensures { λ r. ⌜ (length r ≡ fileRecords) × ((k : ℕ) → k < n → getD r k 0 ≡ idAt (now (s .entry)) n k) ⌝ }
+    ensures { λ r. ⌜ (length r ≡ fileRecords) × ((k : ℕ) → k < n → getD r k 0 ≡ numberAt (now (s .entry)) n k) ⌝ }
 {
     let mut r = [0u64; FILE_RECORDS];
     for i in 0..n {
-        r[i] = id_at(s, i, n);
+        r[i] = number_at(s, i, n);
     }
     r
 }
 
 // The slot of a number.
-fn slot(id: u64) -> usize
-    ensures { λ r. ⌜ (r ≡ numberSlot id) × (r < 509) ⌝ }
+fn slot(number: u64) -> usize
+    ensures { λ r. ⌜ (r ≡ numberSlot number) × (r < 509) ⌝ }
 {
-    (id % 509) as usize
+    (number % 509) as usize
 }
 
 // The slots that the numbers of two records share: two equal numbers always do.
-fn shared_slots<'a>(id: &'a [u64; FILE_RECORDS], n: usize) -> [bool; 509]
-    requires { ⌜ (n ≤ fileRecords) × (length (now id) ≡ fileRecords) ⌝ }
-    ensures { λ r. ⌜ (length r ≡ 509) × ((j k : ℕ) → j < n → k < n → (j ≡ k → ⊥) → getD (now (id .entry)) j 0 ≡ getD (now (id .entry)) k 0 → getD r (numberSlot (getD (now (id .entry)) k 0)) false ≡ true) ⌝ }
+fn shared_slots<'a>(numbers: &'a [u64; FILE_RECORDS], n: usize) -> [bool; 509]
+    requires { ⌜ (n ≤ fileRecords) × (length (now numbers) ≡ fileRecords) ⌝ }
+    ensures { λ r. ⌜ (length r ≡ 509) × ((j k : ℕ) → j < n → k < n → (j ≡ k → ⊥) → getD (now (numbers .entry)) j 0 ≡ getD (now (numbers .entry)) k 0 → getD r (numberSlot (getD (now (numbers .entry)) k 0)) false ≡ true) ⌝ }
 {
     let mut once = [false; 509];
     let mut twice = [false; 509];
     for i in 0..n {
-        let own = id[i];
+        let own = numbers[i];
         let h = slot(own);
         let before = once[h];
         let again = twice[h];
@@ -101,16 +101,16 @@ pub fn duplicates(s: &[u8], n: usize) -> [bool; FILE_RECORDS]
     requires { ⌜ (n ≤ fileRecords) × (n * recordSize ≤ length (now s)) ⌝ }
     ensures { λ r. ⌜ ((k : ℕ) → k < n → getD r k false ≡ markAt (now (s .entry)) n k) × ((k : ℕ) → n ≤ k → getD r k false ≡ false) ⌝ }
 {
-    let id = ids(s, n);
-    let shared = shared_slots(&id, n);
+    let numbers = group_numbers(s, n);
+    let shared = shared_slots(&numbers, n);
     let mut marks = [false; FILE_RECORDS];
     for i in 0..n {
-        let own = id[i];
+        let own = numbers[i];
         let h = slot(own);
         let met = shared[h];
         if (own != 0) & met {
             'others: for j in 0..n {
-                let other = id[j];
+                let other = numbers[j];
                 if (other == own) & (j != i) {
                     marks[i] = true;
                     break 'others;

@@ -9,26 +9,26 @@ use borrow.Author.Needs.{needs}
 use lib.ListN.{length, getD, set, length-set}
 use lib.Dec.{eqb}
 use Rattle.file.specs.parts.Walk.{markAt}
-use Rattle.pairs.specs.parts.GroupNumbers.{idAt, numberSlot}
+use Rattle.pairs.specs.parts.GroupNumbers.{numberAt, numberSlot}
 use Rattle.pairs.proofs.MarkLaws.{matches, mark-hit, mark-miss, mark-none, Marked, marked-stay, marked-set, unmarked, fails-more}
 use Rattle.pairs.proofs.SlotLaws.{meets, unmet, guard-on, guard-off}
 use Rattle.pairs.proofs.duplicates.Statement.{statement}
 use Rattle.pairs.proofs.duplicates.Tie as tie
 
 abbrev Inv-others : tie.InvT-others
-Inv-others s n id shared marks₀ i own h met j₀ marks j = (j ≤ n) × (marks ≡ marks₀) × ((k : ℕ) → k < j → meets id i k ≡ false)
+Inv-others s n numbers shared marks₀ i own h met j₀ marks j = (j ≤ n) × (marks ≡ marks₀) × ((k : ℕ) → k < j → meets numbers i k ≡ false)
 
 abbrev μ-others : tie.MeasureT-others
-μ-others s n id shared marks₀ i own h met j₀ marks j = n - j
+μ-others s n numbers shared marks₀ i own h met j₀ marks j = n - j
 
 abbrev Inv-loop : tie.InvT-loop
-Inv-loop s n id shared marks₀ i₀ marks i = (i ≤ n) × (length marks ≡ 200) × Marked marks (markAt s n) i
+Inv-loop s n numbers shared marks₀ i₀ marks i = (i ≤ n) × (length marks ≡ 200) × Marked marks (markAt s n) i
 
 abbrev μ-loop : tie.MeasureT-loop
-μ-loop s n id shared marks₀ i₀ marks i = n - i
+μ-loop s n numbers shared marks₀ i₀ marks i = n - i
 
-ids-requires : tie.Need-ids-requires Inv-others μ-others Inv-loop μ-loop
-ids-requires c κs = search needs
+group-numbers-requires : tie.Need-group-numbers-requires Inv-others μ-others Inv-loop μ-loop
+group-numbers-requires c κs = search needs
 
 shared-slots-requires : tie.Need-shared-slots-requires Inv-others μ-others Inv-loop μ-loop
 shared-slots-requires c κs = search needs
@@ -68,11 +68,11 @@ others-less c = search needs
 
 others-again : tie.Need-others-again Inv-others μ-others Inv-loop μ-loop
 others-again c =
-    let at-ids = c .before .before .before .before .before .before .before .before .before in
+    let at-group-numbers = c .before .before .before .before .before .before .before .before .before in
     let i = c .before .before .before .before .before .before .loop .i in
-    let id = at-ids .ids .result in
+    let numbers = at-group-numbers .group-numbers .result in
     let o = c .before .before .others in
-    (omega arith, o .inv .1, fails-more (meets id i) (o .j) (o .inv .2) (c .if2 .left))
+    (omega arith, o .inv .1, fails-more (meets numbers i) (o .j) (o .inv .2) (c .if2 .left))
 
 add-i : tie.Need-add-i Inv-others μ-others Inv-loop μ-loop
 add-i c = search needs
@@ -88,31 +88,31 @@ loop-again c =
     let b = start .pre .1 in
     let l = c .before .before .before .loop in
     let i = l .i in
-    let id = c .before .before .before .before .before .before .ids .result in
-    let at : (k : ℕ) → k < n → getD id k 0 ≡ idAt s n k = c .before .before .before .before .before .before .ids .ensures .1 in
-    let same : (k : ℕ) → k < n → matches s n i k ≡ meets id i k =
+    let numbers = c .before .before .before .before .before .before .group-numbers .result in
+    let at : (k : ℕ) → k < n → getD numbers k 0 ≡ numberAt s n k = c .before .before .before .before .before .before .group-numbers .ensures .1 in
+    let same : (k : ℕ) → k < n → matches s n i k ≡ meets numbers i k =
     λ k h. ap₂ (λ (x y : ℕ). eqb x y && not (eqb k i)) (sym (at k h)) (sym (at i (omega arith))) in
     let shared = c .before .before .before .before .shared-slots .result in
     let h = c .before .slot .ensures .0 in
-    let twice : (j : ℕ) → j < n → (j ≡ i → ⊥) → getD id j 0 ≡ getD id i 0 → getD shared (numberSlot (getD id i 0)) false ≡ true =
+    let twice : (j : ℕ) → j < n → (j ≡ i → ⊥) → getD numbers j 0 ≡ getD numbers i 0 → getD shared (numberSlot (getD numbers i 0)) false ≡ true =
     λ j l d e. c .before .before .before .before .shared-slots .ensures .1 j i l (omega arith) d e in
     ⊎-elim
     (λ w.
-    let z : idAt s n i ≡ 0 → ⊥ = λ e. guard-on (getD id i 0) (getD shared (c .before .slot .result) false) (w .0 .taken) (at i (omega arith) ∙ e) in
+    let z : numberAt s n i ≡ 0 → ⊥ = λ e. guard-on (getD numbers i 0) (getD shared (c .before .slot .result) false) (w .0 .taken) (at i (omega arith) ∙ e) in
     let e = mark-miss s n b i (omega arith) z (λ j h. same j h ∙ w .1 .inv .2 j (omega arith)) in
     let q = w .3 ∙ w .1 .inv .1 in
     rw q (omega arith, l .inv .1, marked-stay (l .marks) (markAt s n) i e (l .inv .2)))
     (⊎-elim
     (λ w.
-    let z : idAt s n i ≡ 0 → ⊥ = λ e. guard-on (getD id i 0) (getD shared (c .before .slot .result) false) (w .0 .taken) (at i (omega arith) ∙ e) in
+    let z : numberAt s n i ≡ 0 → ⊥ = λ e. guard-on (getD numbers i 0) (getD shared (c .before .slot .result) false) (w .0 .taken) (at i (omega arith) ∙ e) in
     let e = mark-hit s n b i (omega arith) z (w .1 .j) (omega arith) (same (w .1 .j) (omega arith) ∙ w .3 .taken) in
     let q = w .4 ∙ ap (λ (m : List Bool). set m i true) (w .1 .inv .1) in
     rw q (omega arith, length-set (l .marks) i true ∙ l .inv .1, marked-set (l .marks) (markAt s n) i (omega arith) e (l .inv .2)))
     (λ w.
     let e =
-    guard-off (getD id i 0) (getD shared (c .before .slot .result) false) (w .0 .left)
+    guard-off (getD numbers i 0) (getD shared (c .before .slot .result) false) (w .0 .left)
     (λ o. mark-none s n b i (omega arith) (sym (at i (omega arith)) ∙ o))
-    (λ o m. mark-miss s n b i (omega arith) (λ e. o (at i (omega arith) ∙ e)) (λ j l. same j l ∙ unmet id shared i n (ap (λ (a : ℕ). getD shared a false) (sym h) ∙ m) twice j l)) in
+    (λ o m. mark-miss s n b i (omega arith) (λ e. o (at i (omega arith) ∙ e)) (λ j l. same j l ∙ unmet numbers shared i n (ap (λ (a : ℕ). getD shared a false) (sym h) ∙ m) twice j l)) in
     rw (w .1) (omega arith, l .inv .1, marked-stay (l .marks) (markAt s n) i e (l .inv .2))))
     (c .if1 .came)
 
@@ -127,7 +127,7 @@ duplicates-spec =
     μ-others
     Inv-loop
     μ-loop
-    ids-requires
+    group-numbers-requires
     shared-slots-requires
     loop-holds
     mul-own

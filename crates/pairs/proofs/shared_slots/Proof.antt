@@ -10,10 +10,10 @@ use Rattle.pairs.proofs.shared_slots.Statement.{statement}
 use Rattle.pairs.proofs.shared_slots.Tie as tie
 
 abbrev Inv-loop : tie.InvT-loop
-Inv-loop id n once₀ twice₀ i₀ once twice i = (i ≤ n) × (length once ≡ 509) × (length twice ≡ 509) × Once id once i × Twice id twice i
+Inv-loop numbers n once₀ twice₀ i₀ once twice i = (i ≤ n) × (length once ≡ 509) × (length twice ≡ 509) × Once numbers once i × Twice numbers twice i
 
 abbrev μ-loop : tie.MeasureT-loop
-μ-loop id n once₀ twice₀ i₀ once twice i = n - i
+μ-loop numbers n once₀ twice₀ i₀ once twice i = n - i
 
 loop-holds : tie.Need-loop-holds Inv-loop μ-loop
 loop-holds c = (omega arith, refl, refl, (λ k h. absurd (omega arith)), λ j k d h e. absurd (omega arith))
@@ -47,21 +47,21 @@ loop-less c = search needs
 
 loop-again : tie.Need-loop-again Inv-loop μ-loop
 loop-again c =
-    let id = c .before .before .before .before .args .id .now in
+    let numbers = c .before .before .before .before .args .numbers .now in
     let l = c .before .before .before .loop in
     let h = c .slot .result in
     let again = getD (l .twice) h false || getD (l .once) h false in (
       omega arith,
       length-set (l .once) h _ ∙ l .inv .1,
       length-set (l .twice) h again ∙ l .inv .2,
-      once-more id (l .i) h (c .slot .ensures .0) (l .once) (omega arith) (l .inv .3),
-      twice-more id (l .i) h (c .slot .ensures .0) (l .once) (l .twice) (omega arith) (l .inv .3) (l .inv .4),
+      once-more numbers (l .i) h (c .slot .ensures .0) (l .once) (omega arith) (l .inv .3),
+      twice-more numbers (l .i) h (c .slot .ensures .0) (l .once) (l .twice) (omega arith) (l .inv .3) (l .inv .4),
     )
 
 returns : tie.Need-returns Inv-loop μ-loop
 returns c =
     let l = c .before .loop in
-    (l .inv .2, twice-both (c .before .before .args .id .now) (l .twice) (c .before .before .args .n) (λ j k d h e. l .inv .4 j k d (omega arith) e))
+    (l .inv .2, twice-both (c .before .before .args .numbers .now) (l .twice) (c .before .before .args .n) (λ j k d h e. l .inv .4 j k d (omega arith) e))
 
 pub shared-slots-spec : {M : Type 1} → statement M
 shared-slots-spec =

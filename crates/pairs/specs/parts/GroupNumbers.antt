@@ -21,13 +21,13 @@ unfoldable pub namedBy : List ℕ → List ℕ → ℕ → ℕ
 namedBy h d code = code * 10000000000000000 + (value (fieldOf (accountIn h)) * 10000 + value (fieldOf (keyIn d)))
 
 -- a group's number
-unfoldable pub idOf : Group → ℕ
-idOf g = cond (eqb (codeNumber (formOf g)) 0) 0 (namedBy (g .header) (detailOf g) (codeNumber (formOf g)))
+unfoldable pub groupNumber : Group → ℕ
+groupNumber g = cond (eqb (codeNumber (formOf g)) 0) 0 (namedBy (g .header) (detailOf g) (codeNumber (formOf g)))
 
 -- that of the group whose header is record i, 0 where it is no header
-unfoldable pub idAt : List ℕ → ℕ → ℕ → ℕ
-idAt s n i = cond (isHeader (recordAt s i)) (idOf (groupAt s i n)) 0
+unfoldable pub numberAt : List ℕ → ℕ → ℕ → ℕ
+numberAt s n i = cond (isHeader (recordAt s i)) (groupNumber (groupAt s i n)) 0
 
 -- where a number is noted: equal numbers have one slot (of a prime number of slots, so that the account counts in full)
 unfoldable pub numberSlot : ℕ → ℕ
-numberSlot id = id % 509
+numberSlot number = number % 509

@@ -22,7 +22,7 @@ use Rattle.file.specs.File.{isHeader, Group, detailOf, line1, line2, formOf, pa
 use Rattle.file.specs.parts.Walk.{groupAt}
 use Rattle.file.proofs.FileLaws.{header-is, only-detail}
 use Rattle.file.proofs.FormLaws.{one-detail, one-within, one-fit, fit-numeric}
-use Rattle.pairs.specs.parts.GroupNumbers.{codeNumber, namedBy, idOf, idAt}
+use Rattle.pairs.specs.parts.GroupNumbers.{codeNumber, namedBy, groupNumber, numberAt}
 
 -- ---- three numbers as one
 abbrev whole : ℕ → ℕ → ℕ → ℕ
@@ -48,8 +48,8 @@ join c a k d b m ha hb hk hm = go (eqb (whole d b m) (whole c a k)) refl
     go false e = apart (eqb c d) (eqb a b) (eqb k m) refl refl refl (eqb-false (whole d b m) (whole c a k) e)
 
 -- ---- a group that passes lines 1 and 2
-abbrev kind : Bool → ℕ
-kind r = cond r 1 2
+abbrev codeOf : Bool → ℕ
+codeOf r = cond r 1 2
 
 abbrev letters : Bool → List ℕ
 letters r = cond r (text "RSP") (text "SUP")
@@ -59,7 +59,7 @@ pub record Fits (g : Group) : Type 0 where
   pub account-long : length (accountIn (g .header)) ≡ 12
   pub key : numeric (keyIn (detailOf g)) ≡ true
   pub key-long : length (keyIn (detailOf g)) ≡ 4
-  pub code : codeNumber (formOf g) ≡ kind (isRsp (g .header))
+  pub code : codeNumber (formOf g) ≡ codeOf (isRsp (g .header))
   pub bytes : noticeIn (g .header) ≡ letters (isRsp (g .header))
 
 not-both : (u v : Bool) → (not u && not v) ≡ true → (u ≡ false) × (v ≡ false)
@@ -72,11 +72,11 @@ module _ (g : Group) (h : passes g ≡ true) where
   unfolding passes
   lines = not-both (line1 g) (line2 g) h
 
-  code-is : codeNumber (formOf g) ≡ kind (isRsp (g .header))
+  code-is : codeNumber (formOf g) ≡ codeOf (isRsp (g .header))
   unfolding formOf
   code-is = rw (lines .0, lines .1) (go (isRsp (g .header)))
     where
-      go : (r : Bool) → codeNumber (cond r Response Supplement) ≡ kind r
+      go : (r : Bool) → codeNumber (cond r Response Supplement) ≡ codeOf r
       go true = refl
       go false = refl
 
@@ -117,15 +117,15 @@ accountOf g = number (accountIn (g .header))
 abbrev keyOf : Group → ℕ
 keyOf g = number (keyIn (detailOf g))
 
-id-fits : (g : Group) → Fits g → idOf g ≡ whole (kind (isRsp (g .header))) (accountOf g) (keyOf g)
-unfolding idOf namedBy
-id-fits g f = rw (f .code, value-number (accountIn (g .header)) (f .account), value-number (keyIn (detailOf g)) (f .key)) (go (isRsp (g .header)))
+number-fits : (g : Group) → Fits g → groupNumber g ≡ whole (codeOf (isRsp (g .header))) (accountOf g) (keyOf g)
+unfolding groupNumber namedBy
+number-fits g f = rw (f .code, value-number (accountIn (g .header)) (f .account), value-number (keyIn (detailOf g)) (f .key)) (go (isRsp (g .header)))
   where
-    go : (r : Bool) → cond (eqb (kind r) 0) 0 (whole (kind r) (accountOf g) (keyOf g)) ≡ whole (kind r) (accountOf g) (keyOf g)
+    go : (r : Bool) → cond (eqb (codeOf r) 0) 0 (whole (codeOf r) (accountOf g) (keyOf g)) ≡ whole (codeOf r) (accountOf g) (keyOf g)
     go true = refl
     go false = refl
 
-letters-same : (r t : Bool) → sameList (letters r) (letters t) ≡ eqb (kind r) (kind t)
+letters-same : (r t : Bool) → sameList (letters r) (letters t) ≡ eqb (codeOf r) (codeOf t)
 unfolding sameList
 letters-same true true = refl
 letters-same true false = refl
@@ -138,7 +138,7 @@ account-lt g f = subst (λ (k : ℕ). accountOf g < 10 ^ k) (f .account-long) (n
 key-lt : (g : Group) → Fits g → keyOf g < 10000
 key-lt g f = subst (λ (k : ℕ). keyOf g < 10 ^ k) (f .key-long) (number-lt (keyIn (detailOf g)) (f .key))
 
-alike-both : (g o : Group) → Fits g → Fits o → passes o ≡ true → alike g o ≡ eqb (idOf o) (idOf g)
+alike-both : (g o : Group) → Fits g → Fits o → passes o ≡ true → alike g o ≡ eqb (groupNumber o) (groupNumber g)
 unfolding alike
 alike-both g o f k p =
     rw (
@@ -148,16 +148,16 @@ alike-both g o f k p =
       letters-same (isRsp (g .header)) (isRsp (o .header)),
       same-number (accountIn (g .header)) (accountIn (o .header)) (f .account) (k .account) (f .account-long ∙ sym (k .account-long)),
       same-number (keyIn (detailOf g)) (keyIn (detailOf o)) (f .key) (k .key) (f .key-long ∙ sym (k .key-long)),
-      id-fits g f,
-      id-fits o k,
+      number-fits g f,
+      number-fits o k,
     )
-    (join (kind (isRsp (g .header))) (accountOf g) (keyOf g) (kind (isRsp (o .header))) (accountOf o) (keyOf o)
+    (join (codeOf (isRsp (g .header))) (accountOf g) (keyOf g) (codeOf (isRsp (o .header))) (accountOf o) (keyOf o)
     (account-lt g f) (account-lt o k) (key-lt g f) (key-lt o k))
 
 -- ---- a group that does not pass
-pub id-none : (g : Group) → passes g ≡ false → idOf g ≡ 0
-unfolding passes idOf formOf
-id-none g h = go (line1 g) refl (line2 g) refl h
+pub number-none : (g : Group) → passes g ≡ false → groupNumber g ≡ 0
+unfolding passes groupNumber formOf
+number-none g h = go (line1 g) refl (line2 g) refl h
   where
     go : (u : Bool) → line1 g ≡ u → (v : Bool) → line2 g ≡ v → (not (line1 g) && not (line2 g)) ≡ false
         → cond (eqb (codeNumber (formOf g)) 0) 0 (namedBy (g .header) (detailOf g) (codeNumber (formOf g))) ≡ 0
@@ -169,53 +169,53 @@ alike-none : (g o : Group) → passes o ≡ false → alike g o ≡ false
 unfolding alike
 alike-none g o e = rw e
 
-pub id-some : (g : Group) → Fits g → idOf g ≡ 0 → ⊥
-id-some g f e = go (isRsp (g .header)) (sym (id-fits g f) ∙ e)
+pub number-some : (g : Group) → Fits g → groupNumber g ≡ 0 → ⊥
+number-some g f e = go (isRsp (g .header)) (sym (number-fits g f) ∙ e)
   where
-    go : (r : Bool) → whole (kind r) (accountOf g) (keyOf g) ≡ 0 → ⊥
+    go : (r : Bool) → whole (codeOf r) (accountOf g) (keyOf g) ≡ 0 → ⊥
     go true z = omega (arith, z)
     go false z = omega (arith, z)
 
 -- ---- by record number
 module _ (s : List ℕ) (n : ℕ) (b : n * 321 ≤ length s) where
   -- a record with a number is the header of a group that passes lines 1 and 2
-  pub id-passes : (i : ℕ) → (idAt s n i ≡ 0 → ⊥) → (isHeader (recordAt s i) ≡ true) × (passes (groupAt s i n) ≡ true)
-  unfolding idAt
-  id-passes i h = go (isHeader (recordAt s i)) refl (passes (groupAt s i n)) refl
+  pub number-passes : (i : ℕ) → (numberAt s n i ≡ 0 → ⊥) → (isHeader (recordAt s i) ≡ true) × (passes (groupAt s i n) ≡ true)
+  unfolding numberAt
+  number-passes i h = go (isHeader (recordAt s i)) refl (passes (groupAt s i n)) refl
     where
       go : (t : Bool) → isHeader (recordAt s i) ≡ t → (u : Bool) → passes (groupAt s i n) ≡ u
           → (isHeader (recordAt s i) ≡ true) × (passes (groupAt s i n) ≡ true)
       go true e true f = (e, f)
-      go true e false f = absurd (h (rw e (id-none (groupAt s i n) f)))
+      go true e false f = absurd (h (rw e (number-none (groupAt s i n) f)))
       go false e u f = absurd (h (rw e))
 
-  id-header : (i : ℕ) → isHeader (recordAt s i) ≡ true → idAt s n i ≡ idOf (groupAt s i n)
-  unfolding idAt
-  id-header i e = rw e
+  number-header : (i : ℕ) → isHeader (recordAt s i) ≡ true → numberAt s n i ≡ groupNumber (groupAt s i n)
+  unfolding numberAt
+  number-header i e = rw e
 
   -- the number of a header that passes is not 0
-  pub id-not-zero : (i : ℕ) → isHeader (recordAt s i) ≡ true → passes (groupAt s i n) ≡ true → idAt s n i ≡ 0 → ⊥
-  id-not-zero i e p z = id-some (groupAt s i n) (fits s i n b p) (sym (id-header i e) ∙ z)
+  pub number-not-zero : (i : ℕ) → isHeader (recordAt s i) ≡ true → passes (groupAt s i n) ≡ true → numberAt s n i ≡ 0 → ⊥
+  number-not-zero i e p z = number-some (groupAt s i n) (fits s i n b p) (sym (number-header i e) ∙ z)
 
   -- a header is alike to that of record i where the numbers are equal
-  pub alike-id : (i j : ℕ) → (idAt s n i ≡ 0 → ⊥) → isHeader (recordAt s j) ≡ true
-      → alike (groupAt s i n) (groupAt s j n) ≡ eqb (idAt s n j) (idAt s n i)
-  alike-id i j h e =
-      let q = id-passes i h in
-      rw (id-header j e, id-header i (q .0)) (go (q .1) (passes (groupAt s j n)) refl)
+  pub alike-number : (i j : ℕ) → (numberAt s n i ≡ 0 → ⊥) → isHeader (recordAt s j) ≡ true
+      → alike (groupAt s i n) (groupAt s j n) ≡ eqb (numberAt s n j) (numberAt s n i)
+  alike-number i j h e =
+      let q = number-passes i h in
+      rw (number-header j e, number-header i (q .0)) (go (q .1) (passes (groupAt s j n)) refl)
     where
       go : passes (groupAt s i n) ≡ true → (t : Bool) → passes (groupAt s j n) ≡ t
-          → alike (groupAt s i n) (groupAt s j n) ≡ eqb (idOf (groupAt s j n)) (idOf (groupAt s i n))
+          → alike (groupAt s i n) (groupAt s j n) ≡ eqb (groupNumber (groupAt s j n)) (groupNumber (groupAt s i n))
       go p true f = alike-both (groupAt s i n) (groupAt s j n) (fits s i n b p) (fits s j n b f) f
       go p false f =
           alike-none (groupAt s i n) (groupAt s j n) f
-          ∙ sym (ap (λ (x : ℕ). eqb x (idOf (groupAt s i n))) (id-none (groupAt s j n) f)
-          ∙ ne-eqb 0 (idOf (groupAt s i n)) (λ z. id-some (groupAt s i n) (fits s i n b p) (sym z)))
+          ∙ sym (ap (λ (x : ℕ). eqb x (groupNumber (groupAt s i n))) (number-none (groupAt s j n) f)
+          ∙ ne-eqb 0 (groupNumber (groupAt s i n)) (λ z. number-some (groupAt s i n) (fits s i n b p) (sym z)))
 
 -- ---- for the loop that fills the numbers
-pub ids-more : (f : ℕ → ℕ) (xs : List ℕ) (i v : ℕ) → i < length xs → v ≡ f i → ((k : ℕ) → k < i → getD xs k 0 ≡ f k)
+pub numbers-more : (f : ℕ → ℕ) (xs : List ℕ) (i v : ℕ) → i < length xs → v ≡ f i → ((k : ℕ) → k < i → getD xs k 0 ≡ f k)
     → (k : ℕ) → k < i + 1 → getD (set xs i v) k 0 ≡ f k
-ids-more f xs i v b e w k h = go (eqb k i) refl
+numbers-more f xs i v b e w k h = go (eqb k i) refl
   where
     go : (t : Bool) → eqb k i ≡ t → getD (set xs i v) k 0 ≡ f k
     go true q = let z = eqb-true k i q in ap (λ (m : ℕ). getD (set xs i v) m 0) z ∙ getD-set-same xs i v 0 b ∙ e ∙ ap f (sym z)

@@ -1,4 +1,4 @@
--- `pairs::id_of` meets its contract: the number is that of the two records lent.
+-- `pairs::group_number` meets its contract: the number is that of the two records lent.
 use borrow.Author.Needs.{needs}
 use Prim.Native.Nat.{_+_, _-_, _*_}
 use mathlib.Core.Path.{_≡_, sym, ap, _∙_}
@@ -10,10 +10,10 @@ use Rattle.file.specs.parts.Walk.{groupAt}
 use Rattle.file.proofs.FileLaws.{header-is, only-detail}
 use Rattle.file.proofs.WalkLaws.{lent-head, lent-next}
 use Rattle.file.proofs.FormLaws.{one-detail, one-within}
-use Rattle.pairs.specs.parts.GroupNumbers.{codeNumber, namedBy, idOf}
-use Rattle.pairs.proofs.IdLaws.{code-line1}
-use Rattle.pairs.proofs.id_of.Statement.{statement}
-use Rattle.pairs.proofs.id_of.Tie as tie
+use Rattle.pairs.specs.parts.GroupNumbers.{codeNumber, namedBy, groupNumber}
+use Rattle.pairs.proofs.GroupNumberLaws.{code-line1}
+use Rattle.pairs.proofs.group_number.Statement.{statement}
+use Rattle.pairs.proofs.group_number.Tie as tie
 
 form-at-requires : tie.Need-form-at-requires
 form-at-requires c κs = search needs
@@ -22,7 +22,7 @@ code-number-requires : tie.Need-code-number-requires
 code-number-requires c κs = search needs
 
 returns : tie.Need-returns
-unfolding idOf
+unfolding groupNumber
 returns c = rw (sym (c .before .code-number .ensures .0 ∙ ap codeNumber (c .before .before .form-at .ensures)) ∙ c .if1 .taken)
 
 mul-a : tie.Need-mul-a
@@ -62,7 +62,7 @@ named-requires : tie.Need-named-requires
 named-requires c κs = search needs
 
 returns-2 : tie.Need-returns-2
-unfolding idOf
+unfolding groupNumber
 returns-2 c =
     let s = c .before .before .before .before .before .before .before .args .s .now in
     let i = c .before .before .before .before .before .before .before .args .i in
@@ -74,8 +74,8 @@ returns-2 c =
     rw (lent-head s i, lent-next s i, k, header-is s i n, only-detail s i n (one-detail s i n l)) in
     rw (ne-eqb (codeNumber (formOf (groupAt s i n))) 0 (λ z. c .before .before .before .if1 .left (k ∙ z))) (c .named .ensures ∙ e)
 
-pub id-of-spec : {M : Type 1} → statement M
-id-of-spec =
+pub group-number-spec : {M : Type 1} → statement M
+group-number-spec =
     tie.close
     (tie.spec
     form-at-requires
