@@ -120,44 +120,34 @@ pub length-bill : (b : Bill) → length (billWords b) ≡ 19
 unfolding billWords termsWords
 length-bill b = rw (length-posted (b .posted))
 
+-- a product, a mark and the posted amounts are read back from their words, which are those of a place
+product-back : (p : Product) → (productOf (productByte p) ≡ p) × ((eqb (productByte p) 66 || eqb (productByte p) 80) ≡ true)
+product-back product.BillReady = (refl, refl)
+product-back product.Prepay = (refl, refl)
+
+mark-back : (m : Bool) → (eqb (markWord m) 1 ≡ m) × (leb (markWord m) 1 ≡ true)
+mark-back true = (refl, refl)
+mark-back false = (refl, refl)
+
+posted-back : (p : Posted) (ws : List ℕ) →
+    let k = getD (postedWords p ++ ws) 0 0 in
+    let c = getD (postedWords p ++ ws) 1 0 in
+    let a = getD (postedWords p ++ ws) 2 0 in
+    let o = getD (postedWords p ++ ws) 3 0 in
+    (postedIn k c a o ≡ p) × (holdsPosted k c a o ≡ true)
+posted-back posted.None ws = (refl, refl)
+posted-back (posted.BillReady charge) ws = (refl, refl)
+posted-back (posted.Prepay charge applied owed) ws = (refl, refl)
+
 -- the bill of a bill's words is the bill
-product-in : (p : Product) → productOf (productByte p) ≡ p
-product-in product.BillReady = refl
-product-in product.Prepay = refl
-
-mark-in : (m : Bool) → eqb (markWord m) 1 ≡ m
-mark-in true = refl
-mark-in false = refl
-
-posted-in : (p : Posted) (ws : List ℕ)
-    → postedIn (getD (postedWords p ++ ws) 0 0) (getD (postedWords p ++ ws) 1 0) (getD (postedWords p ++ ws) 2 0) (getD (postedWords p ++ ws) 3 0) ≡ p
-posted-in posted.None ws = refl
-posted-in (posted.BillReady charge) ws = refl
-posted-in (posted.Prepay charge applied owed) ws = refl
-
 bill-in : (b : Bill) (ws : List ℕ) → billIn (billWords b ++ ws) ≡ b
 unfolding billWords billIn termsIn termsWords codeIn
-bill-in b ws = rw (product-in (b .terms .product), mark-in (b .terms .cancelled), posted-in (b .posted) ws)
+bill-in b ws = rw (product-back (b .terms .product) .0, mark-back (b .terms .cancelled) .0, posted-back (b .posted) ws .0)
 
 -- and the words are those of a place, if its code is bytes
-product-holds : (p : Product) → (eqb (productByte p) 66 || eqb (productByte p) 80) ≡ true
-product-holds product.BillReady = refl
-product-holds product.Prepay = refl
-
-mark-holds : (m : Bool) → leb (markWord m) 1 ≡ true
-mark-holds true = refl
-mark-holds false = refl
-
-posted-holds : (p : Posted) (ws : List ℕ)
-    → holdsPosted (getD (postedWords p ++ ws) 0 0) (getD (postedWords p ++ ws) 1 0) (getD (postedWords p ++ ws) 2 0) (getD (postedWords p ++ ws) 3 0)
-    ≡ true
-posted-holds posted.None ws = refl
-posted-holds (posted.BillReady charge) ws = refl
-posted-holds (posted.Prepay charge applied owed) ws = refl
-
 bill-holds : (b : Bill) (ws : List ℕ) → byteCode b ≡ true → holdsBill (billWords b ++ ws) ≡ true
 unfolding billWords holdsBill termsWords
-bill-holds b ws h = rw (h, product-holds (b .terms .product), mark-holds (b .terms .cancelled), posted-holds (b .posted) ws)
+bill-holds b ws h = rw (h, product-back (b .terms .product) .1, mark-back (b .terms .cancelled) .1, posted-back (b .posted) ws .1)
 
 -- ---- the places, one after the other
 pub length-bills : (bs : List Bill) → length (billsWords bs) ≡ 19 * length bs

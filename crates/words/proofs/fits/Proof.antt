@@ -1,4 +1,5 @@
 -- `words::fits` meets its contract. The invariant: `good` is the test of the first i places.
+use borrow.Author.Needs.{needs}
 use borrow.Author.Tests.{eq-eqb, ne-eqb}
 use native.Mathlib.Omega.{arith}
 use Prim.Native.Nat.{ℕ, _-_, _≤_}
@@ -24,19 +25,19 @@ unfolding holdsBills
 loop-holds c = (omega arith, refl)
 
 mul-fits-in : tie.Need-mul-fits-in Inv-loop μ-loop
-mul-fits-in c = omega arith
+mul-fits-in c = search needs
 
 add-fits-in : tie.Need-add-fits-in Inv-loop μ-loop
-add-fits-in c = omega arith
+add-fits-in c = search needs
 
 fits-in-requires : tie.Need-fits-in-requires Inv-loop μ-loop
-fits-in-requires c κs = omega arith
+fits-in-requires c κs = search needs
 
 add-i : tie.Need-add-i Inv-loop μ-loop
-add-i c = omega arith
+add-i c = search needs
 
 loop-less : tie.Need-loop-less Inv-loop μ-loop
-loop-less c = omega arith
+loop-less c = search needs
 
 loop-again : tie.Need-loop-again Inv-loop μ-loop
 loop-again c =

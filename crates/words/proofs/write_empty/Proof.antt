@@ -38,19 +38,19 @@ blank-requires : tie.Need-blank-requires Inv-loop μ-loop
 blank-requires c κs = search needs
 
 mul-put-bill : tie.Need-mul-put-bill Inv-loop μ-loop
-mul-put-bill c = omega arith
+mul-put-bill c = search needs
 
 add-put-bill : tie.Need-add-put-bill Inv-loop μ-loop
-add-put-bill c = omega arith
+add-put-bill c = search needs
 
 put-bill-requires : tie.Need-put-bill-requires Inv-loop μ-loop
-put-bill-requires c κs = omega arith
+put-bill-requires c κs = search needs
 
 add-i : tie.Need-add-i Inv-loop μ-loop
-add-i c = omega arith
+add-i c = search needs
 
 loop-less : tie.Need-loop-less Inv-loop μ-loop
-loop-less c = omega arith
+loop-less c = search needs
 
 loop-again : tie.Need-loop-again Inv-loop μ-loop
 loop-again c =
