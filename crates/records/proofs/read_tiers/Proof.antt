@@ -1,21 +1,36 @@
 -- `records::read_tiers` meets its contract: each field holds the number that was read, or the tiers are not numeric.
 use borrow.Author.Needs.{needs}
-use Prim.Native.Nat.{_+_}
+use Prim.Native.Nat.{ℕ, _+_}
 use mathlib.Core.Path.{_≡_, sym, _∙_}
 use Rattle.fields.specs.Put.{part}
 use Rattle.fields.specs.Field.{fieldOf}
+use Rattle.fields.specs.declared.Field.{Field}
 use Rattle.fields.specs.declared.Field.the-variants.{Number}
 use Rattle.records.proofs.read_tiers.Statement.{statement}
 use Rattle.records.proofs.read_tiers.Tie as tie
 
+-- the field of a tier, by the tier's first index
+abbrev field : tie.Start → ℕ → Field
+field c tier = fieldOf (part (c .args .d .now) (tier + c .args .offset) (c .args .width))
+
+-- from where a number was read, back to where the one before it was, and to the start
+abbrev to-b : tie.After-c → tie.After-b
+to-b c = c .before .before .before .before
+
+abbrev to-a : tie.After-b → tie.After-a
+to-a c = c .before .before .before .before
+
+abbrev to-start : tie.After-a → tie.Start
+to-start c = c .before .before .before .before
+
 -- what the first three fields hold
-a-is : (c : tie.After-a) → fieldOf (part (c .before .before .before .before .args .d .now) (87 + c .before .before .before .before .args .offset) (c .before .before .before .before .args .width)) ≡ Number (c .a .given .0 .0)
+a-is : (c : tie.After-a) → field (to-start c) 87 ≡ Number (c .a .given .0 .0)
 a-is c = sym (c .before .before .read-field .ensures) ∙ c .a .given .1
 
-b-is : (c : tie.After-b) → fieldOf (part (c .before .before .before .before .before .before .before .before .args .d .now) (117 + c .before .before .before .before .before .before .before .before .args .offset) (c .before .before .before .before .before .before .before .before .args .width)) ≡ Number (c .b .given .0 .0)
+b-is : (c : tie.After-b) → field (to-start (to-a c)) 117 ≡ Number (c .b .given .0 .0)
 b-is c = sym (c .before .before .read-field2 .ensures) ∙ c .b .given .1
 
-c-is : (c : tie.After-c) → fieldOf (part (c .before .before .before .before .before .before .before .before .before .before .before .before .args .d .now) (147 + c .before .before .before .before .before .before .before .before .before .before .before .before .args .offset) (c .before .before .before .before .before .before .before .before .before .before .before .before .args .width)) ≡ Number (c .c .given .0 .0)
+c-is : (c : tie.After-c) → field (to-start (to-a (to-b c))) 147 ≡ Number (c .c .given .0 .0)
 c-is c = sym (c .before .before .read-field3 .ensures) ∙ c .c .given .1
 
 add-read-field : tie.Need-add-read-field
@@ -61,7 +76,9 @@ enum-told-3 : tie.Need-enum-told-3
 enum-told-3 c = search needs
 
 returns-3 : tie.Need-returns-3
-returns-3 c = rw (a-is (c .before .before .before .before .before .before .before .before), b-is (c .before .before .before .before), sym (c .before .before .read-field3 .ensures) ∙ c .enum-told3 .given .1)
+returns-3 c =
+    let at-b = c .before .before .before .before in
+    rw (a-is (to-a at-b), b-is at-b, sym (c .before .before .read-field3 .ensures) ∙ c .enum-told3 .given .1)
 
 add-read-field-4 : tie.Need-add-read-field-4
 add-read-field-4 c = search needs
@@ -77,14 +94,13 @@ enum-told-4 c = search needs
 
 returns-4 : tie.Need-returns-4
 returns-4 c =
-    let at-before = c .before .before .before .before .before .before .before .before .before .before .before in
-    rw (a-is (at-before .before), b-is (c .before .before .before .before .before .before .before .before), c-is (c .before .before .before .before), sym (c .before .before .read-field4 .ensures) ∙ c .enum-told4 .given .1)
+    let at-c = c .before .before .before .before in
+    rw (a-is (to-a (to-b at-c)), b-is (to-b at-c), c-is at-c, sym (c .before .before .read-field4 .ensures) ∙ c .enum-told4 .given .1)
 
 returns-5 : tie.Need-returns-5
 returns-5 c =
-    let at-before = c .before .before .before .before .before .before .before .before in
-    let at-before-2 = at-before .before .before .before .before in
-    rw (a-is (at-before-2 .before), b-is (at-before .before), c-is (c .before .before .before .before .before), sym (c .before .before .before .read-field4 .ensures) ∙ c .before .e .given .1)
+    let at-c = c .before .before .before .before .before in
+    rw (a-is (to-a (to-b at-c)), b-is (to-b at-c), c-is at-c, sym (c .before .before .before .read-field4 .ensures) ∙ c .before .e .given .1)
 
 pub read-tiers-spec : {M : Type 1} → statement M
 read-tiers-spec =

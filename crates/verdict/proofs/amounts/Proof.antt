@@ -10,11 +10,18 @@ use Rattle.verdict.specs.Lines.{line7, line8, line9, line10, amountsOf}
 use Rattle.verdict.proofs.amounts.Statement.{statement}
 use Rattle.verdict.proofs.amounts.Tie as tie
 
+-- from where the charge was read, back to where the consumption was, and to the start
+abbrev to-consumption : tie.After-m → tie.After-c
+to-consumption c = c .before .before .before .before .before .before .before
+
+abbrev to-start : tie.After-c → tie.Start
+to-start c = c .before .before .before .before .before
+
 -- what the two fields hold
-consumption-is : (c : tie.After-c) → fieldOf (part (c .before .before .before .before .before .args .d .now) 56 10) ≡ Number (c .c .given .0 .0)
+consumption-is : (c : tie.After-c) → fieldOf (part (to-start c .args .d .now) 56 10) ≡ Number (c .c .given .0 .0)
 consumption-is c = sym (c .before .before .consumption .ensures) ∙ c .c .given .1
 
-charge-is : (c : tie.After-m) → fieldOf (part (c .before .before .before .before .before .before .before .before .before .before .before .before .args .d .now) 66 13) ≡ Number (c .m .given .0 .0)
+charge-is : (c : tie.After-m) → fieldOf (part (to-start (to-consumption c) .args .d .now) 66 13) ≡ Number (c .m .given .0 .0)
 charge-is c = sym (c .before .before .charge .ensures) ∙ c .m .given .1
 
 consumption-requires : tie.Need-consumption-requires
@@ -59,9 +66,8 @@ prepay-requires c κs = (search needs, rw (charge-is (c .before .before .before)
 returns-4 : tie.Need-returns-4
 unfolding line7
 returns-4 c =
-    let at-same = c .before .before .before .before .before .before .before .before in
-    let at-before = at-same .before .before in
-    rw (consumption-is (at-before .before), sym (at-same .same .ensures) ∙ not-false _ (c .before .before .before .before .before .before .before .if1 .left), charge-is (c .before .before .before .before), sym (c .before .before .is-prepay .ensures) ∙ c .before .if2 .taken) (c .prepay .ensures)
+    let m = c .before .before .before .before in
+    rw (consumption-is (to-consumption m), sym (m .before .before .before .before .same .ensures) ∙ not-false _ (m .before .before .before .if1 .left), charge-is m, sym (c .before .before .is-prepay .ensures) ∙ c .before .if2 .taken) (c .prepay .ensures)
 
 bill-ready-requires : tie.Need-bill-ready-requires
 bill-ready-requires c κs = search needs
@@ -69,9 +75,8 @@ bill-ready-requires c κs = search needs
 returns-5 : tie.Need-returns-5
 unfolding line7 line8 line10 amountsOf
 returns-5 c =
-    let at-same = c .before .before .before .before .before .before .before .before in
-    let at-before = at-same .before .before in
-    rw (consumption-is (at-before .before), sym (at-same .same .ensures) ∙ not-false _ (c .before .before .before .before .before .before .before .if1 .left), charge-is (c .before .before .before .before), sym (c .before .before .is-prepay .ensures) ∙ c .before .if2 .left, append-nil (line9 _ _ _)) (c .bill-ready .ensures)
+    let m = c .before .before .before .before in
+    rw (consumption-is (to-consumption m), sym (m .before .before .before .before .same .ensures) ∙ not-false _ (m .before .before .before .if1 .left), charge-is m, sym (c .before .before .is-prepay .ensures) ∙ c .before .if2 .left, append-nil (line9 _ _ _)) (c .bill-ready .ensures)
 
 pub amounts-spec : {M : Type 1} → statement M
 amounts-spec =
