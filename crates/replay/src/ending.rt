@@ -5,6 +5,7 @@ ghost use lib.ListN.{length};
 ghost use Rattle.words.specs.Layout.{ledgerSize};
 ghost use Rattle.replay.specs.Ending.{StopLine, lastTo, StopLineWritten, ToldSize};
 ghost use Rattle.streams.specs.Ends.{pieceSize};
+ghost use Rattle.table.specs.Table.{stopSize};
 use crate::Wanted;
 use entries::run;
 use libc::STDERR_FILENO;
@@ -15,7 +16,7 @@ use streams::pieces::End;
 
 // Puts the line that says that a bad entry stopped the reading, if one did and nothing failed; answers its length.
 fn stop_line(out: &mut [u8], e: End) -> usize
-    requires { ⌜ 11 ≤ length (now out) ⌝ }
+    requires { ⌜ stopSize ≤ length (now out) ⌝ }
     ensures { λ n. ⌜ StopLine e (now (out .entry)) (now (out .exit)) n ⌝ }
 {
     let bad = journal::ends_bad(e.stopped, e.left, e.seen);

@@ -26,7 +26,7 @@ use Rattle.ledger.specs.Sound.{soundLedger}
 use Rattle.ledger.proofs.BookLaws.{total-small, length-live}
 use Rattle.table.specs.declared.Printed.{Printed}
 use Rattle.table.specs.declared.Printed.the-variants.{Table, Refused}
-use Rattle.table.specs.Table.{cell, ended, heading, termsCells, amountCells, stateCell, lineOf, linesOf, totalLine, stopLine, tableOf, tableRoom, printedBy, printed}
+use Rattle.table.specs.Table.{cell, ended, heading, termsCells, amountCells, stateCell, lineOf, linesOf, totalLine, stopLine, tableOf, headingSize, lineSize, totalSize, stopSize, tableRoom, printedBy, printed}
 
 -- ---- lengths
 pub length-cell : (xs : List ℕ) → length (cell xs) ≡ length xs + 1
@@ -48,20 +48,20 @@ pub length-state : (today : Date) (t : Terms) → length (stateCell today t) ≡
 unfolding stateCell ended
 length-state today t = refl
 
-pub length-line : (today : Date) (b : Bill) → length (lineOf today b) ≡ 85
+pub length-line : (today : Date) (b : Bill) → length (lineOf today b) ≡ lineSize
 unfolding lineOf
 length-line today b = simp (length-append, length-terms, length-number, length-amounts, length-state)
 
-pub length-lines : (today : Date) (bs : List Bill) → length (linesOf today bs) ≡ 85 * length bs
+pub length-lines : (today : Date) (bs : List Bill) → length (linesOf today bs) ≡ lineSize * length bs
 length-lines today [] = refl
 length-lines today (b ∷ bs) =
     length-append (lineOf today b) (linesOf today bs) ∙ (omega (arith, length-line today b, length-lines today bs))
 
-pub length-total : (total : ℕ) → length (totalLine total) ≡ 23
+pub length-total : (total : ℕ) → length (totalLine total) ≡ totalSize
 unfolding totalLine ended
 length-total total = simp (length-append, length-digits)
 
-pub length-stop : (stopped : Bool) → length (stopLine stopped) ≤ 11
+pub length-stop : (stopped : Bool) → length (stopLine stopped) ≤ stopSize
 unfolding stopLine ended
 length-stop true = omega arith
 length-stop false = omega arith
@@ -82,26 +82,26 @@ lines-more today bs i h =
 
 -- the output with the lines of the first i bills: it keeps its length, and one line more
 module _ (xs : List ℕ) (at : ℕ) (today : Date) (bs : List Bill) (i : ℕ) where
-  pub lines-kept : at + 85 * length bs ≤ length xs → length (put xs at (linesOf today (take i bs))) ≡ length xs
+  pub lines-kept : at + lineSize * length bs ≤ length xs → length (put xs at (linesOf today (take i bs))) ≡ length xs
   lines-kept h = length-put xs at (linesOf today (take i bs)) (omega (arith, length-lines today (take i bs), length-append (take i bs) (drop i bs), ap (λ (l : List Bill). length l) (take-append-drop i bs), h))
 
   pub line-more : at ≤ length xs → i < length bs
-      → put xs at (linesOf today (take (i + 1) bs)) ≡ put (put xs at (linesOf today (take i bs))) (at + 85 * i) (lineOf today (getD bs i blankBill))
+      → put xs at (linesOf today (take (i + 1) bs)) ≡ put (put xs at (linesOf today (take i bs))) (at + lineSize * i) (lineOf today (getD bs i blankBill))
   line-more h l =
-      let k : length (linesOf today (take i bs)) ≡ 85 * i = length-lines today (take i bs) ∙ ap (λ (j : ℕ). 85 * j) (length-take-le i bs (omega arith)) in
+      let k : length (linesOf today (take i bs)) ≡ lineSize * i = length-lines today (take i bs) ∙ ap (λ (j : ℕ). lineSize * j) (length-take-le i bs (omega arith)) in
       let w = first xs at (linesOf today (take i bs)) h refl k in
       ap (put xs at) (lines-more today bs i l) ∙ sym (next w (lineOf today (getD bs i blankBill)) refl (length-line today _) .same)
 
 -- the line of the bill at place i, after those of the bills before it
 pub line-in : (out₀ : List ℕ) (at : ℕ) (today : Date) (bs : List Bill) (n i : ℕ) (o : List ℕ) (b : Bill) (o′ : List ℕ) → i < n → n ≤ length bs
     → at ≤ length out₀ → o ≡ put out₀ at (linesOf today (take i (take n bs))) → b ≡ getD bs i blankBill
-    → o′ ≡ put o (at + 85 * i) (lineOf today b) → o′ ≡ put out₀ at (linesOf today (take (i + 1) (take n bs)))
+    → o′ ≡ put o (at + lineSize * i) (lineOf today b) → o′ ≡ put out₀ at (linesOf today (take (i + 1) (take n bs)))
 line-in out₀ at today bs n i o b o′ h k a f g q =
     let m : length (take n bs) ≡ n = length-take-le n bs k in
     let d : b ≡ getD (take n bs) i blankBill = g ∙ sym (getD-take n bs i blankBill h) in
     q
-    ∙ ap (λ (x : List ℕ). put x (at + 85 * i) (lineOf today b)) f
-    ∙ ap (λ (x : Bill). put (put out₀ at (linesOf today (take i (take n bs)))) (at + 85 * i) (lineOf today x)) d
+    ∙ ap (λ (x : List ℕ). put x (at + lineSize * i) (lineOf today b)) f
+    ∙ ap (λ (x : Bill). put (put out₀ at (linesOf today (take i (take n bs)))) (at + lineSize * i) (lineOf today x)) d
     ∙ sym (line-more out₀ at today (take n bs) i a (omega (arith, m)))
 
 -- ---- the whole
@@ -118,15 +118,15 @@ pub record TableIn (l : Ledger) (stopped : Bool) (out₀ out : List ℕ) (r : �
   pub small : r ≤ tableRoom
 
 module _ (l : Ledger) (stopped : Bool) (few : l .count ≤ 128) (places : length (l .bills) ≡ 128) (out₀ : List ℕ) where
-  pub table-in : (o₁ o₂ o₃ o₄ : List ℕ) (end total r : ℕ) → o₁ ≡ put out₀ 0 heading → end ≡ 56 + 85 * l .count
-      → o₂ ≡ put o₁ 56 (linesOf (l .today) (live l)) → total ≡ totalOf (live l) → o₃ ≡ put o₂ end (totalLine total)
-      → r ≡ end + 23 + length (stopLine stopped) → o₄ ≡ put o₃ (end + 23) (stopLine stopped) → TableIn l stopped out₀ o₄ r
+  pub table-in : (o₁ o₂ o₃ o₄ : List ℕ) (end total r : ℕ) → o₁ ≡ put out₀ 0 heading → end ≡ headingSize + lineSize * l .count
+      → o₂ ≡ put o₁ headingSize (linesOf (l .today) (live l)) → total ≡ totalOf (live l) → o₃ ≡ put o₂ end (totalLine total)
+      → r ≡ end + totalSize + length (stopLine stopped) → o₄ ≡ put o₃ (end + totalSize) (stopLine stopped) → TableIn l stopped out₀ o₄ r
   unfolding tableOf heading ended
   table-in o₁ o₂ o₃ o₄ end total r p₁ e p₂ t p₃ q p₄ =
       let k : length (live l) ≡ l .count = length-live l (omega arith) in
-      let m : length (linesOf (l .today) (live l)) ≡ 85 * l .count = length-lines (l .today) (live l) ∙ ap (λ (j : ℕ). 85 * j) k in
-      let e₁ : end ≡ 0 + (56 + 85 * l .count) = omega arith in
-      let e₂ : end + 23 ≡ 0 + (56 + 85 * l .count + 23) = omega arith in
+      let m : length (linesOf (l .today) (live l)) ≡ lineSize * l .count = length-lines (l .today) (live l) ∙ ap (λ (j : ℕ). lineSize * j) k in
+      let e₁ : end ≡ 0 + (headingSize + lineSize * l .count) = omega arith in
+      let e₂ : end + totalSize ≡ 0 + (headingSize + lineSize * l .count + totalSize) = omega arith in
       let w₁ = first out₀ 0 heading (omega arith) p₁ refl in
       let w₂ = next w₁ (linesOf (l .today) (live l)) p₂ m in
       let w₃ = next w₂ (totalLine (totalOf (live l))) (rw (e₁, t) at p₃) (length-total (totalOf (live l))) in
@@ -136,12 +136,12 @@ module _ (l : Ledger) (stopped : Bool) (few : l .count ≤ 128) (places : length
 
   -- the same with the parts of the header that was read
   pub table-by : (h : LedgerHeader) → h ≡ headerOf l → (o₁ o₂ o₃ o₄ : List ℕ) (end total r : ℕ) → o₁ ≡ put out₀ 0 heading
-      → end ≡ 56 + 85 * h .count → o₂ ≡ put o₁ 56 (linesOf (h .today) (take (h .count) (l .bills)))
-      → total ≡ totalOf (take (h .count) (l .bills)) → o₃ ≡ put o₂ end (totalLine total) → r ≡ end + 23 + length (stopLine stopped)
-      → o₄ ≡ put o₃ (end + 23) (stopLine stopped) → TableIn l stopped out₀ o₄ r
+      → end ≡ headingSize + lineSize * h .count → o₂ ≡ put o₁ headingSize (linesOf (h .today) (take (h .count) (l .bills)))
+      → total ≡ totalOf (take (h .count) (l .bills)) → o₃ ≡ put o₂ end (totalLine total) → r ≡ end + totalSize + length (stopLine stopped)
+      → o₄ ≡ put o₃ (end + totalSize) (stopLine stopped) → TableIn l stopped out₀ o₄ r
   table-by h f o₁ o₂ o₃ o₄ end total r p₁ e p₂ t p₃ q p₄ =
-      table-in o₁ o₂ o₃ o₄ end total r p₁ (e ∙ ap (λ (x : LedgerHeader). 56 + 85 * x .count) f)
-      (p₂ ∙ ap (λ (x : LedgerHeader). put o₁ 56 (linesOf (x .today) (take (x .count) (l .bills)))) f)
+      table-in o₁ o₂ o₃ o₄ end total r p₁ (e ∙ ap (λ (x : LedgerHeader). headingSize + lineSize * x .count) f)
+      (p₂ ∙ ap (λ (x : LedgerHeader). put o₁ headingSize (linesOf (x .today) (take (x .count) (l .bills)))) f)
       (t ∙ ap (λ (x : LedgerHeader). totalOf (take (x .count) (l .bills))) f) p₃ q p₄
 
 -- 16 digits hold the total of 128 bills: the number that is printed is the total

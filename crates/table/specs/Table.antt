@@ -83,6 +83,19 @@ unfoldable pub tableOf : Book → Bool → List ℕ
 tableOf l stopped = heading ++ linesOf (l .today) (l .bills) ++ totalLine (totalOf (l .bills)) ++ stopLine stopped
 
 -- ---- the table asked for
+-- the bytes of the heading, of a bill's line, of the total's line and of the line after a bad entry
+abbrev pub headingSize : ℕ
+headingSize = 56
+
+abbrev pub lineSize : ℕ
+lineSize = 85
+
+abbrev pub totalSize : ℕ
+totalSize = 23
+
+abbrev pub stopSize : ℕ
+stopSize = 11
+
 -- the bytes of the longest table
 abbrev pub tableRoom : ℕ
 tableRoom = 10970

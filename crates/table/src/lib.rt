@@ -9,7 +9,7 @@ ghost use Rattle.fields.specs.Put.{put};
 ghost use Rattle.rules.specs.Lists.{every};
 ghost use Rattle.ledger.specs.Bills.{codeBytes, productByte};
 ghost use Rattle.ledger.specs.Books.{book, live, smallCharge};
-ghost use Rattle.table.specs.Table.{cell, stateByte, termsCells, amountCells, stateCell, heading, lineOf, linesOf, totalLine, stopLine, tableOf, tableRoom, printedBy, printed};
+ghost use Rattle.table.specs.Table.{cell, stateByte, termsCells, amountCells, stateCell, heading, lineOf, linesOf, totalLine, stopLine, tableOf, headingSize, lineSize, totalSize, stopSize, tableRoom, printedBy, printed};
 ghost use Rattle.ledger.specs.Limits.{ledgerPlaces};
 use ledger::Bill;
 use ledger::Ledger;
@@ -22,6 +22,15 @@ use ledger::bills;
 use ledger::books;
 use units::Cents;
 use units::Date;
+
+// The bytes of the heading, of a bill's line, of the total's line and of the line after a bad entry.
+pub const HEADING_SIZE: usize = 56;
+
+pub const LINE_SIZE: usize = 85;
+
+pub const TOTAL_SIZE: usize = 23;
+
+pub const STOP_SIZE: usize = 11;
 
 // The bytes that the longest table has: an output for a table has room for it.
 pub const TABLE_ROOM: usize = 10970;
@@ -44,7 +53,7 @@ fn state_byte(s: State) -> u8
 }
 
 // Writes a number in so many digits and a comma.
-fn put_cell(out: &mut [u8], at: usize, width: usize, n: u64)
+pub fn put_cell(out: &mut [u8], at: usize, width: usize, n: u64)
     requires { ⌜ at + width + 1 ≤ length (now out) ⌝ }
     ensures { λ _. ⌜ now (out .exit) ≡ put (now (out .entry)) at (cell (digits width n)) ⌝ }
 {
@@ -108,9 +117,9 @@ fn put_state(out: &mut [u8], at: usize, t: Terms, today: Date)
     fields::put_bytes(out, at, &end);
 }
 
-// Writes a bill's line, 85 bytes.
+// Writes a bill's line.
 pub fn put_line(out: &mut [u8], at: usize, b: Bill, today: Date)
-    requires { ⌜ at + 85 ≤ length (now out) ⌝ }
+    requires { ⌜ at + lineSize ≤ length (now out) ⌝ }
     ensures { λ _. ⌜ now (out .exit) ≡ put (now (out .entry)) at (lineOf today b) ⌝ }
 {
     let terms = b.terms;
@@ -124,14 +133,14 @@ pub fn put_line(out: &mut [u8], at: usize, b: Bill, today: Date)
 
 // Writes the lines of lent bills, and answers where they end.
 fn put_lines(bills: &[Bill], out: &mut [u8], at: usize, today: Date) -> usize
-    requires { ⌜ at + 85 * length (now bills) ≤ length (now out) ⌝ }
-    ensures { λ r. ⌜ (r ≡ at + 85 * length (now (bills .entry))) × (now (out .exit) ≡ put (now (out .entry)) at (linesOf today (now (bills .entry)))) ⌝ }
+    requires { ⌜ at + lineSize * length (now bills) ≤ length (now out) ⌝ }
+    ensures { λ r. ⌜ (r ≡ at + lineSize * length (now (bills .entry))) × (now (out .exit) ≡ put (now (out .entry)) at (linesOf today (now (bills .entry)))) ⌝ }
 {
     let mut end = at;
     let mut i: usize = 0;
     while i < bills.len() {
         put_line(out, end, books::bill_at(bills, i), today);
-        end += 85;
+        end += LINE_SIZE;
         i += 1;
     }
     end
@@ -145,15 +154,15 @@ fn lines_first(
     at: usize,
     today: Date,
 ) -> usize
-    requires { ⌜ (n ≤ ledgerPlaces) × (at + 85 * n ≤ length (now out)) ⌝ }
-    ensures { λ r. ⌜ (r ≡ at + 85 * n) × (now (out .exit) ≡ put (now (out .entry)) at (linesOf today (take n bills))) ⌝ }
+    requires { ⌜ (n ≤ ledgerPlaces) × (at + lineSize * n ≤ length (now out)) ⌝ }
+    ensures { λ r. ⌜ (r ≡ at + lineSize * n) × (now (out .exit) ≡ put (now (out .entry)) at (linesOf today (take n bills))) ⌝ }
 {
     put_lines(&bills[..n], out, at, today)
 }
 
-// Writes the total's line, 23 bytes.
+// Writes the total's line.
 pub fn put_total(out: &mut [u8], at: usize, total: Cents)
-    requires { ⌜ at + 23 ≤ length (now out) ⌝ }
+    requires { ⌜ at + totalSize ≤ length (now out) ⌝ }
     ensures { λ _. ⌜ now (out .exit) ≡ put (now (out .entry)) at (totalLine (total .0)) ⌝ }
 {
     fields::put_bytes(out, at, b"total,");
@@ -163,20 +172,20 @@ pub fn put_total(out: &mut [u8], at: usize, total: Cents)
 
 // Writes the line after a bad entry, if there is one, and answers where it ends.
 pub fn put_stop(out: &mut [u8], at: usize, stopped: bool) -> usize
-    requires { ⌜ at + 11 ≤ length (now out) ⌝ }
+    requires { ⌜ at + stopSize ≤ length (now out) ⌝ }
     ensures { λ r. ⌜ r ≡ at + length (stopLine stopped) ⌝ }
     ensures { λ _. ⌜ now (out .exit) ≡ put (now (out .entry)) at (stopLine stopped) ⌝ }
 {
     if stopped {
         fields::put_bytes(out, at, b"stopped,13\n");
-        return at + 11;
+        return at + STOP_SIZE;
     }
     at
 }
 
-// Writes the heading, 56 bytes.
+// Writes the heading.
 pub fn put_heading(out: &mut [u8])
-    requires { ⌜ 56 ≤ length (now out) ⌝ }
+    requires { ⌜ headingSize ≤ length (now out) ⌝ }
     ensures { λ _. ⌜ now (out .exit) ≡ put (now (out .entry)) 0 heading ⌝ }
 {
     fields::put_bytes(
@@ -197,10 +206,10 @@ pub fn write(out: &mut [u8], l: Ledger, stopped: bool) -> usize
     let bills = l.bills;
     let n = l.count;
     let today = l.today;
-    let end = lines_first(bills, n, out, 56, today);
+    let end = lines_first(bills, n, out, HEADING_SIZE, today);
     let total = l.total();
     put_total(out, end, total);
-    put_stop(out, end + 23, stopped)
+    put_stop(out, end + TOTAL_SIZE, stopped)
 }
 
 // Writes the table of a ledger, unless the ledger is not sound (2) or the output has no room (1).

@@ -50,7 +50,7 @@ use Rattle.ledger.proofs.LendArray.{Kept, part-ref, lends-part, part-back}
 use Rattle.ledger.proofs.LentBills.{Bills, vals, bills-tell, bills-make, bills-typed, lent-count, lent-room}
 use Rattle.ledger.proofs.Bill as B
 use Rattle.ledger.proofs.Bill.Laws as B′
-use Rattle.table.specs.Table.{linesOf}
+use Rattle.table.specs.Table.{linesOf, lineSize}
 use Rattle.table.proofs.put_lines as put-lines
 use Rattle.table.proofs.put_lines.Symbol as put-lines-def
 use Rattle.table.proofs.put_lines.Symbol.{name as #table·put-lines}
@@ -67,7 +67,7 @@ stayed = (stay-none (λ _. Bills) yes, (stay-none (λ _. usize) yes, (gave-slice
 abbrev PutLines : {M : Type 1} (𝓤 : URA M) (H : Heap 𝓤) (A : Atoms 𝓤) (mem : Memory → SProp 𝓤) (run : Routine → Fun 𝓤) → Contract 𝓤
 PutLines 𝓤 H A mem run = tripleOf 𝓤 H A put-lines.signature (put-lines.spec 𝓤 H A mem run)
 
-module _ {M : Type 1} (𝓤 : URA M) (H : Heap 𝓤) (A : Atoms 𝓤) (W : Given 𝓤 H A) (mem : Memory → SProp 𝓤) (run : Routine → Fun 𝓤) (κ : Lft) (q : Share) (xs : List Bill) (v : Val) (is : Is Bills xs (v ∷ [])) (n : ℕ) (n-fits : n < 2 ^ 64) (within : n ≤ 128) (b′ o′ : ℕ) (γ′ : GName) (os : List ℕ) (room′ : Room u8 (length os)) (p : ℕ) (p-fits : p < 2 ^ 64) (today : Date) (d : Val) (day : Is D.the-row today (d ∷ [])) (enough : p + 85 * n ≤ length os) where
+module _ {M : Type 1} (𝓤 : URA M) (H : Heap 𝓤) (A : Atoms 𝓤) (W : Given 𝓤 H A) (mem : Memory → SProp 𝓤) (run : Routine → Fun 𝓤) (κ : Lft) (q : Share) (xs : List Bill) (v : Val) (is : Is Bills xs (v ∷ [])) (n : ℕ) (n-fits : n < 2 ^ 64) (within : n ≤ 128) (b′ o′ : ℕ) (γ′ : GName) (os : List ℕ) (room′ : Room u8 (length os)) (p : ℕ) (p-fits : p < 2 ^ 64) (today : Date) (d : Val) (day : Is D.the-row today (d ∷ [])) (enough : p + lineSize * n ≤ length os) where
   abbrev y : RefT (List ℕ)
   y = record { ptr = (b′, o′); name = γ′; now = os }
 
@@ -95,12 +95,12 @@ module _ {M : Type 1} (𝓤 : URA M) (H : Heap 𝓤) (A : Atoms 𝓤) (W : Given
 
   -- what `put_lines` says of its answer and of the output's last list
   abbrev Wrote : ℕ → List ℕ → Type 0
-  Wrote r zs = (r ≡ p + 85 * m) × (zs ≡ put os p (linesOf today (take n xs)))
+  Wrote r zs = (r ≡ p + lineSize * m) × (zs ≡ put os p (linesOf today (take n xs)))
 
   exits : (r : ℕ) (w : Val) (zs : List ℕ) → Wrote r zs → Is usize r (w ∷ []) → length zs ≡ length os → ent 𝓤 (⋆ 𝓤 H A ((‵ (flft κ q) ⊛ ‵ ftrue) ∷ ‵ (finally u8 γ′ zs) ∷ [])) (Post w)
   exits r w zs e ir l =
       qed W ((‵ (flft κ q) ⊛ ‵ ftrue) ∷ ‵ (finally u8 γ′ zs) ∷ []) ∵
-      suffices ! _ (ends-at 𝓤 H A lines-first.ended stayed (lines-first.clauses 𝓤 H A mem run) W (((κ, tt), (q, tt), tt, a, at), tt) w r (tt, (tt, (zs, (tt, (tt, tt))))) (tt, (tt, (l, (tt, (tt, tt)))))) $ says ! (e .0 ∙ ap (λ (k : ℕ). p + 85 * k) m-is, e .1) $ frame ! $
+      suffices ! _ (ends-at 𝓤 H A lines-first.ended stayed (lines-first.clauses 𝓤 H A mem run) W (((κ, tt), (q, tt), tt, a, at), tt) w r (tt, (tt, (zs, (tt, (tt, tt))))) (tt, (tt, (l, (tt, (tt, tt)))))) $ says ! (e .0 ∙ ap (λ (k : ℕ). p + lineSize * k) m-is, e .1) $ frame ! $
       nothing ! $ owned ! D.the-row (Is D.the-row) (LL.makes D.the-type D′.the-plain 𝓤 H A) today _ day $ fjoin ! $ owned ! usize (Is usize) (uint-makes 𝓤 H A W w64) p _ (refl, p-fits) $ fjoin ! $ move ! (1 ∷ 0 ∷ []) $ fjoin ! $
       owned ! usize (Is usize) (uint-makes 𝓤 H A W w64) n _ (refl, n-fits) $ fjoin ! $ owned ! Bills (Is Bills) (bills-make 𝓤 H A W) xs _ is $ fjoin ! $ owned ! usize (Is usize) (uint-makes 𝓤 H A W w64) r _ ir $ move ! (1 ∷ 0 ∷ []) $ done !
 
@@ -117,7 +117,7 @@ module _ {M : Type 1} (𝓤 : URA M) (H : Heap 𝓤) (A : Atoms 𝓤) (W : Given
 
     goes-lines : ent 𝓤 (⋆ 𝓤 H A ((‵ (flft (ν ∷ []) fullShare) ⊛ ‵ (flft κ q) ⊛ ‵ ftrue) ∷ ‵ (ShrSlice (named 0) (ν ∷ []) B.the-row .own (x .0) (s ∷ [])) ∷ ‵ (MutSlice (named 1) κ u8 .own y (t ∷ [])) ∷ [])) (PutLines 𝓤 H A mem run .pre to-lines)
     goes-lines =
-        qed W ((‵ (flft (ν ∷ []) fullShare) ⊛ ‵ (flft κ q) ⊛ ‵ ftrue) ∷ ‵ (ShrSlice (named 0) (ν ∷ []) B.the-row .own (x .0) (s ∷ [])) ∷ ‵ (MutSlice (named 1) κ u8 .own y (t ∷ [])) ∷ []) ∵ says ! (subst (λ (k : ℕ). p + 85 * k ≤ length os) (sym m-is) enough) $
+        qed W ((‵ (flft (ν ∷ []) fullShare) ⊛ ‵ (flft κ q) ⊛ ‵ ftrue) ∷ ‵ (ShrSlice (named 0) (ν ∷ []) B.the-row .own (x .0) (s ∷ [])) ∷ ‵ (MutSlice (named 1) κ u8 .own y (t ∷ [])) ∷ []) ∵ says ! (subst (λ (k : ℕ). p + lineSize * k ≤ length os) (sym m-is) enough) $
         frame ! $ move ! (1 ∷ []) $ nothing ! $ owned ! D.the-row (Is D.the-row) (LL.makes D.the-type D′.the-plain 𝓤 H A) today _ day $ fjoin ! $ owned ! usize (Is usize) (uint-makes 𝓤 H A W w64) p _ (refl, p-fits) $ fjoin ! $
         move ! (1 ∷ 0 ∷ []) $ fjoin ! $ move ! (1 ∷ 0 ∷ []) $ fjoin ! $ done !
 
@@ -159,7 +159,7 @@ module _ {M : Type 1} (𝓤 : URA M) (H : Heap 𝓤) (A : Atoms 𝓤) (W : Given
 module _ {M : Type 1} (𝓤 : URA M) (H : Heap 𝓤) (A : Atoms 𝓤) (W : Given 𝓤 H A) (mem : Memory → SProp 𝓤) (run : Routine → Fun 𝓤) where
   lines-first-walks : (C : Calls 𝓤 H) (Λ : Loops 𝓤 H) → FmC 𝓤 H (W .laws) C → Triple 𝓤 (C #table·put-lines) (PutLines 𝓤 H A mem run) → Walks 𝓤 H A lines-first.ended stayed (WpFn 𝓤 H C Λ code.function) (lines-first.clauses 𝓤 H A mem run)
   lines-first-walks C Λ fm known = walked 𝓤 H A lines-first.ended stayed (lines-first.clauses 𝓤 H A mem run) (WpFn 𝓤 H C Λ code.function) (λ κs. (array-vals vals, (uint-vals w64, (slice-vals, (uint-vals w64, (LL.vals D.the-type D′.the-laws, tt)))))) (λ κs. (bills-tell, (uint-tells w64, (mut-slice-tells (named 0) (κs .0) u8, (uint-tells w64, (LL.tells D.the-type D′.the-laws, tt))))))
-      (λ κs qs bounds a g are. needs 𝓤 ((a .1 .0 ≤ 128) × (a .1 .1 .1 .0 + 85 * a .1 .0 ≤ length (a .1 .1 .0 .now))) _ (λ h.
+      (λ κs qs bounds a g are. needs 𝓤 ((a .1 .0 ≤ 128) × (a .1 .1 .1 .0 + lineSize * a .1 .0 ≤ length (a .1 .1 .0 .now))) _ (λ h.
       walk 𝓤 H A W mem run (κs .0) (qs .0) (a .0) _ (are .0) (a .1 .0) (are .1 .0 .1) (h .0) (a .1 .1 .0 .ptr .0) (a .1 .1 .0 .ptr .1) (a .1 .1 .0 .name) (a .1 .1 .0 .now) (are .1 .1 .0 .0 .1) (a .1 .1 .1 .0) (are .1 .1 .1 .0 .1) (a .1 .1 .1 .1 .0) _ (are .1 .1 .1 .1 .0) (h .1) C Λ fm known))
 
 lines-first-meets : {M : Type 1} (𝓤 : URA M) (H : Heap 𝓤) (A : Atoms 𝓤) → Given 𝓤 H A → (mem : Memory → SProp 𝓤) (run : Routine → Fun 𝓤) (𝓣 : Tables 𝓤 H) → Triple 𝓤 (𝓣 .C #table·put-lines) (PutLines 𝓤 H A mem run)

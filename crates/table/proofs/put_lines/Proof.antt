@@ -61,7 +61,7 @@ use Rattle.ledger.proofs.Bill.Laws as B′
 use Rattle.ledger.proofs.books.bill_at.Symbol as bill-at-def
 use Rattle.ledger.proofs.books.bill_at.Symbol.{name as #ledger·books·bill-at}
 use Rattle.ledger.proofs.books.bill_at.Met as bill-at-thm
-use Rattle.table.specs.Table.{lineOf, linesOf}
+use Rattle.table.specs.Table.{lineOf, linesOf, lineSize}
 use Rattle.table.proofs.Again.{LentAgain, lends-again, comes-back}
 use Rattle.table.proofs.TableLaws.{lines-kept, line-more}
 use Rattle.table.proofs.put_line as put-line
@@ -94,22 +94,22 @@ abbrev PutLine : {M : Type 1} (𝓤 : URA M) (H : Heap 𝓤) (A : Atoms 𝓤) (m
 PutLine 𝓤 H A mem run = tripleOf 𝓤 H A put-line.signature (put-line.spec 𝓤 H A mem run)
 
 -- ---- the place of the line of bill i of n, in an output of m bytes
-end-fits : (p n m i : ℕ) → p + 85 * n ≤ m → m < 2 ^ 64 → i ≤ n → p + 85 * i < 2 ^ 64
+end-fits : (p n m i : ℕ) → p + lineSize * n ≤ m → m < 2 ^ 64 → i ≤ n → p + lineSize * i < 2 ^ 64
 end-fits p n m i h k l = omega (arith, h, k, l)
 
-end-within : (p n m i : ℕ) → p + 85 * n ≤ m → i < n → p + 85 * i + 85 ≤ m
+end-within : (p n m i : ℕ) → p + lineSize * n ≤ m → i < n → p + lineSize * i + lineSize ≤ m
 end-within p n m i h l = omega (arith, h, l)
 
-end-next : (p i : ℕ) → p + 85 * i + 85 ≡ p + 85 * (i + 1)
+end-next : (p i : ℕ) → p + lineSize * i + lineSize ≡ p + lineSize * (i + 1)
 end-next p i = omega arith
 
-end-first : (p : ℕ) → p ≡ p + 85 * 0
+end-first : (p : ℕ) → p ≡ p + lineSize * 0
 end-first p = omega arith
 
-at-fits : (p n m : ℕ) → p + 85 * n ≤ m → p ≤ m
+at-fits : (p n m : ℕ) → p + lineSize * n ≤ m → p ≤ m
 at-fits p n m h = omega (arith, h)
 
-module _ {M : Type 1} (𝓤 : URA M) (H : Heap 𝓤) (A : Atoms 𝓤) (W : Given 𝓤 H A) (mem : Memory → SProp 𝓤) (run : Routine → Fun 𝓤) (κ κ′ : Lft) (q q′ : Share) (b o : ℕ) (γ : GName) (ys : List Bill) (room : Room B.the-row (length ys)) (b′ o′ : ℕ) (γ′ : GName) (os : List ℕ) (room′ : Room u8 (length os)) (p : ℕ) (p-fits : p < 2 ^ 64) (today : Date) (d : Val) (day : Is D.the-row today (d ∷ [])) (enough : p + 85 * length ys ≤ length os) where
+module _ {M : Type 1} (𝓤 : URA M) (H : Heap 𝓤) (A : Atoms 𝓤) (W : Given 𝓤 H A) (mem : Memory → SProp 𝓤) (run : Routine → Fun 𝓤) (κ κ′ : Lft) (q q′ : Share) (b o : ℕ) (γ : GName) (ys : List Bill) (room : Room B.the-row (length ys)) (b′ o′ : ℕ) (γ′ : GName) (os : List ℕ) (room′ : Room u8 (length os)) (p : ℕ) (p-fits : p < 2 ^ 64) (today : Date) (d : Val) (day : Is D.the-row today (d ∷ [])) (enough : p + lineSize * length ys ≤ length os) where
   abbrev n : ℕ
   n = length ys
 
@@ -125,7 +125,7 @@ module _ {M : Type 1} (𝓤 : URA M) (H : Heap 𝓤) (A : Atoms 𝓤) (W : Given
   cur i = put os p (linesOf today (take i ys))
 
   abbrev end : ℕ → ℕ
-  end i = p + 85 * i
+  end i = p + lineSize * i
 
   len : (i : ℕ) → length (cur i) ≡ length os
   len i = lines-kept os p today ys i enough
@@ -174,7 +174,7 @@ module _ {M : Type 1} (𝓤 : URA M) (H : Heap 𝓤) (A : Atoms 𝓤) (W : Given
 
   goes-put : (ν : ℕ) (δ : GName) (i : ℕ) (r : Bill) (v : Val) → i < n → end i < 2 ^ 64 → Is B.the-row r (v ∷ []) → ent 𝓤 (⋆ 𝓤 H A (‵ (flft (ν ∷ []) fullShare) ∷ ‵ (Again-own ν δ i) ∷ [])) (PutLine 𝓤 H A mem run .pre (to-put ν δ i r v))
   goes-put ν δ i r v l g is =
-      qed W (‵ (flft (ν ∷ []) fullShare) ∷ ‵ (Again-own ν δ i) ∷ []) ∵ says ! (subst (λ (k : ℕ). end i + 85 ≤ k) (sym (len i)) (end-within p n (length os) i enough l)) $ nothing ! $ move ! (1 ∷ 0 ∷ []) $ join ! $ frame ! $
+      qed W (‵ (flft (ν ∷ []) fullShare) ∷ ‵ (Again-own ν δ i) ∷ []) ∵ says ! (subst (λ (k : ℕ). end i + lineSize ≤ k) (sym (len i)) (end-within p n (length os) i enough l)) $ nothing ! $ move ! (1 ∷ 0 ∷ []) $ join ! $ frame ! $
       nothing ! $ owned ! D.the-row (Is D.the-row) (LL.makes D.the-type D′.the-plain 𝓤 H A) today _ day $ fjoin ! $ owned ! B.the-row (Is B.the-row) (LL.makes B.the-type B′.the-plain 𝓤 H A) r _ is $ fjoin ! $
       owned ! usize (Is usize) (uint-makes 𝓤 H A W w64) (end i) _ (refl, g) $ fjoin ! $ move ! (1 ∷ 0 ∷ []) $ fjoin ! $ done !
 
@@ -267,7 +267,7 @@ module _ {M : Type 1} (𝓤 : URA M) (H : Heap 𝓤) (A : Atoms 𝓤) (W : Given
         next : T (ltb (i .0) n) → Upto
         next less = (i .0 + 1, add-one-le (ltb→lt (i .0) n less))
 
-        end-next-small : T (ltb (i .0) n) → end (i .0) + 85 < 2 ^ 64
+        end-next-small : T (ltb (i .0) n) → end (i .0) + lineSize < 2 ^ 64
         end-next-small less = subst (λ (k : ℕ). k < 2 ^ 64) (sym (end-next p (i .0))) (end-small (next less))
 
         grown : T (ltb (i .0) n) → (r : Bill) → r ≡ getD ys (i .0) blankBill → cur (i .0 + 1) ≡ put (cur (i .0)) (end (i .0)) (lineOf today r)
@@ -296,7 +296,7 @@ module _ {M : Type 1} (𝓤 : URA M) (H : Heap 𝓤) (A : Atoms 𝓤) (W : Given
 module _ {M : Type 1} (𝓤 : URA M) (H : Heap 𝓤) (A : Atoms 𝓤) (W : Given 𝓤 H A) (mem : Memory → SProp 𝓤) (run : Routine → Fun 𝓤) where
   put-lines-walks : (𝓣 : Tables 𝓤 H) → Triple 𝓤 (𝓣 .C #ledger·books·bill-at) (BillAt 𝓤 H A mem run) → Triple 𝓤 (𝓣 .C #table·put-line) (PutLine 𝓤 H A mem run) → Walks 𝓤 H A put-lines.ended stayed (WpFn 𝓤 H (𝓣 .C) (𝓣 .Λ) code.function) (put-lines.clauses 𝓤 H A mem run)
   put-lines-walks 𝓣 known-at known-put = walked 𝓤 H A put-lines.ended stayed (put-lines.clauses 𝓤 H A mem run) (WpFn 𝓤 H (𝓣 .C) (𝓣 .Λ) code.function) (λ κs. (slice-vals, (slice-vals, (uint-vals w64, (LL.vals D.the-type D′.the-laws, tt))))) (λ κs. (shr-slice-tells (named 0) (κs .0) B.the-row, (mut-slice-tells (named 1) (κs .1 .0) u8, (uint-tells w64, (LL.tells D.the-type D′.the-laws, tt)))))
-      (λ κs qs bounds a g are. needs 𝓤 (a .1 .1 .0 + 85 * length (a .0 .now) ≤ length (a .1 .0 .now)) _ (λ enough.
+      (λ κs qs bounds a g are. needs 𝓤 (a .1 .1 .0 + lineSize * length (a .0 .now) ≤ length (a .1 .0 .now)) _ (λ enough.
       walk 𝓤 H A W mem run (κs .0) (κs .1 .0) (qs .0) (qs .1 .0) (a .0 .ptr .0) (a .0 .ptr .1) (a .0 .name) (a .0 .now) (are .0 .0 .1) (a .1 .0 .ptr .0) (a .1 .0 .ptr .1) (a .1 .0 .name) (a .1 .0 .now) (are .1 .0 .0 .1) (a .1 .1 .0) (are .1 .1 .0 .1) (a .1 .1 .1 .0) _ (are .1 .1 .1 .0) enough 𝓣 known-at known-put))
 
 put-lines-meets : {M : Type 1} (𝓤 : URA M) (H : Heap 𝓤) (A : Atoms 𝓤) → Given 𝓤 H A → (mem : Memory → SProp 𝓤) (run : Routine → Fun 𝓤) (𝓣 : Tables 𝓤 H) → Triple 𝓤 (𝓣 .C #ledger·books·bill-at) (BillAt 𝓤 H A mem run) → Triple 𝓤 (𝓣 .C #table·put-line) (PutLine 𝓤 H A mem run)
