@@ -130,7 +130,3 @@ figures-put xs o₁ o₂ o₃ o₄ o₅ at cause z x accepted rejected closed e 
     let w4 = next w3 (cell (digits 3 rejected)) p₄ (length-number 3 rejected) in
     next w4 (ended (digits 3 closed)) p₅ (length-last 3 closed) .same
     ∙ ap (λ (y : ℤ). put xs at (cell (digits 2 cause) ++ cell (changeText y) ++ cell (digits 3 accepted) ++ cell (digits 3 rejected) ++ ended (digits 3 closed))) e
-
-pub answer-put : (xs out : List ℕ) (at cause : ℕ) (z x : ℤ) (accepted rejected closed : ℕ) → z ≡ x
-    → out ≡ put xs at (figureCells cause z accepted rejected closed) → out ≡ put xs at (figureCells cause x accepted rejected closed)
-answer-put xs out at cause z x accepted rejected closed e o = o ∙ ap (λ (y : ℤ). put xs at (figureCells cause y accepted rejected closed)) e

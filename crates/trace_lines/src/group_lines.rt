@@ -26,6 +26,15 @@ fn put_field(out: &mut [u8], at: usize, src: &[u8], from: usize, n: usize)
     fields::put_bytes(out, at + n, b",");
 }
 
+// Writes the n bytes of record i that begin at its index `field`, and a comma.
+fn put_in_record(out: &mut [u8], at: usize, s: &[u8], i: usize, field: usize, n: usize)
+    requires { ⌜ at + n + 1 ≤ length (now out) ⌝ }
+    requires { ⌜ i * recordSize + field + n ≤ length (now s) ⌝ }
+    ensures { λ _. ⌜ now (out .exit) ≡ put (now (out .entry)) at (cell (part (now (s .entry)) (i * recordSize + field) n)) ⌝ }
+{
+    put_field(out, at, s, i * RECORD_SIZE + field, n);
+}
+
 // Writes the Bill Key of a group of k details and a comma, 5 bytes.
 fn put_key(out: &mut [u8], at: usize, s: &[u8], i: usize, k: usize)
     requires { ⌜ at + 5 ≤ length (now out) ⌝ }
@@ -36,13 +45,7 @@ fn put_key(out: &mut [u8], at: usize, s: &[u8], i: usize, k: usize)
         fields::put_bytes(out, at, b"    ,");
         return;
     }
-    put_field(
-        out,
-        at,
-        s,
-        (i + 1) * RECORD_SIZE + layout::KEY,
-        layout::KEY_WIDTH,
-    );
+    put_in_record(out, at, s, i + 1, layout::KEY, layout::KEY_WIDTH);
 }
 
 // Writes ACF or the error code, as the answer to a group of k details has it, and byte 10; answers where they end.
@@ -81,20 +84,20 @@ fn next_answer(sent: &[u8], from: usize, k: usize) -> usize
     from + (k + 1) * RECORD_SIZE
 }
 
-// Writes the line of the group of record i with k details, whose answer stands at `from`, and answers where it ends: 42 bytes, or 43.
-fn put_group_line(
-    out: &mut [u8],
-    at: usize,
-    s: &[u8],
-    i: usize,
-    k: usize,
-    sent: &[u8],
+// Where the walk over a file's groups has come to in the output and in the answers.
+struct Reached {
+    end: usize,
     from: usize,
-) -> usize
-    requires { ⌜ at + 43 ≤ length (now out) ⌝ }
-    requires { ⌜ ((i + 1 + k) * recordSize ≤ length (now s)) × (from + (k + 1) * recordSize ≤ length (now sent)) ⌝ }
-    ensures { λ r. ⌜ (now (out .exit) ≡ put (now (out .entry)) at (readLine (drop from (now (sent .entry))) (groupFrom (now (s .entry)) i k))) × (r ≡ at + length (readLine (drop from (now (sent .entry))) (groupFrom (now (s .entry)) i k))) ⌝ }
+}
+
+// Writes the line of the group of record i with k details, whose answer stands at `r.from`, and answers where it ends: 42 bytes, or 43.
+fn put_group_line(r: Reached, out: &mut [u8], s: &[u8], i: usize, k: usize, sent: &[u8]) -> usize
+    requires { ⌜ r .end + 43 ≤ length (now out) ⌝ }
+    requires { ⌜ ((i + 1 + k) * recordSize ≤ length (now s)) × (r .from + (k + 1) * recordSize ≤ length (now sent)) ⌝ }
+    ensures { λ e. ⌜ (now (out .exit) ≡ put (now (out .entry)) (r .end) (readLine (drop (r .from) (now (sent .entry))) (groupFrom (now (s .entry)) i k))) × (e ≡ r .end + length (readLine (drop (r .from) (now (sent .entry))) (groupFrom (now (s .entry)) i k))) ⌝ }
 {
+    let at = r.end;
+    let from = r.from;
     fields::put_bytes(out, at, b"group,");
     put_field(
         out,
@@ -103,28 +106,10 @@ fn put_group_line(
         from + layout::CONFIRMATION,
         layout::CONFIRMATION_WIDTH,
     );
-    put_field(
-        out,
-        at + 16,
-        s,
-        i * RECORD_SIZE + layout::ACCOUNT,
-        layout::ACCOUNT_WIDTH,
-    );
+    put_in_record(out, at + 16, s, i, layout::ACCOUNT, layout::ACCOUNT_WIDTH);
     put_key(out, at + 29, s, i, k);
-    put_field(
-        out,
-        at + 34,
-        s,
-        i * RECORD_SIZE + layout::NOTICE,
-        layout::NOTICE_WIDTH,
-    );
+    put_in_record(out, at + 34, s, i, layout::NOTICE, layout::NOTICE_WIDTH);
     put_verdict(out, at + 38, sent, from, k)
-}
-
-// Where the walk over a file's groups has come to in the output and in the answers.
-struct Reached {
-    end: usize,
-    from: usize,
 }
 
 // The line of the group whose header is record i of n.
@@ -133,11 +118,10 @@ fn group_turn(r: Reached, out: &mut [u8], s: &[u8], i: usize, n: usize, sent: &[
     requires { ⌜ r .end + 43 ≤ length (now out) ⌝ }
     ensures { λ q. ⌜ (now (out .exit) ≡ put (now (out .entry)) (r .end) (readLine (drop (r .from) (now (sent .entry))) (groupAt (now (s .entry)) i n))) × (q .end ≡ r .end + length (readLine (drop (r .from) (now (sent .entry))) (groupAt (now (s .entry)) i n))) × (q .from ≡ r .from + answerLong (drop (r .from) (now (sent .entry))) (length (groupAt (now (s .entry)) i n .details))) ⌝ }
 {
-    let end = r.end;
     let from = r.from;
     let k = file::detail_count(s, i, n);
     Reached {
-        end: put_group_line(out, end, s, i, k, sent, from),
+        end: put_group_line(r, out, s, i, k, sent),
         from: next_answer(sent, from, k),
     }
 }

@@ -10,6 +10,7 @@ ghost use Rattle.fields.specs.Put.{put};
 ghost use Rattle.table.specs.Table.{cell, ended};
 ghost use Rattle.trace_lines.specs.Lines.{callName, signOf, changeText, figureCells, answerCells, callLine};
 use calls::Answer;
+use calls::Returned;
 
 // A number without its sign.
 fn size(x: i64) -> u64
@@ -21,15 +22,6 @@ fn size(x: i64) -> u64
         return (z as u64) + 1;
     }
     x as u64
-}
-
-// Writes a number in so many digits and a comma.
-fn put_number(out: &mut [u8], at: usize, width: usize, n: u64)
-    requires { ⌜ at + width + 1 ≤ length (now out) ⌝ }
-    ensures { λ _. ⌜ now (out .exit) ≡ put (now (out .entry)) at (cell (digits width n)) ⌝ }
-{
-    fields::put_digits(out, at, width, n);
-    fields::put_bytes(out, at + width, b",");
 }
 
 // Writes 0 or -, 1 byte.
@@ -64,24 +56,16 @@ fn put_last(out: &mut [u8], at: usize, n: u64)
     fields::put_bytes(out, at + 3, b"\n");
 }
 
-// Writes cause, change, accepted, rejected and closed, 33 bytes.
-fn put_figures(
-    out: &mut [u8],
-    at: usize,
-    cause: u64,
-    change: i64,
-    accepted: u64,
-    rejected: u64,
-    closed: u64,
-)
+// Writes a cause and what a call returned: change, accepted, rejected and closed, 33 bytes.
+fn put_figures(out: &mut [u8], at: usize, cause: u64, r: Returned)
     requires { ⌜ at + 33 ≤ length (now out) ⌝ }
-    ensures { λ _. ⌜ now (out .exit) ≡ put (now (out .entry)) at (figureCells cause change accepted rejected closed) ⌝ }
+    ensures { λ _. ⌜ now (out .exit) ≡ put (now (out .entry)) at (figureCells cause (r .change) (r .accepted) (r .rejected) (r .closed)) ⌝ }
 {
-    put_number(out, at, 2, cause);
-    put_change(out, at + 3, change);
-    put_number(out, at + 21, 3, accepted);
-    put_number(out, at + 25, 3, rejected);
-    put_last(out, at + 29, closed);
+    table::put_cell(out, at, 2, cause);
+    put_change(out, at + 3, r.change);
+    table::put_cell(out, at + 21, 3, r.accepted);
+    table::put_cell(out, at + 25, 3, r.rejected);
+    put_last(out, at + 29, r.closed);
 }
 
 // Writes what a call answered, 33 bytes.
@@ -90,8 +74,17 @@ fn put_answer(out: &mut [u8], at: usize, answer: Answer)
     ensures { λ _. ⌜ now (out .exit) ≡ put (now (out .entry)) at (answerCells answer) ⌝ }
 {
     match answer {
-        Answer::Done(r) => put_figures(out, at, 0, r.change, r.accepted, r.rejected, r.closed),
-        Answer::Refused(n) => put_figures(out, at, n, 0, 0, 0, 0),
+        Answer::Done(r) => put_figures(out, at, 0, r),
+        Answer::Refused(n) => {
+            let zeros = Returned {
+                change: 0,
+                written: 0,
+                accepted: 0,
+                rejected: 0,
+                closed: 0,
+            };
+            put_figures(out, at, n, zeros)
+        }
     }
 }
 
@@ -125,7 +118,7 @@ pub fn put_entry_line(out: &mut [u8], at: usize, number: u64, tag: u8, answer: A
     requires { ⌜ at + 52 ≤ length (now out) ⌝ }
     ensures { λ r. ⌜ (now (out .exit) ≡ put (now (out .entry)) at (callLine number tag answer)) × (r ≡ at + length (callLine number tag answer)) × (r ≤ at + 52) ⌝ }
 {
-    put_number(out, at, 10, number);
+    table::put_cell(out, at, 10, number);
     let end = put_call(out, at + 11, tag);
     put_answer(out, end, answer);
     end + 33

@@ -5,8 +5,8 @@ use Rattle.trace_lines.proofs.LineLaws.{short-name, line-put}
 use Rattle.trace_lines.proofs.put_entry_line.Statement.{statement}
 use Rattle.trace_lines.proofs.put_entry_line.Tie as tie
 
-put-number-requires : tie.Need-put-number-requires
-put-number-requires c κs = search needs
+put-cell-requires : tie.Need-put-cell-requires
+put-cell-requires c κs = search needs
 
 add-put-call : tie.Need-add-put-call
 add-put-call c = search needs
@@ -29,16 +29,16 @@ same-length c = search needs
 
 returns : tie.Need-returns
 returns c =
-    let at-put-number = c .before .before .before .before .before .before .before .before .before .before in
-    let start = at-put-number .before .before .before in
+    let at-put-cell = c .before .before .before .before .before .before .before .before .before .before in
+    let start = at-put-cell .before .before .before in
     let a = start .args in
-    line-put _ _ _ _ (a .at) (a .number) (a .tag) _ (a .answer) (omega (arith, start .pre)) (at-put-number .put-number .ensures) (c .before .before .before .before .before .before .put-call .ensures .0) (c .before .before .before .before .before .before .put-call .ensures .1) (c .before .before .put-answer .ensures)
+    line-put _ _ _ _ (a .at) (a .number) (a .tag) _ (a .answer) (omega (arith, start .pre)) (at-put-cell .put-cell .ensures) (c .before .before .before .before .before .before .put-call .ensures .0) (c .before .before .before .before .before .before .put-call .ensures .1) (c .before .before .put-answer .ensures)
 
 pub put-entry-line-spec : {M : Type 1} → statement M
 put-entry-line-spec =
     tie.close
     (tie.spec
-    put-number-requires
+    put-cell-requires
     add-put-call
     put-call-requires
     put-answer-requires

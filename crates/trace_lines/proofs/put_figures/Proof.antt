@@ -1,5 +1,5 @@
 -- `trace_lines::put_figures` meets its contract.
-use borrow.Author.Needs.{needs}
+use borrow.Author.Needs.{needs, sfits-of}
 use native.Mathlib.Omega.{arith}
 use mir.Syntax.{w64}
 use mir.ValLaws.{toZ-ofZ}
@@ -7,8 +7,8 @@ use Rattle.trace_lines.proofs.LineLaws.{figures-put}
 use Rattle.trace_lines.proofs.put_figures.Statement.{statement}
 use Rattle.trace_lines.proofs.put_figures.Tie as tie
 
-put-number-requires : tie.Need-put-number-requires
-put-number-requires c κs = search needs
+put-cell-requires : tie.Need-put-cell-requires
+put-cell-requires c κs = search needs
 
 add-put-change : tie.Need-add-put-change
 add-put-change c = search needs
@@ -16,17 +16,17 @@ add-put-change c = search needs
 put-change-requires : tie.Need-put-change-requires
 put-change-requires c κs = search needs
 
-add-put-number : tie.Need-add-put-number
-add-put-number c = search needs
+add-put-cell : tie.Need-add-put-cell
+add-put-cell c = search needs
 
-put-number-requires-2 : tie.Need-put-number-requires-2
-put-number-requires-2 c κs = search needs
+put-cell-requires-2 : tie.Need-put-cell-requires-2
+put-cell-requires-2 c κs = search needs
 
-add-put-number-2 : tie.Need-add-put-number-2
-add-put-number-2 c = search needs
+add-put-cell-2 : tie.Need-add-put-cell-2
+add-put-cell-2 c = search needs
 
-put-number-requires-3 : tie.Need-put-number-requires-3
-put-number-requires-3 c κs = search needs
+put-cell-requires-3 : tie.Need-put-cell-requires-3
+put-cell-requires-3 c κs = search needs
 
 add-put-last : tie.Need-add-put-last
 add-put-last c = search needs
@@ -39,24 +39,24 @@ same-length c = search needs
 
 returns : tie.Need-returns
 returns c =
-    let at-put-number2 = c .before .before .before .before .before .before .before .before .before .before in
-    let at-put-change = at-put-number2 .before .before .before .before in
-    let at-put-number = at-put-change .before .before .before .before in
-    let start = at-put-number .before .before .before in
+    let at-put-cell2 = c .before .before .before .before .before .before .before .before .before .before in
+    let at-put-change = at-put-cell2 .before .before .before .before in
+    let at-put-cell = at-put-change .before .before .before .before .before in
+    let start = at-put-cell .before .before .before in
     let a = start .args in
-    figures-put _ _ _ _ _ _ (a .at) (a .cause) _ (a .change) (a .accepted) (a .rejected) (a .closed) (toZ-ofZ w64 (a .change) (start .fits .change)) (omega (arith, start .pre)) (at-put-number .put-number .ensures) (at-put-change .put-change .ensures) (at-put-number2 .put-number2 .ensures) (c .before .before .before .before .before .before .put-number3 .ensures) (c .before .before .put-last .ensures)
+    figures-put _ _ _ _ _ _ (a .at) (a .cause) _ (a .r .change) (a .r .accepted) (a .r .rejected) (a .r .closed) (toZ-ofZ w64 (a .r .change) (sfits-of (at-put-change .before .struct-told .given .0 .1))) (omega (arith, start .pre)) (at-put-cell .put-cell .ensures) (at-put-change .put-change .ensures) (at-put-cell2 .put-cell2 .ensures) (c .before .before .before .before .before .before .put-cell3 .ensures) (c .before .before .put-last .ensures)
 
 pub put-figures-spec : {M : Type 1} → statement M
 put-figures-spec =
     tie.close
     (tie.spec
-    put-number-requires
+    put-cell-requires
     add-put-change
     put-change-requires
-    add-put-number
-    put-number-requires-2
-    add-put-number-2
-    put-number-requires-3
+    add-put-cell
+    put-cell-requires-2
+    add-put-cell-2
+    put-cell-requires-3
     add-put-last
     put-last-requires
     same-length

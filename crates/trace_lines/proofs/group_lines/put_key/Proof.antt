@@ -22,17 +22,11 @@ returns c =
     let a = start .args in
     c .before .before .put-bytes .ensures ∙ ap (put _ (a .at)) (sym (key-none (a .s .now) (a .i + 1) (a .k) (c .before .before .before .before .before .if1 .taken)))
 
-add-put-field : tie.Need-add-put-field
-add-put-field c = search needs
+add-put-in-record : tie.Need-add-put-in-record
+add-put-in-record c = search needs
 
-mul-put-field : tie.Need-mul-put-field
-mul-put-field c = search needs
-
-add-put-field-2 : tie.Need-add-put-field-2
-add-put-field-2 c = search needs
-
-put-field-requires : tie.Need-put-field-requires
-put-field-requires c κs = search needs
+put-in-record-requires : tie.Need-put-in-record-requires
+put-in-record-requires c κs = search needs
 
 same-length-2 : tie.Need-same-length-2
 same-length-2 c = search needs
@@ -40,7 +34,7 @@ same-length-2 c = search needs
 returns-2 : tie.Need-returns-2
 returns-2 c =
     let a = c .before .before .before .before .before .before .before .args in
-    key-put _ _ (a .s .now) (a .at) (a .i + 1) (a .k) (c .before .before .before .before .if1 .left) (c .before .before .put-field .ensures)
+    key-put _ _ (a .s .now) (a .at) (a .i + 1) (a .k) (c .before .before .before .before .if1 .left) (c .before .before .put-in-record .ensures)
 
 pub put-key-spec : {M : Type 1} → statement M
 put-key-spec =
@@ -50,9 +44,7 @@ put-key-spec =
     put-bytes-requires
     same-length
     returns
-    add-put-field
-    mul-put-field
-    add-put-field-2
-    put-field-requires
+    add-put-in-record
+    put-in-record-requires
     same-length-2
     returns-2)

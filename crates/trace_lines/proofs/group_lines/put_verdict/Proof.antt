@@ -80,11 +80,9 @@ same-length-3 c = search needs
 returns-3 : tie.Need-returns-3
 returns-3 c =
     let at-if2 = c .before .before .before .before .before .before .before .before .before in
-    let at-if1 = at-if2 .before in
-    let at-is-text = at-if1 .before in
-    let start = at-is-text .before .before .before .before in
+    let start = at-if2 .before .before .before .before .before .before in
     let a = start .args in
-    verdict-put (a .sent .now) (a .from) (a .k) _ _ (a .at) 5 _ (verdict-code (a .sent .now) (a .from) (a .k) (sym (at-is-text .is-text .ensures) ∙ at-if1 .if1 .left) (at-if2 .if2 .left)) (length-code (a .sent .now) (a .from + 580) 4 (omega (arith, start .pre, at-if2 .if2 .left))) (code-put _ _ _ (a .sent .now) (a .at) (a .from + 580) 4 (omega (arith, start .pre)) (omega (arith, start .pre, at-if2 .if2 .left)) (c .before .before .before .before .before .before .before .put-part .ensures) (c .before .before .put-bytes3 .ensures))
+    verdict-put (a .sent .now) (a .from) (a .k) _ _ (a .at) 5 _ (verdict-code (a .sent .now) (a .from) (a .k) (sym (at-if2 .before .before .is-text .ensures) ∙ at-if2 .before .if1 .left) (at-if2 .if2 .left)) (length-code (a .sent .now) (a .from + 580) 4 (omega (arith, start .pre, at-if2 .if2 .left))) (code-put _ _ _ (a .sent .now) (a .at) (a .from + 580) 4 (omega (arith, start .pre)) (omega (arith, start .pre, at-if2 .if2 .left)) (c .before .before .before .before .before .before .before .put-part .ensures) (c .before .before .put-bytes3 .ensures))
 
 pub put-verdict-spec : {M : Type 1} → statement M
 put-verdict-spec =
