@@ -32,6 +32,10 @@ ended xs = xs ++ (10 ∷ [])
 unfoldable pub heading : List ℕ
 heading = ended (text "account,key,code,kind,seq,ccf,charge,applied,owed,state")
 
+-- its bytes
+abbrev pub headingSize : ℕ
+headingSize = 56
+
 -- "state O, I (issued) or C"
 abbrev pub stateByte : State → ℕ
 stateByte Open = 79
@@ -63,6 +67,10 @@ lineOf today b =
     ++ amountCells (b .posted)
     ++ stateCell today (b .terms)
 
+-- its bytes
+abbrev pub lineSize : ℕ
+lineSize = 85
+
 -- "One line a bill in ledger order"
 abbrev pub linesOf : Date → List Bill → List ℕ
 linesOf today [] = []
@@ -73,9 +81,17 @@ linesOf today (b ∷ bs) = lineOf today b ++ linesOf today bs
 unfoldable pub totalLine : ℕ → List ℕ
 totalLine total = ended (text "total," ++ digits 16 total)
 
+-- its bytes
+abbrev pub totalSize : ℕ
+totalSize = 23
+
 -- "A bad entry stops it; the line `stopped,13` follows the total."
 unfoldable pub stopLine : Bool → List ℕ
 stopLine stopped = cond stopped (ended (text "stopped,13")) []
+
+-- its bytes, where there is one
+abbrev pub stopSize : ℕ
+stopSize = 11
 
 -- the table of a ledger, where a bad entry stopped the journal or none did; "An empty journal or refused fresh counts as a bad entry, with no
 -- bill lines and a zero total": the table of a ledger without bills
@@ -83,19 +99,6 @@ unfoldable pub tableOf : Book → Bool → List ℕ
 tableOf l stopped = heading ++ linesOf (l .today) (l .bills) ++ totalLine (totalOf (l .bills)) ++ stopLine stopped
 
 -- ---- the table asked for
--- the bytes of the heading, of a bill's line, of the total's line and of the line after a bad entry
-abbrev pub headingSize : ℕ
-headingSize = 56
-
-abbrev pub lineSize : ℕ
-lineSize = 85
-
-abbrev pub totalSize : ℕ
-totalSize = 23
-
-abbrev pub stopSize : ℕ
-stopSize = 11
-
 -- the bytes of the longest table
 abbrev pub tableRoom : ℕ
 tableRoom = 10970
