@@ -10,10 +10,12 @@ use mir.Val.{Val, vint}
 use base.Logic.{SProp, ent, snd∗, exE}
 use base.Fml.{Lft, GName, Share, Fml, ftrue, flft}
 use prog.Memory.{Memory}
-use prog.Routine.{Routine}
+use prog.Model.{Model}
+use prog.Routine.{Routine, Env}
 use prog.Wp.{Heap}
 use ghost.Atoms.{Atoms, sem}
 use contract.Monad.{Fun, fact}
+use contract.Running.{Running, GhostRules, tables}
 use types.Kit.{Given, ‵, _⊛_, ⋆, _$_, _∵_, !, qed, move, fjoin, frame, done}
 use denote.Laws.{Is}
 use denote.Plain.{uint-makes}
@@ -22,17 +24,26 @@ use denote.Ref.{RefT}
 use denote.Slice.{sliceVal, ShrSlice, Room}
 use denote.Steps.{nothing, owned}
 use denote.Triple.Spec.{tripleOf}
-use denote.Triple.Statement.{Contract}
+use denote.Triple.Statement.{Contract, Triple}
+use denote.Triple.Table.{cited}
 use denote.Triple.Clauses.{ensured, lasts}
 use denote.Triple.Walked.{says}
 use Rattle.ledger.specs.declared.Bill.{Bill}
 use Rattle.ledger.specs.Bills.{blankBill}
 use Rattle.ledger.proofs.Bill as B
 use Rattle.ledger.proofs.books.bill_at as bill-at
+use Rattle.ledger.proofs.books.bill_at.Symbol as bill-at-def
+use Rattle.ledger.proofs.books.bill_at.Symbol.{name as #bill-at}
+use Rattle.ledger.proofs.books.bill_at.Met as bill-at-thm
 
 -- the contract
 abbrev pub BillAt : {M : Type 1} (𝓤 : URA M) (H : Heap 𝓤) (A : Atoms 𝓤) (mem : Memory → SProp 𝓤) (run : Routine → Fun 𝓤) → Contract 𝓤
 BillAt 𝓤 H A mem run = tripleOf 𝓤 H A bill-at.signature (bill-at.spec 𝓤 H A mem run)
+
+-- it is met wherever the calls of some code mean γ
+pub bill-at-met : {M : Type 1} (𝓤 : URA M) (H : Heap 𝓤) (𝓜 : Model 𝓤 H) (𝓖 : GhostRules 𝓤 H) (𝓡 : Running 𝓤 H 𝓜) (γ : Env) → γ #bill-at ≡ bill-at-def.routine
+    → Triple 𝓤 (tables 𝓤 H 𝓜 𝓡 γ .C #bill-at) (BillAt 𝓤 H (𝓖 .A) (𝓜 .mem) (𝓡 .run))
+bill-at-met 𝓤 H 𝓜 𝓖 𝓡 γ means = cited 𝓤 H (BillAt 𝓤 H (𝓖 .A) (𝓜 .mem) (𝓡 .run)) 𝓜 𝓡 γ #bill-at bill-at-def.routine means (bill-at-thm.met 𝓤 H 𝓜 𝓖 𝓡)
 
 module _ (κ : Lft) (b o : ℕ) (γ : GName) (ys : List Bill) where
   -- the slice, its machine value and what it owns

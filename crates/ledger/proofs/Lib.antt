@@ -4,3 +4,4 @@ pub mod SoundLaws
 pub mod LendArray
 pub mod LentBills
 pub mod BillAtLaws
+pub mod ByWalk

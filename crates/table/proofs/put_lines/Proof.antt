@@ -23,7 +23,7 @@ use prog.Routine.{Routine}
 use prog.Wp.{Heap, Out, Env, afterSeq, afterBlock, afterTurn, Calls, Loops, Wp, atReturn, WpFn, Tables}
 use ghost.Atoms.{Atoms}
 use contract.Monad.{Fun, fact}
-use contract.Running.{givenOf, tables, tablesOf}
+use contract.Running.{givenOf}
 use types.Kit.{Given, Item, Sq, ‵, raw, some, later, runs, anyQ, atRet, _⊛_, ⋆, _$_, _∵_, !, qed, by, move, keep, drop, use1, use2, use3, split, join, pick, rewrite, fsplit, fjoin, feqL, suffices, frame, await, done}
 use types.Part.{agg, whole, sub, look-in}
 use types.Run.{look, store, init, forget, stop, hop, fld, addr, from, load, lit, of-opd, bin, and-then, no-more, assigns, assigns-last, land, first, skips, jumps, blocks, branches, returns, enter, alloc1, alloc0, params1, pass1, pass0, free1, free0, exec, Below, again, loops}
@@ -44,7 +44,7 @@ use denote.Triple.Spec.{Meets, tripleOf}
 use denote.Triple.Statement.{Contract, Triple}
 use denote.Triple.Call.{calls-at}
 use denote.Triple.Clauses.{ensured, lasts}
-use denote.Triple.Table.{entered, cited}
+use denote.Triple.Table.{cited}
 use denote.Triple.Walked.{says, needs, Stays, stay-none, stay-none-slice, stay-slice, walkOf, goes-none, goes-none-slice, goes-slice, Walks, ends-at, walked, walk-meets}
 use denote.Exit.{yes}
 use Rattle.fields.specs.Put.{put}
@@ -55,12 +55,11 @@ use Rattle.units.proofs.Date.Laws as D′
 use Rattle.ledger.specs.declared.Bill.{Bill}
 use Rattle.ledger.specs.Bills.{blankBill}
 use Rattle.ledger.proofs.LentBills.{after-test}
-use Rattle.ledger.proofs.BillAtLaws.{BillAt, lent, lent-val, Lent, to-at, goes-at, Told, said-at}
+use Rattle.ledger.proofs.ByWalk.{by-walk}
+use Rattle.ledger.proofs.BillAtLaws.{BillAt, lent, lent-val, Lent, to-at, goes-at, Told, said-at, bill-at-met}
 use Rattle.ledger.proofs.Bill as B
 use Rattle.ledger.proofs.Bill.Laws as B′
-use Rattle.ledger.proofs.books.bill_at.Symbol as bill-at-def
 use Rattle.ledger.proofs.books.bill_at.Symbol.{name as #ledger·books·bill-at}
-use Rattle.ledger.proofs.books.bill_at.Met as bill-at-thm
 use Rattle.table.specs.Table.{lineOf, linesOf, lineSize}
 use Rattle.table.proofs.Again.{LentAgain, lends-again, comes-back}
 use Rattle.table.proofs.TableLaws.{lines-kept, line-more}
@@ -92,6 +91,9 @@ again-ref = tyRef erased mut (tyInt w8)
 -- the contracts that the proof cites
 abbrev PutLine : {M : Type 1} (𝓤 : URA M) (H : Heap 𝓤) (A : Atoms 𝓤) (mem : Memory → SProp 𝓤) (run : Routine → Fun 𝓤) → Contract 𝓤
 PutLine 𝓤 H A mem run = tripleOf 𝓤 H A put-line.signature (put-line.spec 𝓤 H A mem run)
+
+abbrev Known : {M : Type 1} (𝓤 : URA M) (H : Heap 𝓤) (A : Atoms 𝓤) (mem : Memory → SProp 𝓤) (run : Routine → Fun 𝓤) → Calls 𝓤 H → Type 1
+Known 𝓤 H A mem run C = Triple 𝓤 (C #ledger·books·bill-at) (BillAt 𝓤 H A mem run) × Triple 𝓤 (C #table·put-line) (PutLine 𝓤 H A mem run)
 
 -- ---- the place of the line of bill i of n, in an output of m bytes
 end-fits : (p n m i : ℕ) → p + lineSize * n ≤ m → m < 2 ^ 64 → i ≤ n → p + lineSize * i < 2 ^ 64
@@ -294,20 +296,18 @@ module _ {M : Type 1} (𝓤 : URA M) (H : Heap 𝓤) (A : Atoms 𝓤) (W : Given
         looped 𝓣 known-at known-put l₀ l₁ l₂ l₃ l₄ l₅ l₆ l₇ l₈ l₉ l₁₀ l₁₁ l₁₂ (0, zero-le))))))))))))))
 
 module _ {M : Type 1} (𝓤 : URA M) (H : Heap 𝓤) (A : Atoms 𝓤) (W : Given 𝓤 H A) (mem : Memory → SProp 𝓤) (run : Routine → Fun 𝓤) where
-  put-lines-walks : (𝓣 : Tables 𝓤 H) → Triple 𝓤 (𝓣 .C #ledger·books·bill-at) (BillAt 𝓤 H A mem run) → Triple 𝓤 (𝓣 .C #table·put-line) (PutLine 𝓤 H A mem run) → Walks 𝓤 H A put-lines.ended stayed (WpFn 𝓤 H (𝓣 .C) (𝓣 .Λ) code.function) (put-lines.clauses 𝓤 H A mem run)
-  put-lines-walks 𝓣 known-at known-put = walked 𝓤 H A put-lines.ended stayed (put-lines.clauses 𝓤 H A mem run) (WpFn 𝓤 H (𝓣 .C) (𝓣 .Λ) code.function) (λ κs. (slice-vals, (slice-vals, (uint-vals w64, (LL.vals D.the-type D′.the-laws, tt))))) (λ κs. (shr-slice-tells (named 0) (κs .0) B.the-row, (mut-slice-tells (named 1) (κs .1 .0) u8, (uint-tells w64, (LL.tells D.the-type D′.the-laws, tt)))))
+  put-lines-walks : (𝓣 : Tables 𝓤 H) → Known 𝓤 H A mem run (𝓣 .C) → Walks 𝓤 H A put-lines.ended stayed (WpFn 𝓤 H (𝓣 .C) (𝓣 .Λ) code.function) (put-lines.clauses 𝓤 H A mem run)
+  put-lines-walks 𝓣 known = walked 𝓤 H A put-lines.ended stayed (put-lines.clauses 𝓤 H A mem run) (WpFn 𝓤 H (𝓣 .C) (𝓣 .Λ) code.function) (λ κs. (slice-vals, (slice-vals, (uint-vals w64, (LL.vals D.the-type D′.the-laws, tt))))) (λ κs. (shr-slice-tells (named 0) (κs .0) B.the-row, (mut-slice-tells (named 1) (κs .1 .0) u8, (uint-tells w64, (LL.tells D.the-type D′.the-laws, tt)))))
       (λ κs qs bounds a g are. needs 𝓤 (a .1 .1 .0 + lineSize * length (a .0 .now) ≤ length (a .1 .0 .now)) _ (λ enough.
-      walk 𝓤 H A W mem run (κs .0) (κs .1 .0) (qs .0) (qs .1 .0) (a .0 .ptr .0) (a .0 .ptr .1) (a .0 .name) (a .0 .now) (are .0 .0 .1) (a .1 .0 .ptr .0) (a .1 .0 .ptr .1) (a .1 .0 .name) (a .1 .0 .now) (are .1 .0 .0 .1) (a .1 .1 .0) (are .1 .1 .0 .1) (a .1 .1 .1 .0) _ (are .1 .1 .1 .0) enough 𝓣 known-at known-put))
+      walk 𝓤 H A W mem run (κs .0) (κs .1 .0) (qs .0) (qs .1 .0) (a .0 .ptr .0) (a .0 .ptr .1) (a .0 .name) (a .0 .now) (are .0 .0 .1) (a .1 .0 .ptr .0) (a .1 .0 .ptr .1) (a .1 .0 .name) (a .1 .0 .now) (are .1 .0 .0 .1) (a .1 .1 .0) (are .1 .1 .0 .1) (a .1 .1 .1 .0) _ (are .1 .1 .1 .0) enough 𝓣 (known .0) (known .1)))
 
-put-lines-meets : {M : Type 1} (𝓤 : URA M) (H : Heap 𝓤) (A : Atoms 𝓤) → Given 𝓤 H A → (mem : Memory → SProp 𝓤) (run : Routine → Fun 𝓤) (𝓣 : Tables 𝓤 H) → Triple 𝓤 (𝓣 .C #ledger·books·bill-at) (BillAt 𝓤 H A mem run) → Triple 𝓤 (𝓣 .C #table·put-line) (PutLine 𝓤 H A mem run)
+put-lines-meets : {M : Type 1} (𝓤 : URA M) (H : Heap 𝓤) (A : Atoms 𝓤) → Given 𝓤 H A → (mem : Memory → SProp 𝓤) (run : Routine → Fun 𝓤) (𝓣 : Tables 𝓤 H) → Known 𝓤 H A mem run (𝓣 .C)
     → Meets 𝓤 H A put-lines.signature (WpFn 𝓤 H (𝓣 .C) (𝓣 .Λ) code.function) (put-lines.spec 𝓤 H A mem run)
-put-lines-meets 𝓤 H A W mem run 𝓣 known-at known-put = walk-meets 𝓤 H A put-lines.ended stayed W (goes-none-slice 𝓤 H A W 2 (0 ∷ []) tt (plain (λ _. B.the-row)) yes, (goes-slice 𝓤 H A W 2 1 tt (plain (λ _. u8)), (goes-none 𝓤 H A W 2 (λ _. usize) yes (λ κs x f. refl), (goes-none 𝓤 H A W 2 (λ _. D.the-row) yes (λ κs x f. refl), tt)))) (put-lines.clauses 𝓤 H A mem run) (WpFn 𝓤 H (𝓣 .C) (𝓣 .Λ) code.function) (WpFn-mono 𝓤 H (W .laws) 𝓣 code.function) (put-lines-walks 𝓤 H A W mem run 𝓣 known-at known-put)
+put-lines-meets 𝓤 H A W mem run 𝓣 known = walk-meets 𝓤 H A put-lines.ended stayed W (goes-none-slice 𝓤 H A W 2 (0 ∷ []) tt (plain (λ _. B.the-row)) yes, (goes-slice 𝓤 H A W 2 1 tt (plain (λ _. u8)), (goes-none 𝓤 H A W 2 (λ _. usize) yes (λ κs x f. refl), (goes-none 𝓤 H A W 2 (λ _. D.the-row) yes (λ κs x f. refl), tt)))) (put-lines.clauses 𝓤 H A mem run) (WpFn 𝓤 H (𝓣 .C) (𝓣 .Λ) code.function) (WpFn-mono 𝓤 H (W .laws) 𝓣 code.function) (put-lines-walks 𝓤 H A W mem run 𝓣 known)
 
 pub put-lines-spec : {M : Type 1} → stated.statement M
-unfolding code.routine tablesOf
+unfolding code.routine
 put-lines-spec 𝓤 H 𝓜 𝓖 𝓡 =
-    entered 𝓤 H (tripleOf 𝓤 H (𝓖 .A) put-lines.signature (put-lines.spec 𝓤 H (𝓖 .A) (𝓜 .mem) (𝓡 .run)))
-    (tables 𝓤 H 𝓜 𝓡 code.env .C) (tables 𝓤 H 𝓜 𝓡 code.env .Λ) #table·put-lines code.function (code.unfolded 𝓤 H 𝓜 𝓡)
-    (put-lines-meets 𝓤 H (𝓖 .A) (givenOf 𝓤 H 𝓜 𝓖) (𝓜 .mem) (𝓡 .run) (tablesOf 𝓤 H 𝓜 (tables 𝓤 H 𝓜 𝓡 code.env))
-    (cited 𝓤 H (BillAt 𝓤 H (𝓖 .A) (𝓜 .mem) (𝓡 .run)) 𝓜 𝓡 code.env #ledger·books·bill-at bill-at-def.routine code.calls-ledger·books·bill-at (bill-at-thm.met 𝓤 H 𝓜 𝓖 𝓡))
-    (cited 𝓤 H (PutLine 𝓤 H (𝓖 .A) (𝓜 .mem) (𝓡 .run)) 𝓜 𝓡 code.env #table·put-line put-line-def.routine code.calls-table·put-line (put-line-thm.met 𝓤 H 𝓜 𝓖 𝓡)))
+    by-walk 𝓤 H 𝓜 𝓡 code.env #table·put-lines code.function (code.unfolded 𝓤 H 𝓜 𝓡) (tripleOf 𝓤 H (𝓖 .A) put-lines.signature (put-lines.spec 𝓤 H (𝓖 .A) (𝓜 .mem) (𝓡 .run))) (Known 𝓤 H (𝓖 .A) (𝓜 .mem) (𝓡 .run))
+    (put-lines-meets 𝓤 H (𝓖 .A) (givenOf 𝓤 H 𝓜 𝓖) (𝓜 .mem) (𝓡 .run))
+    (bill-at-met 𝓤 H 𝓜 𝓖 𝓡 code.env code.calls-ledger·books·bill-at, cited 𝓤 H (PutLine 𝓤 H (𝓖 .A) (𝓜 .mem) (𝓡 .run)) 𝓜 𝓡 code.env #table·put-line put-line-def.routine code.calls-table·put-line (put-line-thm.met 𝓤 H 𝓜 𝓖 𝓡))

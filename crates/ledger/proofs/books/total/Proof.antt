@@ -24,7 +24,7 @@ use prog.Routine.{Routine}
 use prog.Wp.{Heap, Out, Env, afterSeq, afterBlock, afterTurn, Calls, Loops, Wp, atReturn, WpFn, Tables}
 use ghost.Atoms.{Atoms, sem}
 use contract.Monad.{Fun, fact}
-use contract.Running.{givenOf, tables, tablesOf}
+use contract.Running.{givenOf}
 use types.Kit.{Given, Item, Sq, ‵, raw, some, later, runs, anyQ, atRet, _⊛_, ⋆, _$_, _∵_, !, qed, by, move, keep, drop, use0, use1, use2, split, pick, fsplit, fjoin, suffices, frame, await, done}
 use types.Part.{agg, whole, sub, look-in}
 use types.Run.{look, store, init, forget, stop, fld, from, load, lit, of-opd, bin, and-then, no-more, assigns, assigns-last, land, first, skips, jumps, blocks, branches, returns, enter, alloc1, alloc0, params1, pass1, pass0, free1, free0, exec, Below, again, loops}
@@ -42,7 +42,7 @@ use denote.Triple.Spec.{Meets, tripleOf}
 use denote.Triple.Statement.{Contract, Triple}
 use denote.Triple.Call.{calls-at}
 use denote.Triple.Clauses.{ensured, lasts}
-use denote.Triple.Table.{entered, cited}
+use denote.Triple.Table.{cited}
 use denote.Triple.Walked.{says, needs, Stays, stay-none-slice, walkOf, goes-none-slice, Walks, ends-at, walked, walk-meets}
 use denote.Exit.{yes}
 use Rattle.units.specs.declared.Cents.{Cents}
@@ -55,12 +55,11 @@ use Rattle.ledger.specs.Books.{billCharge, smallCharge, totalOf}
 use Rattle.rules.proofs.ListLaws.{sum-more, sum-first}
 use Rattle.ledger.proofs.BookLaws.{total-small}
 use Rattle.ledger.proofs.LentBills.{after-test}
-use Rattle.ledger.proofs.BillAtLaws.{BillAt, lent, lent-val, Lent, to-at, goes-at, Told, said-at}
+use Rattle.ledger.proofs.ByWalk.{by-walk}
+use Rattle.ledger.proofs.BillAtLaws.{BillAt, lent, lent-val, Lent, to-at, goes-at, Told, said-at, bill-at-met}
 use Rattle.ledger.proofs.Bill as B
 use Rattle.ledger.proofs.Bill.Laws as B′
-use Rattle.ledger.proofs.books.bill_at.Symbol as bill-at-def
 use Rattle.ledger.proofs.books.bill_at.Symbol.{name as #ledger·books·bill-at}
-use Rattle.ledger.proofs.books.bill_at.Met as bill-at-thm
 use Rattle.ledger.proofs.books.add_charge as add-charge
 use Rattle.ledger.proofs.books.add_charge.Symbol as add-charge-def
 use Rattle.ledger.proofs.books.add_charge.Symbol.{name as #ledger·books·add-charge}
@@ -83,6 +82,9 @@ slice = sliceTy (tyRef (named 0) imm (pointee (B.the-row .written)))
 -- the contracts that the proof cites
 abbrev AddCharge : {M : Type 1} (𝓤 : URA M) (H : Heap 𝓤) (A : Atoms 𝓤) (mem : Memory → SProp 𝓤) (run : Routine → Fun 𝓤) → Contract 𝓤
 AddCharge 𝓤 H A mem run = tripleOf 𝓤 H A add-charge.signature (add-charge.spec 𝓤 H A mem run)
+
+abbrev Known : {M : Type 1} (𝓤 : URA M) (H : Heap 𝓤) (A : Atoms 𝓤) (mem : Memory → SProp 𝓤) (run : Routine → Fun 𝓤) → Calls 𝓤 H → Type 1
+Known 𝓤 H A mem run C = Triple 𝓤 (C #ledger·books·bill-at) (BillAt 𝓤 H A mem run) × Triple 𝓤 (C #ledger·books·add-charge) (AddCharge 𝓤 H A mem run)
 
 -- ---- the sum so far
 -- where the loop stands: the place, and the sum with its machine value
@@ -225,20 +227,18 @@ module _ {M : Type 1} (𝓤 : URA M) (H : Heap 𝓤) (A : Atoms 𝓤) (W : Given
         looped 𝓣 known-at known-add l₀ l₁ l₂ l₃ l₄ l₅ l₆ (start ys))))))))
 
 module _ {M : Type 1} (𝓤 : URA M) (H : Heap 𝓤) (A : Atoms 𝓤) (W : Given 𝓤 H A) (mem : Memory → SProp 𝓤) (run : Routine → Fun 𝓤) where
-  total-walks : (𝓣 : Tables 𝓤 H) → Triple 𝓤 (𝓣 .C #ledger·books·bill-at) (BillAt 𝓤 H A mem run) → Triple 𝓤 (𝓣 .C #ledger·books·add-charge) (AddCharge 𝓤 H A mem run) → Walks 𝓤 H A total.ended stayed (WpFn 𝓤 H (𝓣 .C) (𝓣 .Λ) code.function) (total.clauses 𝓤 H A mem run)
-  total-walks 𝓣 known-at known-add = walked 𝓤 H A total.ended stayed (total.clauses 𝓤 H A mem run) (WpFn 𝓤 H (𝓣 .C) (𝓣 .Λ) code.function) (λ κs. (slice-vals, tt)) (λ κs. (shr-slice-tells (named 0) (κs .0) B.the-row, tt))
+  total-walks : (𝓣 : Tables 𝓤 H) → Known 𝓤 H A mem run (𝓣 .C) → Walks 𝓤 H A total.ended stayed (WpFn 𝓤 H (𝓣 .C) (𝓣 .Λ) code.function) (total.clauses 𝓤 H A mem run)
+  total-walks 𝓣 known = walked 𝓤 H A total.ended stayed (total.clauses 𝓤 H A mem run) (WpFn 𝓤 H (𝓣 .C) (𝓣 .Λ) code.function) (λ κs. (slice-vals, tt)) (λ κs. (shr-slice-tells (named 0) (κs .0) B.the-row, tt))
       (λ κs qs bounds a g are. needs 𝓤 ((length (a .0 .now) ≤ 128) × (every smallCharge (a .0 .now) ≡ true)) _ (λ p.
-      walk 𝓤 H A W mem run (κs .0) (qs .0) (a .0 .ptr .0) (a .0 .ptr .1) (a .0 .name) (a .0 .now) (are .0 .0 .1) (p .0) (p .1) 𝓣 known-at known-add))
+      walk 𝓤 H A W mem run (κs .0) (qs .0) (a .0 .ptr .0) (a .0 .ptr .1) (a .0 .name) (a .0 .now) (are .0 .0 .1) (p .0) (p .1) 𝓣 (known .0) (known .1)))
 
-total-meets : {M : Type 1} (𝓤 : URA M) (H : Heap 𝓤) (A : Atoms 𝓤) → Given 𝓤 H A → (mem : Memory → SProp 𝓤) (run : Routine → Fun 𝓤) (𝓣 : Tables 𝓤 H) → Triple 𝓤 (𝓣 .C #ledger·books·bill-at) (BillAt 𝓤 H A mem run) → Triple 𝓤 (𝓣 .C #ledger·books·add-charge) (AddCharge 𝓤 H A mem run)
+total-meets : {M : Type 1} (𝓤 : URA M) (H : Heap 𝓤) (A : Atoms 𝓤) → Given 𝓤 H A → (mem : Memory → SProp 𝓤) (run : Routine → Fun 𝓤) (𝓣 : Tables 𝓤 H) → Known 𝓤 H A mem run (𝓣 .C)
     → Meets 𝓤 H A total.signature (WpFn 𝓤 H (𝓣 .C) (𝓣 .Λ) code.function) (total.spec 𝓤 H A mem run)
-total-meets 𝓤 H A W mem run 𝓣 known-at known-add = walk-meets 𝓤 H A total.ended stayed W (goes-none-slice 𝓤 H A W 1 (0 ∷ []) tt (plain (λ _. B.the-row)) yes, tt) (total.clauses 𝓤 H A mem run) (WpFn 𝓤 H (𝓣 .C) (𝓣 .Λ) code.function) (WpFn-mono 𝓤 H (W .laws) 𝓣 code.function) (total-walks 𝓤 H A W mem run 𝓣 known-at known-add)
+total-meets 𝓤 H A W mem run 𝓣 known = walk-meets 𝓤 H A total.ended stayed W (goes-none-slice 𝓤 H A W 1 (0 ∷ []) tt (plain (λ _. B.the-row)) yes, tt) (total.clauses 𝓤 H A mem run) (WpFn 𝓤 H (𝓣 .C) (𝓣 .Λ) code.function) (WpFn-mono 𝓤 H (W .laws) 𝓣 code.function) (total-walks 𝓤 H A W mem run 𝓣 known)
 
 pub total-spec : {M : Type 1} → stated.statement M
-unfolding code.routine tablesOf
+unfolding code.routine
 total-spec 𝓤 H 𝓜 𝓖 𝓡 =
-    entered 𝓤 H (tripleOf 𝓤 H (𝓖 .A) total.signature (total.spec 𝓤 H (𝓖 .A) (𝓜 .mem) (𝓡 .run)))
-    (tables 𝓤 H 𝓜 𝓡 code.env .C) (tables 𝓤 H 𝓜 𝓡 code.env .Λ) #ledger·books·total code.function (code.unfolded 𝓤 H 𝓜 𝓡)
-    (total-meets 𝓤 H (𝓖 .A) (givenOf 𝓤 H 𝓜 𝓖) (𝓜 .mem) (𝓡 .run) (tablesOf 𝓤 H 𝓜 (tables 𝓤 H 𝓜 𝓡 code.env))
-    (cited 𝓤 H (BillAt 𝓤 H (𝓖 .A) (𝓜 .mem) (𝓡 .run)) 𝓜 𝓡 code.env #ledger·books·bill-at bill-at-def.routine code.calls-ledger·books·bill-at (bill-at-thm.met 𝓤 H 𝓜 𝓖 𝓡))
-    (cited 𝓤 H (AddCharge 𝓤 H (𝓖 .A) (𝓜 .mem) (𝓡 .run)) 𝓜 𝓡 code.env #ledger·books·add-charge add-charge-def.routine code.calls-ledger·books·add-charge (add-charge-thm.met 𝓤 H 𝓜 𝓖 𝓡)))
+    by-walk 𝓤 H 𝓜 𝓡 code.env #ledger·books·total code.function (code.unfolded 𝓤 H 𝓜 𝓡) (tripleOf 𝓤 H (𝓖 .A) total.signature (total.spec 𝓤 H (𝓖 .A) (𝓜 .mem) (𝓡 .run))) (Known 𝓤 H (𝓖 .A) (𝓜 .mem) (𝓡 .run))
+    (total-meets 𝓤 H (𝓖 .A) (givenOf 𝓤 H 𝓜 𝓖) (𝓜 .mem) (𝓡 .run))
+    (bill-at-met 𝓤 H 𝓜 𝓖 𝓡 code.env code.calls-ledger·books·bill-at, cited 𝓤 H (AddCharge 𝓤 H (𝓖 .A) (𝓜 .mem) (𝓡 .run)) 𝓜 𝓡 code.env #ledger·books·add-charge add-charge-def.routine code.calls-ledger·books·add-charge (add-charge-thm.met 𝓤 H 𝓜 𝓖 𝓡))

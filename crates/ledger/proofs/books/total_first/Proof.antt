@@ -17,7 +17,7 @@ use prog.Routine.{Routine}
 use prog.Wp.{Heap, Calls, Loops, WpFn, Tables}
 use ghost.Atoms.{Atoms, sem}
 use contract.Monad.{Fun, fact}
-use contract.Running.{givenOf, tables, tablesOf}
+use contract.Running.{givenOf}
 use types.Kit.{Given, ‵, raw, some, later, _⊛_, ⋆, _$_, _∵_, !, qed, by, move, keep, drop, use1, use2, split, join, pick, rewrite, fjoin, suffices, frame, await, done}
 use types.Part.{agg}
 use types.Run.{look, init, forget, stop, from, load, addr, of-opd, and-then, no-more, assigns, land, returns, enter, alloc1, alloc0, params1, pass1, pass0, free1, free0}
@@ -37,7 +37,7 @@ use denote.Triple.Spec.{Meets, tripleOf}
 use denote.Triple.Statement.{Contract, Triple}
 use denote.Triple.Call.{calls-at}
 use denote.Triple.Clauses.{ensured, lasts}
-use denote.Triple.Table.{entered, cited}
+use denote.Triple.Table.{cited}
 use denote.Triple.Walked.{says, needs, Stays, stay-none, walkOf, goes-none, Walks, ends-at, walked, walk-meets}
 use denote.Exit.{yes}
 use Rattle.units.specs.declared.Cents.{Cents}
@@ -47,6 +47,7 @@ use Rattle.ledger.specs.declared.Bill.{Bill}
 use Rattle.rules.specs.Lists.{every}
 use Rattle.ledger.specs.Books.{smallCharge, totalOf}
 use Rattle.ledger.proofs.LendArray.{Kept, part-ref, lends-part, part-back}
+use Rattle.ledger.proofs.ByWalk.{by-walk}
 use Rattle.ledger.proofs.LentBills.{Bills, vals, bills-tell, bills-make, bills-typed, lent-count, lent-room}
 use Rattle.ledger.proofs.Bill as B
 use Rattle.ledger.proofs.Bill.Laws as B′
@@ -138,9 +139,7 @@ total-first-meets : {M : Type 1} (𝓤 : URA M) (H : Heap 𝓤) (A : Atoms 𝓤)
 total-first-meets 𝓤 H A W mem run 𝓣 known = walk-meets 𝓤 H A total-first.ended stayed W (goes-none 𝓤 H A W 0 (λ _. Bills) yes (λ κs x f. refl), (goes-none 𝓤 H A W 0 (λ _. usize) yes (λ κs x f. refl), tt)) (total-first.clauses 𝓤 H A mem run) (WpFn 𝓤 H (𝓣 .C) (𝓣 .Λ) code.function) (WpFn-mono 𝓤 H (W .laws) 𝓣 code.function) (total-first-walks 𝓤 H A W mem run (𝓣 .C) (𝓣 .Λ) (fmOf 𝓤 H (W .laws) 𝓣) known)
 
 pub total-first-spec : {M : Type 1} → stated.statement M
-unfolding code.routine tablesOf
+unfolding code.routine
 total-first-spec 𝓤 H 𝓜 𝓖 𝓡 =
-    entered 𝓤 H (tripleOf 𝓤 H (𝓖 .A) total-first.signature (total-first.spec 𝓤 H (𝓖 .A) (𝓜 .mem) (𝓡 .run)))
-    (tables 𝓤 H 𝓜 𝓡 code.env .C) (tables 𝓤 H 𝓜 𝓡 code.env .Λ) #ledger·books·total-first code.function (code.unfolded 𝓤 H 𝓜 𝓡)
-    (total-first-meets 𝓤 H (𝓖 .A) (givenOf 𝓤 H 𝓜 𝓖) (𝓜 .mem) (𝓡 .run) (tablesOf 𝓤 H 𝓜 (tables 𝓤 H 𝓜 𝓡 code.env))
-    (cited 𝓤 H (Total 𝓤 H (𝓖 .A) (𝓜 .mem) (𝓡 .run)) 𝓜 𝓡 code.env #ledger·books·total total-def.routine code.calls-ledger·books·total (total-thm.met 𝓤 H 𝓜 𝓖 𝓡)))
+    by-walk 𝓤 H 𝓜 𝓡 code.env #ledger·books·total-first code.function (code.unfolded 𝓤 H 𝓜 𝓡) (tripleOf 𝓤 H (𝓖 .A) total-first.signature (total-first.spec 𝓤 H (𝓖 .A) (𝓜 .mem) (𝓡 .run))) (λ C. Triple 𝓤 (C #ledger·books·total) (Total 𝓤 H (𝓖 .A) (𝓜 .mem) (𝓡 .run)))
+    (total-first-meets 𝓤 H (𝓖 .A) (givenOf 𝓤 H 𝓜 𝓖) (𝓜 .mem) (𝓡 .run)) (cited 𝓤 H (Total 𝓤 H (𝓖 .A) (𝓜 .mem) (𝓡 .run)) 𝓜 𝓡 code.env #ledger·books·total total-def.routine code.calls-ledger·books·total (total-thm.met 𝓤 H 𝓜 𝓖 𝓡))
