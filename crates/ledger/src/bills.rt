@@ -55,11 +55,7 @@ impl Posted {
         match self {
             Posted::None => Cents(0),
             Posted::BillReady(charge) => charge,
-            Posted::Prepay {
-                charge,
-                applied: _,
-                owed: _,
-            } => charge,
+            Posted::Prepay { charge, .. } => charge,
         }
     }
 
@@ -69,11 +65,7 @@ impl Posted {
         match self {
             Posted::None => Cents(0),
             Posted::BillReady(_) => Cents(0),
-            Posted::Prepay {
-                charge: _,
-                applied,
-                owed: _,
-            } => applied,
+            Posted::Prepay { applied, .. } => applied,
         }
     }
 
@@ -83,11 +75,7 @@ impl Posted {
         match self {
             Posted::None => Cents(0),
             Posted::BillReady(charge) => charge,
-            Posted::Prepay {
-                charge: _,
-                applied: _,
-                owed,
-            } => owed,
+            Posted::Prepay { owed, .. } => owed,
         }
     }
 }

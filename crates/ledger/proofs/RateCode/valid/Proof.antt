@@ -25,16 +25,7 @@ is-digit-requires-4 c κs = search needs
 
 returns : tie.Need-returns
 unfolding isRateCode
-returns c =
-    rw (
-      c .before .before .before .before .before .is-letter .ensures,
-      c .before .before .before .before .is-digit .ensures,
-      c .before .before .before .is-letter2 .ensures,
-      c .before .before .is-digit2 .ensures,
-      c .before .is-digit3 .ensures,
-      c .is-digit4 .ensures,
-      and-true,
-    )
+returns c = rw and-true (cc)
 
 pub valid-spec : {M : Type 1} → statement M
 valid-spec =
