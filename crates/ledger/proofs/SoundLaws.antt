@@ -7,6 +7,7 @@ use lib.Dec.{leb, eqb}
 use lib.ListN.{length}
 use native.Mathlib.Decide.{decLe}
 use native.Mathlib.Omega.{arith}
+use borrow.Author.Needs.{needs}
 use borrow.Author.Tests.{lt-ltb, le-leb, lt-leb, leb-true, ltb-true}
 use Rattle.fields.proofs.BoolLaws.{and-left, and-right}
 use Rattle.units.specs.declared.Cents.{Cents}
@@ -85,21 +86,7 @@ facts-terms t f =
 -- terms that move, with the latest request of sound ones
 pub moved-facts : (t u : Terms) (sequence requests : ℕ) (cancelled : Bool) → TermsFacts t → TermsFacts u → 1 ≤ requests → requests ≤ sequence → sequence ≤ 999
     → TermsFacts (moved sequence requests cancelled (u .latest) t)
-moved-facts t u sequence requests cancelled f g a b c =
-    record {
-      account = f .account;
-      key = f .key;
-      code = f .code;
-      asked = a;
-      requests = b;
-      sequence = c;
-      from-one = g .from-one;
-      tracking = g .tracking;
-      consumption = g .consumption;
-      billing = g .billing;
-      from = g .from;
-      scheduled = g .scheduled;
-    }
+moved-facts t u sequence requests cancelled f g a b c = search needs
 
 -- applied plus owed is the charge, which is in its width
 pub balanced-charge : (charge applied owed : Cents) → balanced charge applied owed ≡ true → fitsCents charge ≡ true
