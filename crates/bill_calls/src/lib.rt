@@ -1,57 +1,21 @@
 // The calls request and cancel on a ledger by value: the bill found, the call decided on small values, and what that leaves stored.
 ghost use mathlib.Core.Path.{_≡_};
-ghost use mathlib.Core.Bool.{true};
-ghost use Prim.Native.Nat.{_≤_};
 ghost use lib.ListN.{length};
 ghost use Rattle.fields.specs.Put.{put};
-ghost use Rattle.ledger.specs.Sound.{soundLedger};
 ghost use Rattle.causes.specs.Causes.{request, cancel};
+ghost use Rattle.causes.specs.parts.Decisions.{callOf};
 ghost use Rattle.calls.specs.declared.Answer.the-variants.{Refused};
 ghost use Rattle.calls.specs.Machine.{stepIn, called};
-ghost use Rattle.bill_calls.specs.parts.Standing.{StandsIn};
-ghost use Rattle.ledger.specs.Limits.{ledgerPlaces};
 use calls::Answer;
 use calls::Called;
 use calls::carried_out;
+use causes::BillCall;
 use causes::Request;
-use ledger::Bill;
+use decisions::notice;
+use decisions::requests;
 use ledger::Identity;
 use ledger::Ledger;
-use ledger::LedgerHeader;
 use rules::Check;
-use rules::Found;
-use units::Cents;
-
-// What a call reads of a ledger: the ledger but for its bills, the place of its bill if it has one, the place that its bill has or gets, and what stands there.
-struct Standing {
-    header: LedgerHeader,
-    found: Found,
-    place: usize,
-    bill: Bill,
-}
-
-fn read_for(l: Ledger, id: Identity) -> Standing
-    requires { ⌜ l .count ≤ ledgerPlaces ⌝ }
-    ensures { λ s. ⌜ StandsIn l id s ⌝ }
-{
-    let today = l.today;
-    let count = l.count;
-    let header = LedgerHeader {
-        today,
-        tracking: l.next_tracking,
-        confirmation: l.next_confirmation,
-        count,
-    };
-    let found = l.find(id);
-    let place = ledger::books::slot(found, count);
-    let bill = l.bills[place];
-    Standing {
-        header,
-        found,
-        place,
-        bill,
-    }
-}
 
 // "Returned is the number alone": the ledger is as it was.
 fn refused(l: Ledger, n: u64) -> Called
@@ -63,25 +27,28 @@ fn refused(l: Ledger, n: u64) -> Called
     }
 }
 
-// The call request on a ledger that is known to be sound.
-fn request_on_sound(l: Ledger, out: &mut [u8], r: Request) -> Called
-    requires { ⌜ soundLedger l ≡ true ⌝ }
-    ensures { λ a. ⌜ (a ≡ called l (request r (length (now (out .entry))))) × (now (out .exit) ≡ put (now (out .entry)) 0 (stepIn l (request r (length (now (out .entry)))) .written)) ⌝ }
+// A request or a cancel: its bill found, the call decided, and what that leaves stored.
+fn bill_call(l: Ledger, out: &mut [u8], c: BillCall) -> Called
+    ensures { λ a. ⌜ (a ≡ called l (callOf c (length (now (out .entry))))) × (now (out .exit) ≡ put (now (out .entry)) 0 (stepIn l (callOf c (length (now (out .entry)))) .written)) ⌝ }
 {
-    let s = read_for(l, r.identity);
+    if !sound_ledger::sound(l) {
+        return refused(l, 2);
+    }
+    let s = groups::read_for(l, requests::identity_of(c));
     let h = s.header;
     let f = s.found;
     let b = s.bill;
-    let d = decisions::requests::request(r, out.len(), h, f, b);
+    let d = requests::decide(c, out.len(), h, f, b);
     let check = d.check;
     if let Check::Stop(n) = check {
         return refused(l, n);
     }
+    let change = requests::change_of(c, b);
     let u = d.update;
-    let c = u.bill;
-    decisions::notice::put_bil(out, true, h, f, b, c);
+    let k = u.bill;
+    notice::put_notice(out, true, c, h, f, b, k);
     let next = l.updated(s.place, u);
-    let answer = carried_out::noticed(0);
+    let answer = carried_out::noticed(change);
     Called {
         ledger: next,
         answer,
@@ -92,44 +59,12 @@ fn request_on_sound(l: Ledger, out: &mut [u8], r: Request) -> Called
 pub fn request_bill(l: Ledger, out: &mut [u8], r: Request) -> Called
     ensures { λ a. ⌜ (a ≡ called l (request r (length (now (out .entry))))) × (now (out .exit) ≡ put (now (out .entry)) 0 (stepIn l (request r (length (now (out .entry)))) .written)) ⌝ }
 {
-    if !sound_ledger::sound(l) {
-        return refused(l, 2);
-    }
-    request_on_sound(l, out, r)
-}
-
-// The call cancel on a ledger that is known to be sound.
-fn cancel_on_sound(l: Ledger, out: &mut [u8], id: Identity) -> Called
-    requires { ⌜ soundLedger l ≡ true ⌝ }
-    ensures { λ a. ⌜ (a ≡ called l (cancel id (length (now (out .entry))))) × (now (out .exit) ≡ put (now (out .entry)) 0 (stepIn l (cancel id (length (now (out .entry)))) .written)) ⌝ }
-{
-    let s = read_for(l, id);
-    let h = s.header;
-    let f = s.found;
-    let b = s.bill;
-    let d = decisions::requests::cancel(id, out.len(), h, f, b);
-    let check = d.check;
-    if let Check::Stop(n) = check {
-        return refused(l, n);
-    }
-    let posted = b.posted;
-    let change = ledger::books::signed_change(Cents(0), posted.charge());
-    decisions::notice::put_cxl(out, true, h, b);
-    let u = d.update;
-    let next = l.updated(s.place, u);
-    let answer = carried_out::noticed(change);
-    Called {
-        ledger: next,
-        answer,
-    }
+    bill_call(l, out, BillCall::Request(r))
 }
 
 // The call cancel.
 pub fn cancel_bill(l: Ledger, out: &mut [u8], id: Identity) -> Called
     ensures { λ a. ⌜ (a ≡ called l (cancel id (length (now (out .entry))))) × (now (out .exit) ≡ put (now (out .entry)) 0 (stepIn l (cancel id (length (now (out .entry)))) .written)) ⌝ }
 {
-    if !sound_ledger::sound(l) {
-        return refused(l, 2);
-    }
-    cancel_on_sound(l, out, id)
+    bill_call(l, out, BillCall::Cancel(id))
 }

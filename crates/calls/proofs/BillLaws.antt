@@ -17,7 +17,7 @@ use Rattle.rules.specs.declared.Found.{Found}
 use Rattle.rules.specs.declared.Found.the-variants.{At, Nothing}
 use Rattle.rules.specs.Lists.{update}
 use Rattle.ledger.specs.Bills.{renewed, cancelledBill, blankBill}
-use Rattle.ledger.specs.Books.{Book, book, live, stored, ofId, placeOf, billTerms, billCharge, totalOf}
+use Rattle.ledger.specs.Books.{Book, book, view, live, stored, ofId, placeOf, billTerms, billCharge, totalOf}
 use Rattle.ledger.specs.parts.Places.{billAt, headerOf, updated, placeFor}
 use Rattle.ledger.specs.Sound.{holdsId, soundBill, soundLedger}
 use Rattle.ledger.proofs.BookLaws.{live-appended, live-replaced, length-live, difference}
@@ -34,11 +34,13 @@ use Rattle.group.specs.Groups.{soughtIn}
 use Rattle.group.specs.parts.Turns.{soughtBy}
 use Rattle.group.proofs.FoundLaws.{Held, nowhere, somewhere, held, sought-is, every-held}
 use Rattle.causes.specs.declared.Request.{Request}
+use Rattle.causes.specs.declared.BillCall.{BillCall}
+use Rattle.causes.specs.declared.BillCall.the-variants as billCall
 use Rattle.causes.specs.declared.Decision.{Decision}
 use Rattle.causes.specs.Causes.{Call, request, cancel, requestCauses, cancelCauses, causes}
 use Rattle.causes.specs.Requests.{latestOf, newBill}
-use Rattle.causes.specs.parts.Decisions.{SoundAt, requestedBy, requestBy, cancelBy, bilBy, cxlBy}
-use Rattle.causes.proofs.CauseLaws.{asks, cancels}
+use Rattle.causes.specs.parts.Decisions.{SoundAt, callOf, identityOf, causesBy, updateBy, decidedBy, ChangeFits, changeBy, noticeBy}
+use Rattle.causes.proofs.CauseLaws.{Asks, asks, Cancels, cancels}
 use Rattle.calls.specs.declared.Answer.the-variants.{Refused}
 use Rattle.calls.specs.Machine.{billOf, requested, numbered, next, nextWritten, nextVerdicts, nextClosed, total, outcome, answerBy, causeIn, stepIn, called}
 use Rattle.calls.specs.parts.Answers.{noticed}
@@ -134,158 +136,137 @@ pub cancel-answer : (k : Book) (id : Identity) (room : ℕ)
 unfolding outcome answerBy nextWritten nextVerdicts nextClosed
 cancel-answer k id room = rw (change-cancel k id room, length-cxl)
 
--- ---- a call on a struct that is known to be sound: b stands at the place p, of what a search for id found
-module _ (l : Ledger) (long : length (l .bills) ≡ 128) (sure : soundLedger l ≡ true) (id : Identity) (f : Found) (fe : f ≡ placeOf id (live l)) (p : ℕ)
-    (pe : p ≡ placeFor f (l .count)) where
+-- what is known of a request or a cancel, c, that d decides: b stands at its place p
+pub record Decided (l : Ledger) (c : BillCall) (room : ℕ) (h : LedgerHeader) (f : Found) (p : ℕ) (b : Bill) (d : Decision) : Type 0 where
+  pub stops : (n : ℕ) → d .check ≡ Stop n → Stopped l (callOf c room) n
+  pub wide : d .check ≡ Clear → 642 ≤ room
+  pub fits : d .check ≡ Clear → ChangeFits c b
+  pub done : d .check ≡ Clear → Carried l (callOf c room) (updated l p (d .update)) (noticed (changeBy c b)) (noticeBy c h f b (d .update .bill))
+
+-- ---- a call on a struct that is known to be sound: b stands at the place p, of what a search found
+module _ (l : Ledger) (long : length (l .bills) ≡ 128) (sure : soundLedger l ≡ true) (f : Found) (p : ℕ) (pe : p ≡ placeFor f (l .count)) where
   few : l .count ≤ 128
   few = ledger-count l sure
 
-  known-at : (i : ℕ) → i < l .count → placeOf id (live l) ≡ At i → p ≡ i
-  known-at i h x = pe ∙ rw (fe ∙ x, lt-ltb i 128 (omega (arith, few)))
+  module _ (id : Identity) (fe : f ≡ placeOf id (live l)) where
+    known-at : (i : ℕ) → i < l .count → placeOf id (live l) ≡ At i → p ≡ i
+    known-at i h x = pe ∙ rw (fe ∙ x, lt-ltb i 128 (omega (arith, few)))
 
-  pub sound-here : SoundAt f (billAt l p)
-  sound-here = go (placed l id)
-    where
-      go : Placed l id → SoundAt f (billAt l p)
-      go (new x b c y) = rw (fe ∙ x) tt
-      go (old i h x b c y u) = rw (fe ∙ x, known-at i h x) (facts-at l long sure i h .requests, facts-at l long sure i h .sequence)
+    pub sound-here : SoundAt f (billAt l p)
+    sound-here = go (placed l id)
+      where
+        go : Placed l id → SoundAt f (billAt l p)
+        go (new x b c y) = rw (fe ∙ x) tt
+        go (old i h x b c y u) = rw (fe ∙ x, known-at i h x) (facts-at l long sure i h .requests, facts-at l long sure i h .sequence)
 
--- a request
-module _ (l : Ledger) (long : length (l .bills) ≡ 128) (sure : soundLedger l ≡ true) (r : Request) (room : ℕ) (f : Found) (fe : f ≡ placeOf (r .identity) (live l))
-    (p : ℕ) (pe : p ≡ placeFor f (l .count)) (h : LedgerHeader) (he : h ≡ headerOf l) (b : Bill) (be : b ≡ billAt l p) (d : Decision)
-    (de : d ≡ requestBy (first (requestCauses r room (h .today) (h .tracking) (h .confirmation) (h .count) (soughtBy f b))) r h f b) where
-  abbrev checkBy : LedgerHeader → Bill → Check
-  checkBy t x = first (requestCauses r room (t .today) (t .tracking) (t .confirmation) (t .count) (soughtBy f x))
+  module _ (room : ℕ) where
+    -- the causes by the header and the bill are those of the book
+    causes-are : (c : BillCall) → f ≡ placeOf (identityOf c) (live l)
+        → first (causes (view (book l)) (callOf c room)) ≡ first (causesBy c room (headerOf l) f (billAt l p))
+    unfolding causes
+    causes-are (billCall.Request r) fe = rw (held-length l long sure, ← sought-is l few (r .identity) f p fe pe)
+    causes-are (billCall.Cancel id) fe = rw (← sought-is l few id f p fe pe)
 
-  abbrev now : Check
-  now = checkBy (headerOf l) (billAt l p)
+    -- what is known of a call that no cause is against
+    record Carries (c : BillCall) : Type 0 where
+      wide : 642 ≤ room
+      fits : ChangeFits c (billAt l p)
+      left : updated l p (updateBy c (headerOf l) f (billAt l p)) ≡ stored l (next (book l) (callOf c room))
+      answer : noticed (changeBy c (billAt l p)) ≡ answerBy (outcome (book l) (callOf c room) Clear) Clear
+      bytes : noticeBy c (headerOf l) f (billAt l p) (updateBy c (headerOf l) f (billAt l p) .bill) ≡ nextWritten (book l) (callOf c room)
 
-  decision-now : d ≡ requestBy now r (headerOf l) f (billAt l p)
-  decision-now = de ∙ ap₂ (λ (t : LedgerHeader) (x : Bill). requestBy (checkBy t x) r t f x) he be
+    -- a request
+    module _ (r : Request) (fe : f ≡ placeOf (r .identity) (live l)) (e : first (causesBy (billCall.Request r) room (headerOf l) f (billAt l p)) ≡ Clear) where
+      abbrev asked : Asks r room (l .today) (l .«next_tracking») (l .«next_confirmation») (l .count) (soughtBy f (billAt l p))
+      asked = asks r room (l .today) (l .«next_tracking») (l .«next_confirmation») (l .count) (soughtBy f (billAt l p)) e
 
-  check-by : (k : Check) → requestBy k r (headerOf l) f (billAt l p) .check ≡ k
-  check-by Clear = refl
-  check-by (Stop n) = refl
+      requests : Placed l (r .identity) → Carries (billCall.Request r)
+      unfolding next nextWritten
+      requests (new x b c y) =
+          let z : f ≡ Nothing = fe ∙ x in
+          let m : l .count < 128 = asked .new (rw z) in
+          let k : p ≡ l .count = pe ∙ rw (z, lt-ltb (l .count) 128 m) in
+          record {
+            wide = asked .wide;
+            fits = tt;
+            left = rw (z, k, b) (stored-new l (newBill r (l .«next_tracking»)) (omega arith));
+            answer = request-answer (book l) r room;
+            bytes = rw (z, b, c);
+          }
+      requests (old i m x b c y u) =
+          let k = known-at (r .identity) fe i m x in
+          record {
+            wide = asked .wide;
+            fits = tt;
+            left =
+                rw (fe ∙ x, k, b, u (renewed (latestOf r (l .«next_tracking»))))
+                (stored-old l i (renewed (latestOf r (l .«next_tracking»)) (billAt l i)) m (within l long sure));
+            answer = request-answer (book l) r room;
+            bytes = rw (fe ∙ x, k, b, c);
+          }
 
-  check-now : d .check ≡ now
-  check-now = ap (λ (z : Decision). z .check) decision-now ∙ check-by now
+    -- a cancel: its bill is known, and what it takes away can be told with a sign
+    module _ (id : Identity) (fe : f ≡ placeOf id (live l)) (e : first (causesBy (billCall.Cancel id) room (headerOf l) f (billAt l p)) ≡ Clear) where
+      abbrev asked-c : Cancels id room (l .«next_tracking») (l .«next_confirmation») (soughtBy f (billAt l p))
+      asked-c = cancels id room (l .«next_tracking») (l .«next_confirmation») (soughtBy f (billAt l p)) e
 
-  -- what the check decides is the cause
-  request-cause : causeIn l (request r room) ≡ d .check
-  unfolding causes
-  request-cause =
-      cause-sound l (request r room) sure
-      ∙ rw (held-length l long sure, ← sought-is l (ledger-count l sure) (r .identity) f p fe pe) (sym check-now)
+      cancelled : Placed l id → Carries (billCall.Cancel id)
+      unfolding next nextWritten
+      cancelled (new x y z w) = absurd (true≢false (subst (λ (i : Found). isNothing (soughtBy i (billAt l p)) ≡ false) (fe ∙ x) (asked-c .known)))
+      cancelled (old i m x y z w u) =
+          let k = known-at id fe i m x in
+          let small : billCharge (billAt l i) < 10 ^ 13 = ltb-true _ _ (bill-small (billAt l i) (sound-at l long sure i m)) in
+          let same : billAt l p ≡ billOf id (live l) = ap (billAt l) k ∙ sym z in
+          record {
+            wide = asked-c .wide;
+            fits = rw k (omega arith);
+            left = rw (k, u cancelledBill) (stored-old l i (cancelledBill (billAt l i)) m (within l long sure));
+            answer = ap (λ (b : Bill). noticed (pos 0 -ℤ pos (billCharge b))) same ∙ cancel-answer (book l) id room;
+            bytes = rw same;
+          }
 
-  pub request-stops : (n : ℕ) → d .check ≡ Stop n → Stopped l (request r room) n
-  request-stops n e = stopped l (request r room) n (request-cause ∙ e)
+    carries : (c : BillCall) → f ≡ placeOf (identityOf c) (live l) → first (causesBy c room (headerOf l) f (billAt l p)) ≡ Clear → Carries c
+    carries (billCall.Request r) fe e = requests r fe e (placed l (r .identity))
+    carries (billCall.Cancel id) fe e = cancelled id fe e (placed l id)
 
-  module _ (e : d .check ≡ Clear) where
-    facts : (642 ≤ room) × (soughtBy f (billAt l p) ≡ sought.Nothing → l .count < 128)
-    facts =
-        let x = asks r room (l .today) (l .«next_tracking») (l .«next_confirmation») (l .count) (soughtBy f (billAt l p)) (sym check-now ∙ e) in
-        (x .wide, x .new)
+    -- a request or a cancel
+    module _ (c : BillCall) (fe : f ≡ placeOf (identityOf c) (live l)) (h : LedgerHeader) (he : h ≡ headerOf l) (b : Bill) (be : b ≡ billAt l p) (d : Decision)
+        (de : d ≡ decidedBy (first (causesBy c room h f b)) c h f b) where
+      abbrev now : Check
+      now = first (causesBy c room (headerOf l) f (billAt l p))
 
-    pub request-room : 642 ≤ room
-    request-room = facts .0
+      decision-now : d ≡ decidedBy now c (headerOf l) f (billAt l p)
+      decision-now = de ∙ ap₂ (λ (t : LedgerHeader) (x : Bill). decidedBy (first (causesBy c room t f x)) c t f x) he be
 
-    clear-now : d ≡ requestBy Clear r (headerOf l) f (billAt l p)
-    clear-now = decision-now ∙ ap (λ (k : Check). requestBy k r (headerOf l) f (billAt l p)) (sym check-now ∙ e)
+      check-by : (k : Check) → decidedBy k c (headerOf l) f (billAt l p) .check ≡ k
+      check-by Clear = refl
+      check-by (Stop n) = refl
 
-    left-by : Placed l (r .identity) → updated l p (requestBy Clear r (headerOf l) f (billAt l p) .update) ≡ stored l (next (book l) (request r room))
-    unfolding next
-    left-by (new x b c y) =
-        let z : f ≡ Nothing = fe ∙ x in
-        let m : l .count < 128 = facts .1 (rw z) in
-        let k : p ≡ l .count = pe ∙ rw (z, lt-ltb (l .count) 128 m) in
-        rw (z, k, b) (stored-new l (newBill r (l .«next_tracking»)) (omega arith))
-    left-by (old i m x b c y u) =
-        rw (fe ∙ x, known-at l long sure (r .identity) f fe p pe i m x, b, u (renewed (latestOf r (l .«next_tracking»))))
-        (stored-old l i (renewed (latestOf r (l .«next_tracking»)) (billAt l i)) m (within l long sure))
+      check-now : d .check ≡ now
+      check-now = ap (λ (z : Decision). z .check) decision-now ∙ check-by now
 
-    bytes-by : Placed l (r .identity)
-        → bilBy (headerOf l) f (billAt l p) (requestedBy r (l .«next_tracking») f (billAt l p)) ≡ nextWritten (book l) (request r room)
-    unfolding nextWritten
-    bytes-by (new x b c y) = rw (fe ∙ x, b, c)
-    bytes-by (old i m x b c y u) = rw (fe ∙ x, known-at l long sure (r .identity) f fe p pe i m x, b, c)
+      -- what the check decides is the cause
+      cause-now : causeIn l (callOf c room) ≡ d .check
+      cause-now = cause-sound l (callOf c room) sure ∙ causes-are c fe ∙ sym check-now
 
-    pub request-done : Carried l (request r room) (updated l p (d .update)) (noticed (pos 0)) (bilBy h f b (d .update .bill))
-    request-done =
-        carried l (request r room) (request-cause ∙ e) _ _ _
-        (ap (λ (z : Decision). updated l p (z .update)) clear-now ∙ left-by (placed l (r .identity)))
-        (request-answer (book l) r room)
-        (ap₂ (λ (t : LedgerHeader) (x : Bill). bilBy t f x (d .update .bill)) he be
-        ∙ ap (λ (z : Decision). bilBy (headerOf l) f (billAt l p) (z .update .bill)) clear-now
-        ∙ bytes-by (placed l (r .identity)))
+      clear-now : d .check ≡ Clear → d ≡ decidedBy Clear c (headerOf l) f (billAt l p)
+      clear-now e = decision-now ∙ ap (λ (k : Check). decidedBy k c (headerOf l) f (billAt l p)) (sym check-now ∙ e)
 
--- a cancel
-module _ (l : Ledger) (long : length (l .bills) ≡ 128) (sure : soundLedger l ≡ true) (id : Identity) (room : ℕ) (f : Found) (fe : f ≡ placeOf id (live l))
-    (p : ℕ) (pe : p ≡ placeFor f (l .count)) (h : LedgerHeader) (he : h ≡ headerOf l) (b : Bill) (be : b ≡ billAt l p) (d : Decision)
-    (de : d ≡ cancelBy (first (cancelCauses id room (h .tracking) (h .confirmation) (soughtBy f b))) h b) where
-  abbrev checkOf : LedgerHeader → Bill → Check
-  checkOf t x = first (cancelCauses id room (t .tracking) (t .confirmation) (soughtBy f x))
+      known : d .check ≡ Clear → Carries c
+      known e = carries c fe (sym check-now ∙ e)
 
-  abbrev nowc : Check
-  nowc = checkOf (headerOf l) (billAt l p)
-
-  decision-c : d ≡ cancelBy nowc (headerOf l) (billAt l p)
-  decision-c = de ∙ ap₂ (λ (t : LedgerHeader) (x : Bill). cancelBy (checkOf t x) t x) he be
-
-  check-of : (k : Check) → cancelBy k (headerOf l) (billAt l p) .check ≡ k
-  check-of Clear = refl
-  check-of (Stop n) = refl
-
-  check-c : d .check ≡ nowc
-  check-c = ap (λ (z : Decision). z .check) decision-c ∙ check-of nowc
-
-  cancel-cause : causeIn l (cancel id room) ≡ d .check
-  unfolding causes
-  cancel-cause = cause-sound l (cancel id room) sure ∙ rw (← sought-is l (ledger-count l sure) id f p fe pe) (sym check-c)
-
-  pub cancel-stops : (n : ℕ) → d .check ≡ Stop n → Stopped l (cancel id room) n
-  cancel-stops n e = stopped l (cancel id room) n (cancel-cause ∙ e)
-
-  module _ (e : d .check ≡ Clear) where
-    facts-c : (642 ≤ room) × (isNothing (soughtBy f (billAt l p)) ≡ false)
-    facts-c =
-        let x = cancels id room (l .«next_tracking») (l .«next_confirmation») (soughtBy f (billAt l p)) (sym check-c ∙ e) in (x .wide, x .known)
-
-    pub cancel-room : 642 ≤ room
-    cancel-room = facts-c .0
-
-    none-c : f ≡ Nothing → ⊥
-    none-c z = true≢false (subst (λ (i : Found). isNothing (soughtBy i (billAt l p)) ≡ false) z (facts-c .1))
-
-    -- what it takes away can be told with a sign
-    small-by : Placed l id → billCharge (billAt l p) < 2 ^ 63
-    small-by (new x y z w) = absurd (none-c (fe ∙ x))
-    small-by (old i m x y z w u) =
-        let k : billCharge (billAt l i) < 10 ^ 13 = ltb-true _ _ (bill-small (billAt l i) (sound-at l long sure i m)) in
-        rw (known-at l long sure id f fe p pe i m x) (omega arith)
-
-    pub cancel-small : billCharge b < 2 ^ 63
-    cancel-small = rw be (small-by (placed l id))
-
-    clear-c : d ≡ cancelBy Clear (headerOf l) (billAt l p)
-    clear-c = decision-c ∙ ap (λ (k : Check). cancelBy k (headerOf l) (billAt l p)) (sym check-c ∙ e)
-
-    left-c : Placed l id → updated l p (cancelBy Clear (headerOf l) (billAt l p) .update) ≡ stored l (next (book l) (cancel id room))
-    unfolding next
-    left-c (new x y z w) = absurd (none-c (fe ∙ x))
-    left-c (old i m x y z w u) =
-        rw (known-at l long sure id f fe p pe i m x, u cancelledBill) (stored-old l i (cancelledBill (billAt l i)) m (within l long sure))
-
-    bill-c : Placed l id → billAt l p ≡ billOf id (live l)
-    bill-c (new x y z w) = absurd (none-c (fe ∙ x))
-    bill-c (old i m x y z w u) = ap (billAt l) (known-at l long sure id f fe p pe i m x) ∙ sym z
-
-    bytes-c : cxlBy (headerOf l) (billAt l p) ≡ nextWritten (book l) (cancel id room)
-    unfolding nextWritten
-    bytes-c = rw (bill-c (placed l id))
-
-    pub cancel-done : Carried l (cancel id room) (updated l p (d .update)) (noticed (pos 0 -ℤ pos (billCharge b))) (cxlBy h b)
-    cancel-done =
-        carried l (cancel id room) (cancel-cause ∙ e) _ _ _
-        (ap (λ (z : Decision). updated l p (z .update)) clear-c ∙ left-c (placed l id))
-        (ap (λ (x : Bill). noticed (pos 0 -ℤ pos (billCharge x))) (be ∙ bill-c (placed l id)) ∙ cancel-answer (book l) id room)
-        (ap₂ (λ (t : LedgerHeader) (x : Bill). cxlBy t x) he be ∙ bytes-c)
+      pub decided : Decided l c room h f p b d
+      decided =
+          record {
+            stops = λ n e. stopped l (callOf c room) n (cause-now ∙ e);
+            wide = λ e. known e .wide;
+            fits = λ e. rw be (known e .fits);
+            done =
+                λ e.
+                carried l (callOf c room) (cause-now ∙ e) _ _ _
+                (ap (λ (z : Decision). updated l p (z .update)) (clear-now e) ∙ known e .left)
+                (ap (λ (x : Bill). noticed (changeBy c x)) be ∙ known e .answer)
+                (ap₂ (λ (t : LedgerHeader) (x : Bill). noticeBy c t f x (d .update .bill)) he be
+                ∙ ap (λ (z : Decision). noticeBy c (headerOf l) f (billAt l p) (z .update .bill)) (clear-now e)
+                ∙ known e .bytes);
+          }

@@ -5,8 +5,9 @@ ghost use Prim.Native.Nat.{_≤_};
 ghost use lib.ListN.{length};
 ghost use Rattle.fields.specs.Put.{put};
 ghost use Rattle.group.specs.parts.Turns.{ifWritten};
-ghost use Rattle.causes.specs.parts.Decisions.{previousBy, bilBy, cxlBy};
+ghost use Rattle.causes.specs.parts.Decisions.{previousBy, bilBy, cxlBy, noticeBy};
 ghost use Rattle.records.specs.Limits.{noticeSize};
+use causes::BillCall;
 use ledger::Bill;
 use ledger::LedgerHeader;
 use notices::bil::Bil;
@@ -25,13 +26,10 @@ fn previous(f: Found, b: Bill) -> Ccf
 }
 
 // The BIL of a request: b stood at its place, and c does now.
-pub fn put_bil(out: &mut [u8], writes: bool, h: LedgerHeader, f: Found, b: Bill, c: Bill)
-    requires { ⌜ (writes ≡ true → noticeSize ≤ length (now out)) ⌝ }
-    ensures { λ _. ⌜ now (out .exit) ≡ put (now (out .entry)) 0 (ifWritten writes (bilBy h f b c)) ⌝ }
+fn put_bil(out: &mut [u8], h: LedgerHeader, f: Found, b: Bill, c: Bill)
+    requires { ⌜ noticeSize ≤ length (now out) ⌝ }
+    ensures { λ _. ⌜ now (out .exit) ≡ put (now (out .entry)) 0 (bilBy h f b c) ⌝ }
 {
-    if !writes {
-        return;
-    }
     let consumption = previous(f, b);
     let today = h.today;
     notices::bil::write(
@@ -47,13 +45,10 @@ pub fn put_bil(out: &mut [u8], writes: bool, h: LedgerHeader, f: Found, b: Bill,
 }
 
 // The CXL of a cancel: b stood at its place.
-pub fn put_cxl(out: &mut [u8], writes: bool, h: LedgerHeader, b: Bill)
-    requires { ⌜ (writes ≡ true → noticeSize ≤ length (now out)) ⌝ }
-    ensures { λ _. ⌜ now (out .exit) ≡ put (now (out .entry)) 0 (ifWritten writes (cxlBy h b)) ⌝ }
+fn put_cxl(out: &mut [u8], h: LedgerHeader, b: Bill)
+    requires { ⌜ noticeSize ≤ length (now out) ⌝ }
+    ensures { λ _. ⌜ now (out .exit) ≡ put (now (out .entry)) 0 (cxlBy h b) ⌝ }
 {
-    if !writes {
-        return;
-    }
     let terms = b.terms;
     let today = h.today;
     notices::cxl::write(
@@ -66,4 +61,26 @@ pub fn put_cxl(out: &mut [u8], writes: bool, h: LedgerHeader, b: Bill)
             confirmation: h.confirmation,
         },
     );
+}
+
+// The notice of a request or a cancel: b stood at its place, and k does now.
+pub fn put_notice(
+    out: &mut [u8],
+    writes: bool,
+    c: BillCall,
+    h: LedgerHeader,
+    f: Found,
+    b: Bill,
+    k: Bill,
+)
+    requires { ⌜ (writes ≡ true → noticeSize ≤ length (now out)) ⌝ }
+    ensures { λ _. ⌜ now (out .exit) ≡ put (now (out .entry)) 0 (ifWritten writes (noticeBy c h f b k)) ⌝ }
+{
+    if !writes {
+        return;
+    }
+    match c {
+        BillCall::Request(_) => put_bil(out, h, f, b, k),
+        BillCall::Cancel(_) => put_cxl(out, h, b),
+    }
 }

@@ -2,12 +2,11 @@
 ghost use mathlib.Core.Path.{_≡_};
 ghost use Prim.Native.Nat.{_≤_};
 ghost use Rattle.rules.specs.Rules.{first};
-ghost use Rattle.group.specs.parts.Turns.{soughtBy};
-ghost use Rattle.causes.specs.Causes.{requestCauses, cancelCauses};
 ghost use Rattle.causes.specs.Requests.{latestOf, newBill};
 ghost use Rattle.ledger.specs.Bills.{productOf};
-ghost use Rattle.causes.specs.parts.Decisions.{SoundAt, CanRenew, requestedBy, grown, usedBy, requestBy, cancelBy};
+ghost use Rattle.causes.specs.parts.Decisions.{SoundAt, CanRenew, requestedBy, grown, usedBy, identityOf, causesBy, decidedBy, ChangeFits, changeBy};
 ghost use Rattle.ledger.specs.Limits.{ledgerPlaces, usedUp};
+use causes::BillCall;
 use causes::Decision;
 use causes::Request;
 use causes::checks;
@@ -19,6 +18,7 @@ use ledger::Product;
 use ledger::Update;
 use rules::Check;
 use rules::Found;
+use units::Cents;
 
 // The product that a byte holds.
 fn product_of(x: u8) -> Product
@@ -58,7 +58,7 @@ fn new_bill(r: Request, tracking: u64) -> Bill
 }
 
 // The bill as a request leaves it: a new one, or a known one with the new values.
-fn asked(r: Request, tracking: u64, f: Found, b: Bill) -> Bill
+fn requested(r: Request, tracking: u64, f: Found, b: Bill) -> Bill
     requires { ⌜ CanRenew f b ⌝ }
     ensures { λ a. ⌜ a ≡ requestedBy r tracking f b ⌝ }
 {
@@ -93,54 +93,80 @@ fn use_numbers(h: LedgerHeader, n: usize) -> LedgerHeader
     }
 }
 
-// A request, where b stands at the place that was found.
-pub fn request(r: Request, room: usize, h: LedgerHeader, f: Found, b: Bill) -> Decision
-    requires { ⌜ (h .tracking ≤ usedUp) × (h .confirmation ≤ usedUp) × (h .count ≤ ledgerPlaces) ⌝ }
-    requires { ⌜ SoundAt f b ⌝ }
-    ensures { λ a. ⌜ a ≡ requestBy (first (requestCauses r room (h .today) (h .tracking) (h .confirmation) (h .count) (soughtBy f b))) r h f b ⌝ }
+// Whose bill a request or a cancel is about.
+pub fn identity_of(c: BillCall) -> Identity
+    ensures { λ r. ⌜ r ≡ identityOf c ⌝ }
 {
-    let today = h.today;
-    let check = checks::request_check(
-        r,
-        room,
-        today,
-        h.tracking,
-        h.confirmation,
-        h.count,
-        group::sought_by(f, b),
-    );
-    match check {
-        Check::Stop(_) => Decision {
-            check,
-            update: Update { header: h, bill: b },
-        },
-        Check::Clear => Decision {
-            check,
-            update: Update {
-                header: use_numbers(h, grown(f, h.count)),
-                bill: asked(r, h.tracking, f, b),
-            },
-        },
+    match c {
+        BillCall::Request(r) => r.identity,
+        BillCall::Cancel(id) => id,
     }
 }
 
-// A cancel, where b stands at the place that was found.
-pub fn cancel(id: Identity, room: usize, h: LedgerHeader, f: Found, b: Bill) -> Decision
+// The first cause against a request or a cancel, where b stands at the place that was found.
+fn first_cause(c: BillCall, room: usize, h: LedgerHeader, f: Found, b: Bill) -> Check
     requires { ⌜ (h .tracking ≤ usedUp) × (h .confirmation ≤ usedUp) ⌝ }
-    ensures { λ a. ⌜ a ≡ cancelBy (first (cancelCauses id room (h .tracking) (h .confirmation) (soughtBy f b))) h b ⌝ }
+    ensures { λ a. ⌜ a ≡ first (causesBy c room h f b) ⌝ }
 {
-    let check = checks::cancel_check(id, room, h.tracking, h.confirmation, group::sought_by(f, b));
-    match check {
-        Check::Stop(_) => Decision {
+    let sought = group::sought_by(f, b);
+    let today = h.today;
+    match c {
+        BillCall::Request(r) => checks::request_check(
+            r,
+            room,
+            today,
+            h.tracking,
+            h.confirmation,
+            h.count,
+            sought,
+        ),
+        BillCall::Cancel(id) => {
+            checks::cancel_check(id, room, h.tracking, h.confirmation, sought)
+        }
+    }
+}
+
+// What a request or a cancel comes to, where b stands at the place that was found.
+pub fn decide(c: BillCall, room: usize, h: LedgerHeader, f: Found, b: Bill) -> Decision
+    requires { ⌜ (h .tracking ≤ usedUp) × (h .confirmation ≤ usedUp) × (h .count ≤ ledgerPlaces) ⌝ }
+    requires { ⌜ SoundAt f b ⌝ }
+    ensures { λ a. ⌜ a ≡ decidedBy (first (causesBy c room h f b)) c h f b ⌝ }
+{
+    let check = first_cause(c, room, h, f, b);
+    if let Check::Stop(_) = check {
+        return Decision {
             check,
             update: Update { header: h, bill: b },
+        };
+    }
+    match c {
+        BillCall::Request(r) => Decision {
+            check,
+            update: Update {
+                header: use_numbers(h, grown(f, h.count)),
+                bill: requested(r, h.tracking, f, b),
+            },
         },
-        Check::Clear => Decision {
+        BillCall::Cancel(_) => Decision {
             check,
             update: Update {
                 header: use_numbers(h, h.count),
                 bill: b.cancel(),
             },
         },
+    }
+}
+
+// The signed change that a request or a cancel makes, where b stood at its place.
+pub fn change_of(c: BillCall, b: Bill) -> i64
+    requires { ⌜ ChangeFits c b ⌝ }
+    ensures { λ r. ⌜ r ≡ changeBy c b ⌝ }
+{
+    match c {
+        BillCall::Request(_) => 0,
+        BillCall::Cancel(_) => {
+            let posted = b.posted;
+            ledger::books::signed_change(Cents(0), posted.charge())
+        }
     }
 }

@@ -15,7 +15,7 @@ use Rattle.ledger.specs.declared.LedgerHeader.{LedgerHeader}
 use Rattle.rules.specs.declared.Found.{Found}
 use Rattle.rules.specs.Lists.{find, count}
 use Rattle.ledger.specs.Books.{live, ofId, placeOf}
-use Rattle.ledger.specs.parts.Places.{headerOf, withHeader, placeFor}
+use Rattle.ledger.specs.parts.Places.{headerOf, withHeader, placeFor, billAt}
 use Rattle.ledger.specs.Sound.{soundLedger}
 use Rattle.ledger.proofs.SoundLaws.{ledger-count}
 use Rattle.words.specs.Layout.{holdsLedger, ledgerOf}
@@ -31,12 +31,16 @@ use Rattle.group.specs.Groups.{verdictOn}
 use Rattle.group.specs.parts.Turns.{soughtBy, ifWritten, TurnLeaves}
 use Rattle.causes.specs.Causes.{Call, close, closeCauses, causes}
 use Rattle.causes.specs.Requests.{closes}
+use Rattle.causes.specs.declared.BillCall.{BillCall}
+use Rattle.causes.specs.declared.Decision.{Decision}
+use Rattle.causes.specs.parts.Decisions.{SoundAt, identityOf, causesBy, decidedBy}
 use Rattle.calls.specs.declared.Answer.{Answer}
 use Rattle.calls.specs.declared.Answer.the-variants.{Refused}
 use Rattle.calls.specs.declared.Called.{Called}
 use Rattle.calls.specs.Machine.{called, stepIn, causeIn}
 use Rattle.calls.specs.Days.{quietAnswer}
 use Rattle.calls.proofs.CallLaws.{Stopped, Carried, cause-sound, called-stop}
+use Rattle.calls.proofs.BillLaws.{Decided, sound-here, decided}
 use Rattle.calls.proofs.FreshCloseLaws.{close-done}
 use Rattle.engine.specs.parts.Calls.{CalledIn}
 
@@ -75,6 +79,25 @@ module _ (ws : List ℕ) (id : Identity) (h : LedgerHeader) (he : h ≡ headerOf
 
   pub slot-is : (p : ℕ) → p ≡ placeFor f (h .count) → p ≡ placeFor f (ledgerOf ws .count)
   slot-is p pe = pe ∙ ap (λ (t : LedgerHeader). placeFor f (t .count)) he
+
+-- ---- a request or a cancel, by what the search for its bill found
+module _ (ws : List ℕ) (sure : soundLedger (ledgerOf ws) ≡ true) (c : BillCall) (id : Identity) (ie : id ≡ identityOf c) (h : LedgerHeader)
+    (he : h ≡ headerOf (ledgerOf ws)) (f : Found) (fe : f ≡ find (ofId id) 0 (take (h .count) (ledgerOf ws .bills))) (p : ℕ)
+    (pe : p ≡ placeFor f (h .count)) (b : Bill) (be : b ≡ billAt (ledgerOf ws) p) where
+  long : length (ledgerOf ws .bills) ≡ 128
+  long = places-of ws (sound-holds ws sure)
+
+  finds : f ≡ placeOf (identityOf c) (live (ledgerOf ws))
+  finds = found-is ws id h he f fe ∙ ap (λ (x : Identity). placeOf x (live (ledgerOf ws))) ie
+
+  stands : p ≡ placeFor f (ledgerOf ws .count)
+  stands = slot-is ws id h he f fe p pe
+
+  pub sound-in : SoundAt f b
+  sound-in = subst (SoundAt f) (sym be) (sound-here (ledgerOf ws) long sure f p stands (identityOf c) finds)
+
+  pub decided-in : (room : ℕ) (d : Decision) → d ≡ decidedBy (first (causesBy c room h f b)) c h f b → Decided (ledgerOf ws) c room h f p b d
+  decided-in room d de = decided (ledgerOf ws) long sure f p stands room c finds h he b be d de
 
 -- ---- a close
 module _ (ws : List ℕ) (sure : soundLedger (ledgerOf ws) ≡ true) (d : Date) (h : LedgerHeader) (he : h ≡ headerOf (ledgerOf ws)) (check : Check)

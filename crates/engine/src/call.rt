@@ -8,6 +8,7 @@ ghost use Rattle.ledger.specs.Sound.{soundLedger};
 ghost use Rattle.words.specs.Layout.{holdsLedger, ledgerOf, ledgerSize};
 ghost use Rattle.causes.specs.Causes.{request, cancel, close, file};
 ghost use Rattle.causes.specs.Requests.{closes};
+ghost use Rattle.causes.specs.parts.Decisions.{callOf};
 ghost use Rattle.calls.specs.Machine.{called};
 ghost use Rattle.calls.specs.Days.{freshCalled};
 ghost use Rattle.engine.specs.InWords.{wordsLeft};
@@ -15,6 +16,7 @@ ghost use Rattle.engine.specs.parts.Calls.{CalledIn};
 ghost use Rattle.ledger.specs.Limits.{ledgerPlaces};
 use crate::file_groups;
 use calls::Answer;
+use causes::BillCall;
 use causes::Request;
 use causes::Start;
 use causes::checks;
@@ -24,29 +26,37 @@ use ledger::Identity;
 use ledger::LedgerHeader;
 use places::place;
 use rules::Check;
-use units::Cents;
 use units::Date;
+
+// A request or a cancel: its bill found, the call decided, and what that leaves stored.
+fn bill_call_in(ws: &mut [u64], out: &mut [u8], writes: bool, room: usize, c: BillCall) -> Answer
+    requires { ⌜ (soundLedger (ledgerOf (now ws)) ≡ true) × (writes ≡ true → room ≤ length (now out)) ⌝ }
+    ensures { λ a. ⌜ CalledIn writes (callOf c room) (now (ws .entry)) (now (out .entry)) (now (ws .exit)) (now (out .exit)) a ⌝ }
+{
+    let h = place::header(ws);
+    let count = h.count;
+    let f = place::find(ws, count, requests::identity_of(c));
+    let p = ledger::books::slot(f, count);
+    let b = place::bill_at(ws, p);
+    let d = requests::decide(c, room, h, f, b);
+    let check = d.check;
+    if let Check::Stop(n) = check {
+        return Answer::Refused(n);
+    }
+    let change = requests::change_of(c, b);
+    let u = d.update;
+    let k = u.bill;
+    notice::put_notice(out, writes, c, h, f, b, k);
+    place::update(ws, p, u);
+    calls::carried_out::noticed(change)
+}
 
 // The call request.
 pub fn request_in(ws: &mut [u64], out: &mut [u8], writes: bool, room: usize, r: Request) -> Answer
     requires { ⌜ (soundLedger (ledgerOf (now ws)) ≡ true) × (writes ≡ true → room ≤ length (now out)) ⌝ }
     ensures { λ a. ⌜ CalledIn writes (request r room) (now (ws .entry)) (now (out .entry)) (now (ws .exit)) (now (out .exit)) a ⌝ }
 {
-    let h = place::header(ws);
-    let count = h.count;
-    let f = place::find(ws, count, r.identity);
-    let p = ledger::books::slot(f, count);
-    let b = place::bill_at(ws, p);
-    let d = requests::request(r, room, h, f, b);
-    let check = d.check;
-    if let Check::Stop(n) = check {
-        return Answer::Refused(n);
-    }
-    let u = d.update;
-    let c = u.bill;
-    notice::put_bil(out, writes, h, f, b, c);
-    place::update(ws, p, u);
-    calls::carried_out::noticed(0)
+    bill_call_in(ws, out, writes, room, BillCall::Request(r))
 }
 
 // The call cancel.
@@ -54,22 +64,7 @@ pub fn cancel_in(ws: &mut [u64], out: &mut [u8], writes: bool, room: usize, id: 
     requires { ⌜ (soundLedger (ledgerOf (now ws)) ≡ true) × (writes ≡ true → room ≤ length (now out)) ⌝ }
     ensures { λ a. ⌜ CalledIn writes (cancel id room) (now (ws .entry)) (now (out .entry)) (now (ws .exit)) (now (out .exit)) a ⌝ }
 {
-    let h = place::header(ws);
-    let count = h.count;
-    let f = place::find(ws, count, id);
-    let p = ledger::books::slot(f, count);
-    let b = place::bill_at(ws, p);
-    let d = requests::cancel(id, room, h, f, b);
-    let check = d.check;
-    if let Check::Stop(n) = check {
-        return Answer::Refused(n);
-    }
-    let posted = b.posted;
-    let change = ledger::books::signed_change(Cents(0), posted.charge());
-    notice::put_cxl(out, writes, h, b);
-    let u = d.update;
-    place::update(ws, p, u);
-    calls::carried_out::noticed(change)
+    bill_call_in(ws, out, writes, room, BillCall::Cancel(id))
 }
 
 // The file call.

@@ -17,7 +17,7 @@ use Rattle.ledger.specs.declared.Terms.{Terms}
 use Rattle.ledger.specs.Bills.{isPrepay, isOpen, posting, cents}
 use Rattle.ledger.specs.Books.{Book, view}
 use Rattle.ledger.specs.Sound.{soundTerms, balanced, soundAmounts, soundBill}
-use Rattle.ledger.proofs.SoundLaws.{terms-facts, facts-terms, bill-terms}
+use Rattle.ledger.proofs.SoundLaws.{terms-facts, facts-terms, moved-facts, bill-terms}
 use Rattle.records.specs.Layout.{appliedIn, owedIn}
 use Rattle.file.specs.File.{Group, detailOf, asksId, line1, line2}
 use Rattle.rules.specs.declared.Check.the-variants.{Clear}
@@ -69,20 +69,8 @@ terms-posted : (b : Bill) (amounts : Posted) (sup : Bool) → soundTerms (b .ter
 terms-posted b amounts true h r =
     let f = terms-facts (b .terms) h in
     let less = r refl in
-    facts-terms _ (record {
-      account = f .account;
-      key = f .key;
-      code = f .code;
-      asked = f .asked;
-      requests = omega (arith, f .requests);
-      sequence = omega (arith, f .sequence, less);
-      from-one = f .from-one;
-      tracking = f .tracking;
-      consumption = f .consumption;
-      billing = f .billing;
-      from = f .from;
-      scheduled = f .scheduled;
-    })
+    facts-terms _
+    (moved-facts (b .terms) (b .terms) (b .terms .sequence + 1) (b .terms .requests) (b .terms .cancelled) f f (f .asked) (omega (arith, f .requests)) (omega (arith, f .sequence, less)))
 terms-posted b amounts false h r = h
 
 -- an accepted group leaves the bill that it is about sound

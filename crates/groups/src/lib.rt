@@ -6,14 +6,50 @@ ghost use Rattle.records.specs.Limits.{recordSize, fileRecords};
 ghost use Rattle.records.specs.Layout.{recordsFrom};
 ghost use Rattle.file.specs.File.{groups};
 ghost use Rattle.group.specs.parts.Turns.{Ready, FitForTurn, TurnLeavesOn, FileTaken};
+ghost use Rattle.ledger.specs.Limits.{ledgerPlaces};
+ghost use Rattle.groups.specs.parts.Standing.{StandsIn};
 use group::Tally;
+use ledger::Bill;
+use ledger::Identity;
 use ledger::Ledger;
 use ledger::LedgerHeader;
+use rules::Found;
 
 // What taking a file's groups comes to: the ledger and the counts.
 pub struct Taken {
     pub ledger: Ledger,
     pub tally: Tally,
+}
+
+// What a group or a call reads of a ledger: the ledger but for its bills, the place of its bill if it has one, the place that its bill has or gets, and what stands there.
+pub struct Standing {
+    pub header: LedgerHeader,
+    pub found: Found,
+    pub place: usize,
+    pub bill: Bill,
+}
+
+pub fn read_for(l: Ledger, id: Identity) -> Standing
+    requires { ⌜ l .count ≤ ledgerPlaces ⌝ }
+    ensures { λ s. ⌜ StandsIn l id s ⌝ }
+{
+    let today = l.today;
+    let count = l.count;
+    let header = LedgerHeader {
+        today,
+        tracking: l.next_tracking,
+        confirmation: l.next_confirmation,
+        count,
+    };
+    let found = l.find(id);
+    let place = ledger::books::slot(found, count);
+    let bill = l.bills[place];
+    Standing {
+        header,
+        found,
+        place,
+        bill,
+    }
 }
 
 // One group's turn: its bill found, the group decided and answered, and what that leaves stored.
@@ -24,21 +60,14 @@ fn turn(t: Taken, out: &mut [u8], s: &[u8], i: usize, n: usize, duplicate: bool)
 {
     let l = t.ledger;
     let c = t.tally;
-    let today = l.today;
-    let count = l.count;
-    let h = LedgerHeader {
-        today,
-        tracking: l.next_tracking,
-        confirmation: l.next_confirmation,
-        count,
-    };
-    let f = l.find(group::identity_at(s, i, n));
-    let p = ledger::books::slot(f, count);
-    let b = l.bills[p];
+    let r = read_for(l, group::identity_at(s, i, n));
+    let h = r.header;
+    let f = r.found;
+    let b = r.bill;
     let x = group::turn(out, true, c, s, i, n, duplicate, h, f, b);
     let u = x.update;
     let tally = x.tally;
-    let next = l.updated(p, u);
+    let next = l.updated(r.place, u);
     Taken {
         ledger: next,
         tally,

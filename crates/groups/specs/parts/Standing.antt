@@ -1,11 +1,11 @@
--- What a call on one bill reads of a ledger. Assumes nothing.
+-- What a group or a call on one bill reads of a ledger. Assumes nothing.
 use Prim.Native.Nat.{_<_}
 use mathlib.Core.Path.{_≡_}
 use Rattle.ledger.specs.declared.Identity.{Identity}
 use Rattle.ledger.specs.declared.Ledger.{Ledger}
 use Rattle.ledger.specs.Books.{live, placeOf}
 use Rattle.ledger.specs.parts.Places.{headerOf, billAt, placeFor}
-use Rattle.bill_calls.specs.declared.Standing.{Standing}
+use Rattle.groups.specs.declared.Standing.{Standing}
 use Rattle.ledger.specs.Limits.{ledgerPlaces}
 
 -- the ledger but for its bills, the place of the bill with this identity if it has one, the place that this bill has or gets, and what stands there

@@ -1,9 +1,9 @@
--- `decisions::requests::asked` meets its contract, by the place that was told.
+-- `decisions::requests::requested` meets its contract, by the place that was told.
 use mathlib.Core.Path.{_∙_}
 use native.Mathlib.Omega.{arith}
 use borrow.Author.Needs.{needs}
-use Rattle.decisions.proofs.requests.asked.Statement.{statement}
-use Rattle.decisions.proofs.requests.asked.Tie as tie
+use Rattle.decisions.proofs.requests.requested.Statement.{statement}
+use Rattle.decisions.proofs.requests.requested.Tie as tie
 
 enum-told : tie.Need-enum-told
 enum-told c = search needs
@@ -26,8 +26,8 @@ returns c = rw (c .before .enum-told .given .1) (c .new-bill .ensures)
 returns-2 : tie.Need-returns-2
 returns-2 c = rw (c .before .before .enum-told2 .given .1) (c .request .ensures ∙ rw (c .before .latest-of .ensures))
 
-pub asked-spec : {M : Type 1} → statement M
-asked-spec =
+pub requested-spec : {M : Type 1} → statement M
+requested-spec =
     tie.close
     (tie.spec
     enum-told
