@@ -46,7 +46,7 @@ fn bill_call(l: Ledger, out: &mut [u8], c: BillCall) -> Called
     let change = requests::change_of(c, b);
     let u = d.update;
     let k = u.bill;
-    notice::put_notice(out, true, c, h, f, b, k);
+    notice::put(out, true, c, h, f, b, k);
     let next = l.updated(s.place, u);
     let answer = carried_out::noticed(change);
     Called {

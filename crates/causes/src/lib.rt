@@ -35,14 +35,14 @@ pub struct Request {
     pub scheduled: Date,
 }
 
-// What a request or a cancel takes: each is a call on one bill.
-pub enum BillCall {
-    Request(Request),
-    Cancel(Identity),
-}
-
 // What a request or a cancel comes to: the first cause against it, and the header and the bill that it leaves.
 pub struct Decision {
     pub check: Check,
     pub update: Update,
+}
+
+// What a request or a cancel takes: each is a call on one bill.
+pub enum BillCall {
+    Request(Request),
+    Cancel(Identity),
 }

@@ -64,15 +64,7 @@ fn put_cxl(out: &mut [u8], h: LedgerHeader, b: Bill)
 }
 
 // The notice of a request or a cancel: b stood at its place, and k does now.
-pub fn put_notice(
-    out: &mut [u8],
-    writes: bool,
-    c: BillCall,
-    h: LedgerHeader,
-    f: Found,
-    b: Bill,
-    k: Bill,
-)
+pub fn put(out: &mut [u8], writes: bool, c: BillCall, h: LedgerHeader, f: Found, b: Bill, k: Bill)
     requires { ⌜ (writes ≡ true → noticeSize ≤ length (now out)) ⌝ }
     ensures { λ _. ⌜ now (out .exit) ≡ put (now (out .entry)) 0 (ifWritten writes (noticeBy c h f b k)) ⌝ }
 {

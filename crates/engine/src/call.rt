@@ -46,7 +46,7 @@ fn bill_call_in(ws: &mut [u64], out: &mut [u8], writes: bool, room: usize, c: Bi
     let change = requests::change_of(c, b);
     let u = d.update;
     let k = u.bill;
-    notice::put_notice(out, writes, c, h, f, b, k);
+    notice::put(out, writes, c, h, f, b, k);
     place::update(ws, p, u);
     calls::carried_out::noticed(change)
 }

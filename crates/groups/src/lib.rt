@@ -15,12 +15,6 @@ use ledger::Ledger;
 use ledger::LedgerHeader;
 use rules::Found;
 
-// What taking a file's groups comes to: the ledger and the counts.
-pub struct Taken {
-    pub ledger: Ledger,
-    pub tally: Tally,
-}
-
 // What a group or a call reads of a ledger: the ledger but for its bills, the place of its bill if it has one, the place that its bill has or gets, and what stands there.
 pub struct Standing {
     pub header: LedgerHeader,
@@ -50,6 +44,12 @@ pub fn read_for(l: Ledger, id: Identity) -> Standing
         place,
         bill,
     }
+}
+
+// What taking a file's groups comes to: the ledger and the counts.
+pub struct Taken {
+    pub ledger: Ledger,
+    pub tally: Tally,
 }
 
 // One group's turn: its bill found, the group decided and answered, and what that leaves stored.

@@ -82,8 +82,8 @@ enum-told c = search needs
 change-of-requires : tie.Need-change-of-requires
 change-of-requires c κs = known (c .before .before) .fits (c .enum-told .given .1)
 
-put-notice-requires : tie.Need-put-notice-requires
-put-notice-requires c κs =
+put-requires : tie.Need-put-requires
+put-requires c κs =
     let at-told = c .before .before .before .before in
     λ z. known (at-told .before .before) .wide (at-told .enum-told .given .1)
 
@@ -103,7 +103,7 @@ returns-3 c =
     let change = at-change .change-of in
     let at-told = at-change .before in
     rw (c .noticed .ensures, c .before .updated .ensures, toZ-ofZ w64 (change .result) (sfits-of (change .ok)), change .ensures)
-    (carried-called (known (at-told .before .before) .done (at-told .enum-told .given .1)) _ _ (at-notice .put-notice .ensures))
+    (carried-called (known (at-told .before .before) .done (at-told .enum-told .given .1)) _ _ (at-notice .put .ensures))
 
 pub bill-call-spec : {M : Type 1} → statement M
 bill-call-spec =
@@ -120,7 +120,7 @@ bill-call-spec =
     returns-2
     enum-told
     change-of-requires
-    put-notice-requires
+    put-requires
     updated-requires
     noticed-requires
     same-length

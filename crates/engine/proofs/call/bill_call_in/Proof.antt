@@ -76,8 +76,8 @@ enum-told c = search needs
 change-of-requires : tie.Need-change-of-requires
 change-of-requires c κs = known (c .before .before) .fits (c .enum-told .given .1)
 
-put-notice-requires : tie.Need-put-notice-requires
-put-notice-requires c κs =
+put-requires : tie.Need-put-requires
+put-requires c κs =
     let at-told = c .before .before .before .before in
     let d = at-told .before .before in
     λ z. omega (arith, start d .pre .1 z, known d .wide (at-told .enum-told .given .1))
@@ -107,7 +107,7 @@ returns-2 c =
     let d = at-told .before .before in
     rw (c .noticed .ensures, toZ-ofZ w64 (change .result) (sfits-of (change .ok)), change .ensures)
     (carried-in (start d .args .writes) _ _ _ (sound-holds _ (start d .pre .0)) _ _ _ (known d .done (at-told .enum-told .given .1)) _ _
-    (at-update .update .ensures .0) (at-update .update .ensures .1) (at-notice .put-notice .ensures))
+    (at-update .update .ensures .0) (at-update .update .ensures .1) (at-notice .put .ensures))
 
 pub bill-call-in-spec : {M : Type 1} → statement M
 bill-call-in-spec =
@@ -124,7 +124,7 @@ bill-call-in-spec =
     returns
     enum-told
     change-of-requires
-    put-notice-requires
+    put-requires
     update-requires
     noticed-requires
     same-length-2

@@ -1,9 +1,9 @@
--- `decisions::notice::put_notice` meets its contract.
+-- `decisions::notice::put` meets its contract.
 use borrow.Author.Tests.{not-true, not-false}
 use Rattle.fields.proofs.PutLaws.{put-nil}
 use borrow.Author.Needs.{needs}
-use Rattle.decisions.proofs.notice.put_notice.Statement.{statement}
-use Rattle.decisions.proofs.notice.put_notice.Tie as tie
+use Rattle.decisions.proofs.notice.put.Statement.{statement}
+use Rattle.decisions.proofs.notice.put.Tie as tie
 
 returns : tie.Need-returns
 returns c = rw (not-true (c .before .before .args .writes) (c .if1 .taken)) (put-nil _ _)
@@ -38,8 +38,8 @@ returns-3 c =
     let start = at-told .before .before .before .before in
     rw (not-false (start .args .writes) (at-told .before .before .if1 .left), at-told .enum-told2 .given .1) (c .before .before .put-cxl .ensures)
 
-pub put-notice-spec : {M : Type 1} → statement M
-put-notice-spec =
+pub put-spec : {M : Type 1} → statement M
+put-spec =
     tie.close
     (tie.spec
     returns
