@@ -5,6 +5,7 @@ pub mod LentLedger
 pub mod LentSteps
 pub mod CoreCalls
 pub mod DayCalls
+pub mod OutCalls
 pub mod BillCalls
 pub mod FileCalls
 pub mod LookupCalls
