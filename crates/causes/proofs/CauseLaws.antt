@@ -1,14 +1,17 @@
 -- What it tells that no cause holds against a call. Assumes nothing.
 use Prim.Native.Nat.{ℕ, _+_, _≤_, _<_}
 use mathlib.Core.Path.{_≡_, refl}
-use mathlib.Core.Bool.{true, false}
-use mathlib.Core.List.{List}
-use lib.Dec.{ltb}
+use mathlib.Core.Bool.{true, false, not, _&&_}
+use mathlib.Core.List.{List, [], _∷_}
+use lib.Dec.{eqb, ltb}
 use lib.ListN.{length}
 use borrow.Author.Tests.{leb-false, ltb-false, eqb-false, not-false}
+use Rattle.fields.specs.Put.{sameList}
 use Rattle.fields.proofs.BoolLaws.{or-both}
 use Rattle.units.specs.declared.Date.{Date}
 use Rattle.units.specs.Calendar.{isDate}
+use Rattle.ledger.specs.Limits.{lastSequence}
+use Rattle.ledger.specs.Bills.{codeBytes, productByte}
 use Rattle.ledger.specs.declared.Identity.{Identity}
 use Rattle.ledger.specs.declared.Terms.{Terms}
 use Rattle.ledger.specs.declared.Bill as bill
@@ -21,11 +24,11 @@ use Rattle.file.specs.File.{goodFile, fileGroups, asksId}
 use Rattle.verdict.specs.declared.Sought.{Sought}
 use Rattle.verdict.specs.declared.Sought.the-variants.{Bill, Nothing}
 use Rattle.rules.specs.declared.Check.the-variants.{Clear}
-use Rattle.rules.specs.Rules.{first}
+use Rattle.rules.specs.Rules.{Rule, rule, first}
 use Rattle.verdict.specs.Lines.{isNothing, termsOf}
 use Rattle.group.proofs.AcceptedLaws.{clear-off}
 use Rattle.causes.specs.declared.Request.{Request}
-use Rattle.causes.specs.Causes.{goodIdentity, requestTests, lacks, billCauses, requestCauses, fileCauses, cancelCauses, closeCauses}
+use Rattle.causes.specs.Causes.{goodIdentity, fiveOf, requestTests, lacks, billCauses, requestCauses, fileCauses, cancelCauses, closeCauses}
 
 -- the numbers that a call needs are left
 pub enough : (tracking confirmation t c : ℕ) → lacks tracking confirmation t c ≡ false
@@ -35,6 +38,16 @@ enough tracking confirmation t c e =
     (ltb-false _ _ (o .0), ltb-false _ _ (o .1))
 
 -- ---- a request
+-- of a known bill's causes, those after 6: they are left where 5 and 6 do not hold
+abbrev pub after-6 : Request → Terms → List Rule
+after-6 r t = rule (eqb (r .consumption .0) (t .latest .consumption .0)) 7 ∷ rule (eqb (t .sequence) lastSequence) 8 ∷ []
+
+pub known-past-6 : (r : Request) (held : ℕ) (b : Sought) (t : Terms) → b ≡ Bill t → t .cancelled ≡ false
+    → not (sameList (fiveOf (r .code)) (codeBytes (t .code)) && eqb (r .product) (productByte (t .product))) ≡ false
+    → first (billCauses r held b) ≡ first (after-6 r t)
+unfolding billCauses
+known-past-6 r held b t e d f = rw (e, d, f)
+
 pub record Asks (r : Request) (room : ℕ) (today : Date) (tracking confirmation held : ℕ) (b : Sought) : Type 0 where
   pub good : all (requestTests r) ≡ true
   pub wide : 642 ≤ room

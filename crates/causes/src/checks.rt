@@ -15,6 +15,7 @@ use crate::Request;
 use crate::Start;
 use ledger::Bill;
 use ledger::Identity;
+use ledger::LedgerHeader;
 use ledger::RateCode;
 use rules::Check;
 use units::Date;
@@ -120,17 +121,9 @@ fn bill_check(r: Request, held: usize, b: Sought) -> Check
 }
 
 // The first cause against a request of a sound ledger.
-pub fn request_check(
-    r: Request,
-    room: usize,
-    today: Date,
-    tracking: u64,
-    confirmation: u64,
-    held: usize,
-    b: Sought,
-) -> Check
-    requires { ⌜ (tracking ≤ usedUp) × (confirmation ≤ usedUp) ⌝ }
-    ensures { λ a. ⌜ a ≡ first (requestCauses r room today tracking confirmation held b) ⌝ }
+pub fn request_check(r: Request, room: usize, h: LedgerHeader, b: Sought) -> Check
+    requires { ⌜ (h .tracking ≤ usedUp) × (h .confirmation ≤ usedUp) ⌝ }
+    ensures { λ a. ⌜ a ≡ first (requestCauses r room (h .today) (h .tracking) (h .confirmation) (h .count) b) ⌝ }
 {
     if !good_request(r) {
         return Check::Stop(2);
@@ -139,14 +132,15 @@ pub fn request_check(
         return Check::Stop(1);
     }
     let scheduled = r.scheduled;
+    let today = h.today;
     if scheduled.before(today) {
         return Check::Stop(9);
     }
-    let check = bill_check(r, held, b);
+    let check = bill_check(r, h.count, b);
     if let Check::Stop(n) = check {
         return Check::Stop(n);
     }
-    if lacks(tracking, confirmation, 1, 1) {
+    if lacks(h.tracking, h.confirmation, 1, 1) {
         return Check::Stop(12);
     }
     Check::Clear

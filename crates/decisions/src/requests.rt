@@ -109,17 +109,8 @@ fn first_cause(c: BillCall, room: usize, h: LedgerHeader, f: Found, b: Bill) -> 
     ensures { λ a. ⌜ a ≡ first (causesBy c room h f b) ⌝ }
 {
     let sought = group::sought_by(f, b);
-    let today = h.today;
     match c {
-        BillCall::Request(r) => checks::request_check(
-            r,
-            room,
-            today,
-            h.tracking,
-            h.confirmation,
-            h.count,
-            sought,
-        ),
+        BillCall::Request(r) => checks::request_check(r, room, h, sought),
         BillCall::Cancel(id) => {
             checks::cancel_check(id, room, h.tracking, h.confirmation, sought)
         }

@@ -1,8 +1,10 @@
 -- `causes::checks::bill_check` meets its contract, cause by cause.
 use borrow.Author.Needs.{needs}
-use mathlib.Core.Path.{sym, _∙_}
+use mathlib.Core.Path.{_≡_, sym, _∙_}
 use borrow.Author.Tests.{le-leb, lt-leb, eq-eqb, ne-eqb}
+use Rattle.rules.specs.Rules.{first}
 use Rattle.causes.specs.Causes.{billCauses}
+use Rattle.causes.proofs.CauseLaws.{after-6, known-past-6}
 use Rattle.causes.proofs.checks.bill_check.Statement.{statement}
 use Rattle.causes.proofs.checks.bill_check.Tie as tie
 
@@ -37,28 +39,21 @@ returns-4 c = rw (c .before .before .before .before .before .before .before .b .
 same-requires : tie.Need-same-requires
 same-requires c κs = search needs
 
+-- past cause 6 what is left is 7 and 8
+abbrev start : tie.Else3 → tie.Start
+start c = c .before .before .before .before .before .before .before .before .before
+
+past-6 : (c : tie.Else3) → first (billCauses (start c .args .r) (start c .args .held) (start c .args .b)) ≡ first (after-6 (start c .args .r) (c .before .before .before .before .before .before .before .b .given .0 .0))
+past-6 c = known-past-6 _ _ _ _ (c .before .before .before .before .before .before .before .b .given .1) (c .before .before .before .before .before .if2 .left) (rw (c .before .before .before .same-code .ensures, c .before .before .byte .ensures) at (c .if3 .left))
+
 returns-5 : tie.Need-returns-5
-unfolding billCauses
-returns-5 c =
-    let at-if2 = c .before .before .before .before .before .before .before .before in
-    let at-b = at-if2 .before .before in
-    rw (at-b .b .given .1, at-if2 .if2 .left, rw (c .before .before .before .before .before .before .same-code .ensures, c .before .before .before .before .before .byte .ensures) at (c .before .before .before .if3 .left), sym (c .before .same .ensures) ∙ c .if4 .taken)
+returns-5 c = rw (past-6 (c .before .before .before), sym (c .before .same .ensures) ∙ c .if4 .taken)
 
 returns-6 : tie.Need-returns-6
-unfolding billCauses
-returns-6 c =
-    let at-same-code = c .before .before .before .before .before .before .before .before in
-    let at-if2 = at-same-code .before .before in
-    let at-b = at-if2 .before .before in
-    rw (at-b .b .given .1, at-if2 .if2 .left, rw (at-same-code .same-code .ensures, c .before .before .before .before .before .before .before .byte .ensures) at (c .before .before .before .before .before .if3 .left), sym (c .before .before .before .same .ensures) ∙ c .before .before .if4 .left, eq-eqb _ _ (c .if5 .taken))
+returns-6 c = rw (past-6 (c .before .before .before .before .before), sym (c .before .before .before .same .ensures) ∙ c .before .before .if4 .left, eq-eqb _ _ (c .if5 .taken))
 
 returns-7 : tie.Need-returns-7
-unfolding billCauses
-returns-7 c =
-    let at-same-code = c .before .before .before .before .before .before .before .before in
-    let at-if2 = at-same-code .before .before in
-    let at-b = at-if2 .before .before in
-    rw (at-b .b .given .1, at-if2 .if2 .left, rw (at-same-code .same-code .ensures, c .before .before .before .before .before .before .before .byte .ensures) at (c .before .before .before .before .before .if3 .left), sym (c .before .before .before .same .ensures) ∙ c .before .before .if4 .left, ne-eqb _ _ (c .if5 .left))
+returns-7 c = rw (past-6 (c .before .before .before .before .before), sym (c .before .before .before .same .ensures) ∙ c .before .before .if4 .left, ne-eqb _ _ (c .if5 .left))
 
 pub bill-check-spec : {M : Type 1} → statement M
 bill-check-spec =

@@ -1,9 +1,11 @@
 -- `causes::checks::request_check` meets its contract, cause by cause.
 use borrow.Author.Needs.{needs}
-use mathlib.Core.Path.{sym, _∙_}
+use mathlib.Core.Path.{_≡_, sym, _∙_}
+use mathlib.Core.List.{List, [], _∷_, _++_}
 use borrow.Author.Tests.{not-true, not-false, lt-ltb, le-ltb}
 use Rattle.verdict.proofs.RuleLaws.{first-stop, first-clear}
-use Rattle.causes.specs.Causes.{requestCauses}
+use Rattle.rules.specs.Rules.{Rule, rule, first}
+use Rattle.causes.specs.Causes.{lacks, billCauses, requestCauses}
 use Rattle.causes.proofs.checks.request_check.Statement.{statement}
 use Rattle.causes.proofs.checks.request_check.Tie as tie
 
@@ -23,7 +25,18 @@ before-requires c κs = search needs
 
 returns-3 : tie.Need-returns-3
 unfolding requestCauses
-returns-3 c = rw (sym (c .before .before .before .before .before .good-request .ensures) ∙ not-false _ (c .before .before .before .before .if1 .left), le-ltb _ _ (c .before .before .before .if2 .left), sym (c .before .before2 .ensures) ∙ c .if3 .taken)
+returns-3 c = rw (sym (c .before .before .before .before .before .before .good-request .ensures) ∙ not-false _ (c .before .before .before .before .before .if1 .left), le-ltb _ _ (c .before .before .before .before .if2 .left), sym (c .before .before2 .ensures) ∙ c .if3 .taken)
+
+-- past cause 9 what is left is the bill's causes, and 12
+abbrev asked : tie.Start → List Rule
+asked s = let h = s .args .h in requestCauses (s .args .r) (s .args .room) (h .today) (h .tracking) (h .confirmation) (h .count) (s .args .b)
+
+abbrev after-9 : tie.Start → List Rule
+after-9 s = let h = s .args .h in billCauses (s .args .r) (h .count) (s .args .b) ++ (rule (lacks (h .tracking) (h .confirmation) 1 1) 12 ∷ [])
+
+past-9 : (c : tie.Else3) → first (asked (c .before .before .before .before .before .before .before)) ≡ first (after-9 (c .before .before .before .before .before .before .before))
+unfolding requestCauses
+past-9 c = rw (sym (c .before .before .before .before .before .before .good-request .ensures) ∙ not-false _ (c .before .before .before .before .before .if1 .left), le-ltb _ _ (c .before .before .before .before .if2 .left), sym (c .before .before2 .ensures) ∙ c .if3 .left)
 
 bill-check-requires : tie.Need-bill-check-requires
 bill-check-requires c κs = search needs
@@ -32,11 +45,7 @@ enum-known-check : tie.Need-enum-known-check
 enum-known-check c = search needs
 
 returns-4 : tie.Need-returns-4
-unfolding requestCauses
-returns-4 c =
-    let at-if1 = c .before .before .before .before .before .before .before .before in
-    let at-good-request = at-if1 .before in
-    rw (sym (at-good-request .good-request .ensures) ∙ not-false _ (at-if1 .if1 .left), le-ltb _ _ (c .before .before .before .before .before .before .before .if2 .left), sym (c .before .before .before .before .before .before2 .ensures) ∙ c .before .before .before .before .if3 .left, first-stop _ _ (sym (c .before .before .before .bill-check .ensures) ∙ c .before .check .given .1))
+returns-4 c = rw (past-9 (c .before .before .before .before), first-stop _ _ (sym (c .before .before .before .bill-check .ensures) ∙ c .before .check .given .1))
 
 enum-told : tie.Need-enum-told
 enum-told c = search needs
@@ -45,20 +54,10 @@ lacks-requires : tie.Need-lacks-requires
 lacks-requires c κs = search needs
 
 returns-5 : tie.Need-returns-5
-unfolding requestCauses
-returns-5 c =
-    let at-if2 = c .before .before .before .before .before .before .before .before in
-    let at-if1 = at-if2 .before in
-    let at-good-request = at-if1 .before in
-    rw (sym (at-good-request .good-request .ensures) ∙ not-false _ (at-if1 .if1 .left), le-ltb _ _ (at-if2 .if2 .left), sym (c .before .before .before .before .before .before .before2 .ensures) ∙ c .before .before .before .before .before .if3 .left, first-clear _ _ (sym (c .before .before .before .before .bill-check .ensures) ∙ c .before .before .enum-told .given .1), sym (c .before .lacks .ensures) ∙ c .if4 .taken)
+returns-5 c = rw (past-9 (c .before .before .before .before .before), first-clear _ _ (sym (c .before .before .before .before .bill-check .ensures) ∙ c .before .before .enum-told .given .1), sym (c .before .lacks .ensures) ∙ c .if4 .taken)
 
 returns-6 : tie.Need-returns-6
-unfolding requestCauses
-returns-6 c =
-    let at-if2 = c .before .before .before .before .before .before .before .before in
-    let at-if1 = at-if2 .before in
-    let at-good-request = at-if1 .before in
-    rw (sym (at-good-request .good-request .ensures) ∙ not-false _ (at-if1 .if1 .left), le-ltb _ _ (at-if2 .if2 .left), sym (c .before .before .before .before .before .before .before2 .ensures) ∙ c .before .before .before .before .before .if3 .left, first-clear _ _ (sym (c .before .before .before .before .bill-check .ensures) ∙ c .before .before .enum-told .given .1), sym (c .before .lacks .ensures) ∙ c .if4 .left)
+returns-6 c = rw (past-9 (c .before .before .before .before .before), first-clear _ _ (sym (c .before .before .before .before .bill-check .ensures) ∙ c .before .before .enum-told .given .1), sym (c .before .lacks .ensures) ∙ c .if4 .left)
 
 pub request-check-spec : {M : Type 1} → statement M
 request-check-spec =

@@ -19,10 +19,10 @@ cancel-check-requires : tie.Need-cancel-check-requires
 cancel-check-requires c κs = search needs
 
 returns : tie.Need-returns
-returns c = rw (c .before .before .c .given .1, ← c .before .before .before .before .before .sought-by .ensures) (c .request-check .ensures)
+returns c = rw (c .before .before .c .given .1, ← c .before .before .before .before .sought-by .ensures) (c .request-check .ensures)
 
 returns-2 : tie.Need-returns-2
-returns-2 c = rw (c .before .before .c2 .given .1, ← c .before .before .before .before .before .sought-by .ensures) (c .cancel-check .ensures)
+returns-2 c = rw (c .before .before .c2 .given .1, ← c .before .before .before .before .sought-by .ensures) (c .cancel-check .ensures)
 
 pub first-cause-spec : {M : Type 1} → statement M
 first-cause-spec =
