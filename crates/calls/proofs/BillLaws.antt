@@ -177,17 +177,17 @@ module _ (l : Ledger) (long : length (l .bills) ≡ 128) (sure : soundLedger l �
 
     -- a request
     module _ (r : Request) (fe : f ≡ placeOf (r .identity) (live l)) (e : first (causesBy (billCall.Request r) room (headerOf l) f (billAt l p)) ≡ Clear) where
-      abbrev asked : Asks r room (l .today) (l .«next_tracking») (l .«next_confirmation») (l .count) (soughtBy f (billAt l p))
-      asked = asks r room (l .today) (l .«next_tracking») (l .«next_confirmation») (l .count) (soughtBy f (billAt l p)) e
+      abbrev request-facts : Asks r room (l .today) (l .«next_tracking») (l .«next_confirmation») (l .count) (soughtBy f (billAt l p))
+      request-facts = asks r room (l .today) (l .«next_tracking») (l .«next_confirmation») (l .count) (soughtBy f (billAt l p)) e
 
       requests : Placed l (r .identity) → Carries (billCall.Request r)
       unfolding next nextWritten
       requests (new x b c y) =
           let z : f ≡ Nothing = fe ∙ x in
-          let m : l .count < 128 = asked .new (rw z) in
+          let m : l .count < 128 = request-facts .new (rw z) in
           let k : p ≡ l .count = pe ∙ rw (z, lt-ltb (l .count) 128 m) in
           record {
-            wide = asked .wide;
+            wide = request-facts .wide;
             fits = tt;
             left = rw (z, k, b) (stored-new l (newBill r (l .«next_tracking»)) (omega arith));
             answer = request-answer (book l) r room;
@@ -196,7 +196,7 @@ module _ (l : Ledger) (long : length (l .bills) ≡ 128) (sure : soundLedger l �
       requests (old i m x b c y u) =
           let k = known-at (r .identity) fe i m x in
           record {
-            wide = asked .wide;
+            wide = request-facts .wide;
             fits = tt;
             left =
                 rw (fe ∙ x, k, b, u (renewed (latestOf r (l .«next_tracking»))))
@@ -207,18 +207,18 @@ module _ (l : Ledger) (long : length (l .bills) ≡ 128) (sure : soundLedger l �
 
     -- a cancel: its bill is known, and what it takes away can be told with a sign
     module _ (id : Identity) (fe : f ≡ placeOf id (live l)) (e : first (causesBy (billCall.Cancel id) room (headerOf l) f (billAt l p)) ≡ Clear) where
-      abbrev asked-c : Cancels id room (l .«next_tracking») (l .«next_confirmation») (soughtBy f (billAt l p))
-      asked-c = cancels id room (l .«next_tracking») (l .«next_confirmation») (soughtBy f (billAt l p)) e
+      abbrev cancel-facts : Cancels id room (l .«next_tracking») (l .«next_confirmation») (soughtBy f (billAt l p))
+      cancel-facts = cancels id room (l .«next_tracking») (l .«next_confirmation») (soughtBy f (billAt l p)) e
 
       cancelled : Placed l id → Carries (billCall.Cancel id)
       unfolding next nextWritten
-      cancelled (new x y z w) = absurd (true≢false (subst (λ (i : Found). isNothing (soughtBy i (billAt l p)) ≡ false) (fe ∙ x) (asked-c .known)))
+      cancelled (new x y z w) = absurd (true≢false (subst (λ (i : Found). isNothing (soughtBy i (billAt l p)) ≡ false) (fe ∙ x) (cancel-facts .known)))
       cancelled (old i m x y z w u) =
           let k = known-at id fe i m x in
           let small : billCharge (billAt l i) < 10 ^ 13 = ltb-true _ _ (bill-small (billAt l i) (sound-at l long sure i m)) in
           let same : billAt l p ≡ billOf id (live l) = ap (billAt l) k ∙ sym z in
           record {
-            wide = asked-c .wide;
+            wide = cancel-facts .wide;
             fits = rw k (omega arith);
             left = rw (k, u cancelledBill) (stored-old l i (cancelledBill (billAt l i)) m (within l long sure));
             answer = ap (λ (b : Bill). noticed (pos 0 -ℤ pos (billCharge b))) same ∙ cancel-answer (book l) id room;

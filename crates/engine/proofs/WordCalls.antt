@@ -77,8 +77,8 @@ module _ (ws : List ℕ) (id : Identity) (h : LedgerHeader) (he : h ≡ headerOf
   pub found-is : f ≡ placeOf id (live (ledgerOf ws))
   found-is = fe ∙ ap (λ (t : LedgerHeader). find (ofId id) 0 (take (t .count) (ledgerOf ws .bills))) he
 
-  pub slot-is : (p : ℕ) → p ≡ placeFor f (h .count) → p ≡ placeFor f (ledgerOf ws .count)
-  slot-is p pe = pe ∙ ap (λ (t : LedgerHeader). placeFor f (t .count)) he
+  pub place-is : (p : ℕ) → p ≡ placeFor f (h .count) → p ≡ placeFor f (ledgerOf ws .count)
+  place-is p pe = pe ∙ ap (λ (t : LedgerHeader). placeFor f (t .count)) he
 
 -- ---- a request or a cancel, by what the search for its bill found
 module _ (ws : List ℕ) (sure : soundLedger (ledgerOf ws) ≡ true) (c : BillCall) (id : Identity) (ie : id ≡ identityOf c) (h : LedgerHeader)
@@ -91,7 +91,7 @@ module _ (ws : List ℕ) (sure : soundLedger (ledgerOf ws) ≡ true) (c : BillCa
   finds = found-is ws id h he f fe ∙ ap (λ (x : Identity). placeOf x (live (ledgerOf ws))) ie
 
   stands : p ≡ placeFor f (ledgerOf ws .count)
-  stands = slot-is ws id h he f fe p pe
+  stands = place-is ws id h he f fe p pe
 
   pub sound-in : SoundAt f b
   sound-in = subst (SoundAt f) (sym be) (sound-here (ledgerOf ws) long sure f p stands (identityOf c) finds)

@@ -36,7 +36,7 @@ fn bill_call_in(ws: &mut [u64], out: &mut [u8], writes: bool, room: usize, c: Bi
     let h = place::header(ws);
     let count = h.count;
     let f = place::find(ws, count, requests::identity_of(c));
-    let p = ledger::books::slot(f, count);
+    let p = ledger::books::bill_place(f, count);
     let b = place::bill_at(ws, p);
     let d = requests::decide(c, room, h, f, b);
     let check = d.check;

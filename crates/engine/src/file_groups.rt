@@ -29,7 +29,7 @@ fn turn(
     let h = place::header(ws);
     let count = h.count;
     let f = place::find(ws, count, group::identity_at(s, i, n));
-    let p = ledger::books::slot(f, count);
+    let p = ledger::books::bill_place(f, count);
     let b = place::bill_at(ws, p);
     let x = group::turn(out, writes, c, s, i, n, duplicate, h, f, b);
     let u = x.update;

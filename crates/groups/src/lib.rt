@@ -36,7 +36,7 @@ pub fn read_for(l: Ledger, id: Identity) -> Standing
         count,
     };
     let found = l.find(id);
-    let place = ledger::books::slot(found, count);
+    let place = ledger::books::bill_place(found, count);
     let bill = l.bills[place];
     Standing {
         header,

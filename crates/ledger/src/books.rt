@@ -83,7 +83,7 @@ fn within(i: usize) -> usize
 }
 
 // A place of the array: the one that was found, else the next free one, else the last.
-pub fn slot(f: Found, count: usize) -> usize
+pub fn bill_place(f: Found, count: usize) -> usize
     ensures { λ r. ⌜ (r ≡ placeFor f count) × (r < ledgerPlaces) ⌝ }
 {
     match f {

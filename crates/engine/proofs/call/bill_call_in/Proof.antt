@@ -23,41 +23,41 @@ find-requires c κs =
     let sure = at-header .before .before .before .before .pre .0 in
     (sound-holds _ sure, rw (at-header .header .ensures) (sound-ready _ sure .count))
 
-slot-requires : tie.Need-slot-requires
-slot-requires c κs = search needs
+bill-place-requires : tie.Need-bill-place-requires
+bill-place-requires c κs = search needs
 
 bill-at-requires : tie.Need-bill-at-requires
 bill-at-requires c κs =
     let start = c .before .before .before .before .before .before .before .before .before in
-    (sound-holds _ (start .pre .0), c .before .slot .ensures .1)
+    (sound-holds _ (start .pre .0), c .before .bill-place .ensures .1)
 
 decide-requires : tie.Need-decide-requires
 decide-requires c κs =
-    let at-slot = c .before .before in
-    let at-find = at-slot .before in
+    let at-place = c .before .before in
+    let at-find = at-place .before in
     let at-header = at-find .before .before .before in
     let start = at-header .before .before .before .before in
     let q = sound-ready _ (start .pre .0) in
     let he = at-header .header .ensures in
-    ((rw he (q .tracking), rw he (q .confirmation), rw he (q .count)), sound-in (start .args .ws .now) (start .pre .0) (start .args .c) _ (at-find .before .identity-of .ensures) _ he _ (at-find .find .ensures) _ (at-slot .slot .ensures .0) _ (c .bill-at .ensures))
+    ((rw he (q .tracking), rw he (q .confirmation), rw he (q .count)), sound-in (start .args .ws .now) (start .pre .0) (start .args .c) _ (at-find .before .identity-of .ensures) _ he _ (at-find .find .ensures) _ (at-place .bill-place .ensures .0) _ (c .bill-at .ensures))
 
 -- what is known once the call is decided
-abbrev at-slot : tie.After-decide → tie.After-slot
-at-slot c = c .before .before .before
+abbrev at-place : tie.After-decide → tie.After-bill-place
+at-place c = c .before .before .before
 
 abbrev at-header : tie.After-decide → tie.After-header
-at-header c = at-slot c .before .before .before .before
+at-header c = at-place c .before .before .before .before
 
 abbrev start : tie.After-decide → tie.Start
 start c = at-header c .before .before .before .before
 
 known : (c : tie.After-decide)
-    → Decided (ledgerOf (start c .args .ws .now)) (start c .args .c) (start c .args .room) (at-header c .header .result) (at-slot c .before .find .result)
-    (at-slot c .slot .result) (c .before .bill-at .result) (c .decide .result)
+    → Decided (ledgerOf (start c .args .ws .now)) (start c .args .c) (start c .args .room) (at-header c .header .result) (at-place c .before .find .result)
+    (at-place c .bill-place .result) (c .before .bill-at .result) (c .decide .result)
 known c =
-    let at-find = at-slot c .before in
+    let at-find = at-place c .before in
     decided-in (start c .args .ws .now) (start c .pre .0) (start c .args .c) _ (at-find .before .identity-of .ensures) _ (at-header c .header .ensures) _
-    (at-find .find .ensures) _ (at-slot c .slot .ensures .0) _ (c .before .bill-at .ensures) (start c .args .room) _ (c .decide .ensures)
+    (at-find .find .ensures) _ (at-place c .bill-place .ensures .0) _ (c .before .bill-at .ensures) (start c .args .room) _ (c .decide .ensures)
 
 enum-known-check : tie.Need-enum-known-check
 enum-known-check c = search needs
@@ -86,7 +86,7 @@ update-requires : tie.Need-update-requires
 update-requires c κs =
     let at-change = c .before .before .before .before .before .before .before in
     let d = at-change .before .before .before in
-    (sound-holds _ (start d .pre .0), at-slot d .slot .ensures .1)
+    (sound-holds _ (start d .pre .0), at-place d .bill-place .ensures .1)
 
 noticed-requires : tie.Need-noticed-requires
 noticed-requires c κs = search needs
@@ -116,7 +116,7 @@ bill-call-in-spec =
     header-requires
     identity-of-requires
     find-requires
-    slot-requires
+    bill-place-requires
     bill-at-requires
     decide-requires
     enum-known-check

@@ -5,7 +5,7 @@ use Rattle.ledger.specs.parts.Places.{headerOf}
 use Rattle.words.specs.Layout.{ledgerOf}
 use Rattle.file.specs.parts.Walk.{groupAt}
 use Rattle.group.proofs.GroupWalk.{turn-calm, turn-on}
-use Rattle.engine.proofs.WordCalls.{found-is, slot-is, turned-here}
+use Rattle.engine.proofs.WordCalls.{found-is, place-is, turned-here}
 use borrow.Author.Needs.{needs}
 use Rattle.engine.proofs.file_groups.turn.Statement.{statement}
 use Rattle.engine.proofs.file_groups.turn.Tie as tie
@@ -19,8 +19,8 @@ identity-at-requires c κs = search needs
 find-requires : tie.Need-find-requires
 find-requires c κs = (c .before .before .before .before .before .before .before .pre .1 .0, rw (c .before .before .header .ensures) (c .before .before .before .before .before .before .before .pre .1 .1 .count))
 
-slot-requires : tie.Need-slot-requires
-slot-requires c κs = search needs
+bill-place-requires : tie.Need-bill-place-requires
+bill-place-requires c κs = search needs
 
 bill-at-requires : tie.Need-bill-at-requires
 bill-at-requires c κs = search needs
@@ -28,13 +28,13 @@ bill-at-requires c κs = search needs
 turn-requires : tie.Need-turn-requires
 turn-requires c κs =
     let start = c .before .before .before .before .before .before .before .before .before .before .before .before in
-    (start .pre .0, (turn-calm (ledgerOf (start .args .ws .now)) (start .args .c) (start .pre .1 .1) (start .args .s .now) (start .args .i) (start .args .n) _ (c .before .before .before .before .before .identity-at .ensures) _ (found-is (start .args .ws .now) _ _ (c .before .before .before .before .before .before .before .header .ensures) _ (c .before .before .before .before .find .ensures)) _ (slot-is (start .args .ws .now) _ _ (c .before .before .before .before .before .before .before .header .ensures) _ (c .before .before .before .before .find .ensures) _ (c .before .before .before .slot .ensures .0)) _ (c .before .bill-at .ensures), start .pre .1 .1 .few, rw (c .before .before .before .before .before .before .before .header .ensures) (start .pre .1 .1 .tracking), rw (c .before .before .before .before .before .before .before .header .ensures) (start .pre .1 .1 .confirmation)))
+    (start .pre .0, (turn-calm (ledgerOf (start .args .ws .now)) (start .args .c) (start .pre .1 .1) (start .args .s .now) (start .args .i) (start .args .n) _ (c .before .before .before .before .before .identity-at .ensures) _ (found-is (start .args .ws .now) _ _ (c .before .before .before .before .before .before .before .header .ensures) _ (c .before .before .before .before .find .ensures)) _ (place-is (start .args .ws .now) _ _ (c .before .before .before .before .before .before .before .header .ensures) _ (c .before .before .before .before .find .ensures) _ (c .before .before .before .bill-place .ensures .0)) _ (c .before .bill-at .ensures), start .pre .1 .1 .few, rw (c .before .before .before .before .before .before .before .header .ensures) (start .pre .1 .1 .tracking), rw (c .before .before .before .before .before .before .before .header .ensures) (start .pre .1 .1 .confirmation)))
 
 update-requires : tie.Need-update-requires
 update-requires c κs =
-    let at-slot = c .before .before .before .before .before .before .before .before in
-    let start = at-slot .before .before .before .before .before .before .before .before .before in
-    (start .pre .1 .0, at-slot .slot .ensures .1)
+    let at-place = c .before .before .before .before .before .before .before .before in
+    let start = at-place .before .before .before .before .before .before .before .before .before in
+    (start .pre .1 .0, at-place .bill-place .ensures .1)
 
 same-length : tie.Need-same-length
 same-length c = search needs
@@ -46,12 +46,12 @@ returns : tie.Need-returns
 returns c =
     let at-turn = c .before .before .before .before .before .before .before .before in
     let at-bill-at = at-turn .before .before in
-    let at-slot = at-bill-at .before .before in
-    let at-find = at-slot .before in
+    let at-place = at-bill-at .before .before in
+    let at-find = at-place .before in
     let at-identity-at = at-find .before in
     let at-header = at-identity-at .before .before in
     let start = at-header .before .before .before .before .before in
-    (c .before .before .before .update .ensures .0, turn-on (ledgerOf (start .args .ws .now)) (start .args .c) (start .pre .1 .1) (start .args .s .now) (start .args .i) (start .args .n) _ (at-identity-at .identity-at .ensures) _ (found-is (start .args .ws .now) _ _ (at-header .header .ensures) _ (at-find .find .ensures)) _ (slot-is (start .args .ws .now) _ _ (at-header .header .ensures) _ (at-find .find .ensures) _ (at-slot .slot .ensures .0)) _ (at-bill-at .bill-at .ensures) (start .args .duplicate) (start .args .writes) (start .args .out .now) _ (at-turn .turn .result) (turned-here (start .args .duplicate) (at-find .find .result) (at-bill-at .bill-at .result) (groupAt (start .args .s .now) (start .args .i) (start .args .n)) (start .args .c) (start .args .writes) (start .args .out .now) _ (at-turn .turn .result) (at-header .header .result) (headerOf (ledgerOf (start .args .ws .now))) (at-header .header .ensures) (at-turn .turn .ensures)) _ (c .before .before .before .update .ensures .1))
+    (c .before .before .before .update .ensures .0, turn-on (ledgerOf (start .args .ws .now)) (start .args .c) (start .pre .1 .1) (start .args .s .now) (start .args .i) (start .args .n) _ (at-identity-at .identity-at .ensures) _ (found-is (start .args .ws .now) _ _ (at-header .header .ensures) _ (at-find .find .ensures)) _ (place-is (start .args .ws .now) _ _ (at-header .header .ensures) _ (at-find .find .ensures) _ (at-place .bill-place .ensures .0)) _ (at-bill-at .bill-at .ensures) (start .args .duplicate) (start .args .writes) (start .args .out .now) _ (at-turn .turn .result) (turned-here (start .args .duplicate) (at-find .find .result) (at-bill-at .bill-at .result) (groupAt (start .args .s .now) (start .args .i) (start .args .n)) (start .args .c) (start .args .writes) (start .args .out .now) _ (at-turn .turn .result) (at-header .header .result) (headerOf (ledgerOf (start .args .ws .now))) (at-header .header .ensures) (at-turn .turn .ensures)) _ (c .before .before .before .update .ensures .1))
 
 pub turn-spec : {M : Type 1} → statement M
 turn-spec =
@@ -60,7 +60,7 @@ turn-spec =
     header-requires
     identity-at-requires
     find-requires
-    slot-requires
+    bill-place-requires
     bill-at-requires
     turn-requires
     update-requires

@@ -1,7 +1,7 @@
--- `ledger::books::slot` meets its contract, by the place that was told.
+-- `ledger::books::bill_place` meets its contract, by the place that was told.
 use borrow.Author.Needs.{needs}
-use Rattle.ledger.proofs.books.slot.Statement.{statement}
-use Rattle.ledger.proofs.books.slot.Tie as tie
+use Rattle.ledger.proofs.books.bill_place.Statement.{statement}
+use Rattle.ledger.proofs.books.bill_place.Tie as tie
 
 enum-known-f : tie.Need-enum-known-f
 enum-known-f c = search needs
@@ -21,6 +21,6 @@ returns c = rw (c .before .before .f .given .1) (c .within .ensures)
 returns-2 : tie.Need-returns-2
 returns-2 c = rw (c .before .enum-told .given .1) (c .within2 .ensures)
 
-pub slot-spec : {M : Type 1} → statement M
-slot-spec =
+pub bill-place-spec : {M : Type 1} → statement M
+bill-place-spec =
     tie.close (tie.spec enum-known-f within-requires enum-told within-requires-2 returns returns-2)
