@@ -64,13 +64,13 @@ cxl-detail-not-acf x = refl
 -- ---- ACF
 module _ (h : List ℕ) (a : Acf) (whole : 321 ≤ length h) where
   pub acf-tracking : trackingIn (acf h a) ≡ acfTracking h a
-  acf-tracking = acf-at h a whole .tracking
+  acf-tracking = acf-at h a whole .alike .tracking
 
   acf-type : typeIn (acf h a) ≡ typeIn h
-  acf-type = acf-at h a whole .type
+  acf-type = acf-at h a whole .alike .type
 
   acf-notice : noticeIn (acf h a) ≡ text "ACF"
-  acf-notice = acf-at h a whole .notice
+  acf-notice = acf-at h a whole .alike .notice
 
   acf-scheduled : scheduledIn (acf h a) ≡ digits 8 (acfScheduled h a)
   acf-scheduled = acf-at h a whole .scheduled
@@ -99,10 +99,10 @@ module _ (h : List ℕ) (a : Acf) (whole : 321 ≤ length h) where
 -- ---- REJ
 module _ (r : List ℕ) (x : Rej) (whole : 321 ≤ length r) where
   pub rej-header-notice : noticeIn (rejHeader r x) ≡ text "REJ"
-  rej-header-notice = rej-header-at r x whole .notice
+  rej-header-notice = rej-header-at r x whole .alike .notice
 
   pub rej-detail-notice : (sup : Bool) → noticeIn (rejDetail sup r x) ≡ text "REJ"
-  rej-detail-notice sup = rej-detail-at r x whole sup .notice
+  rej-detail-notice sup = rej-detail-at r x whole sup .alike .notice
 
 -- a record of a REJ is no ACF and assigns no Tracking ID
 pub rej-not-acf : (r : List ℕ) → noticeIn r ≡ text "REJ" → isAcf r ≡ false

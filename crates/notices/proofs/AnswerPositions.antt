@@ -5,162 +5,150 @@ use mathlib.Core.List.{List, [], _∷_, _++_, append-assoc}
 use Prim.Native.Nat.{ℕ, zero, suc, _+_, _*_, _≤_, _<_}
 use native.Mathlib.Omega.{arith}
 use native.Mathlib.Nat.{not-suc-le-zero, le-of-suc-le-suc}
-use lib.ListN.{length, getD, length-append}
+use lib.ListN.{length, take, drop, getD, length-append}
+use lib.Seq.{take-add, drop-drop}
 use Rattle.fields.specs.Text.{text}
 use Rattle.fields.specs.Digits.{digits}
 use Rattle.fields.specs.Put.{part, positions}
-use Rattle.fields.proofs.ChainLaws.{chain, Widths, start, part-chain}
+use Rattle.fields.proofs.ChainLaws.{chain, Widths, start}
 use Rattle.fields.proofs.DigitLaws.{length-digits}
-use Rattle.fields.proofs.PutLaws.{part-left, part-right, part-whole, part-part}
-use Rattle.records.specs.Layout.{recordAt, trackingIn, typeIn, fromIn, isSup}
+use Rattle.fields.proofs.PutLaws.{part-left, part-right, part-whole}
+use Rattle.units.specs.declared.Date.{Date}
+use Rattle.records.specs.Layout.{recordAt, companyIn, rateCodeIn, accountIn, trackingIn, typeIn, fromIn, isSup}
 use Rattle.records.proofs.FieldLaws.{field-at}
 use Rattle.notices.specs.declared.acf.Acf.{Acf}
 use Rattle.notices.specs.declared.rej.Rej.{Rej}
 use Rattle.notices.specs.Notices.{spacesFrom}
 use Rattle.notices.specs.Answers.{acfTracking, acfScheduled, acfBalance, acfAlike, acf, rejAlike, rejHeader, fromBack, rejDetail, rejDetails, rej}
-use Rattle.notices.specs.Positions.{AcfAt, RejHeaderAt, RejDetailAt, RejAt}
+use Rattle.notices.specs.Positions.{SentAt, AcfAt, RejHeaderAt, RejDetailAt, RejAt}
 use Rattle.notices.proofs.NoticeLengths.{length-spaces-from}
 use Rattle.notices.proofs.AnswerLaws.{length-within, length-tracking, length-balance, length-acf, length-rej-header, length-from, length-rej-detail}
-use Rattle.notices.proofs.PositionLaws.{from-blank, from-end}
+use Rattle.notices.proofs.PositionLaws.{spaces-at, alikeThen, widthsThen, alike-at}
 
--- ---- ACF
-module _ (h : List ℕ) (a : Acf) (whole : 321 ≤ length h) where
-  abbrev acfFields : List (List ℕ)
-  acfFields =
-      acfTracking h a
-      ∷ typeIn h
-      ∷ text "ACF"
-      ∷ digits 8 (a .today .0)
-      ∷ digits 9 (a .confirmation)
-      ∷ digits 8 (acfScheduled h a)
-      ∷ text "00"
-      ∷ acfBalance h a
-      ∷ spacesFrom 74
-      ∷ []
+-- a part is two parts, one after the other
+part-add : (s : List ℕ) (i n m : ℕ) → part s i (n + m) ≡ part s i n ++ part s (i + n) m
+unfolding part
+part-add s i n m = take-add n m (drop i s) ∙ ap (λ (l : List ℕ). take n (drop i s) ++ take m l) (drop-drop n i s)
 
-  abbrev acfWidths : List ℕ
-  acfWidths = 19 ∷ 9 ∷ 2 ∷ 3 ∷ 8 ∷ 9 ∷ 8 ∷ 2 ∷ 13 ∷ 248 ∷ []
+-- ---- a record of the sender's, with Notification Code and Transmission Date replaced, and then the fields of rest
+-- positions 1 to 19 and 1 to 30 are their fields
+sent-start : (s : List ℕ) → positions s 1 19 ≡ companyIn s ++ rateCodeIn s ++ accountIn s
+sent-start s = part-add s 0 7 12 ∙ ap (λ (l : List ℕ). l ++ accountIn s) (part-add s 0 2 5)
 
-  acf-wide : Widths (positions h 1 19 ∷ acfFields) acfWidths
-  acf-wide = (
-    length-within h whole 0 19 (omega arith),
+sent-type : (s : List ℕ) → positions s 1 30 ≡ companyIn s ++ rateCodeIn s ++ accountIn s ++ trackingIn s ++ typeIn s
+sent-type s =
+    part-add s 0 28 2
+    ∙ ap (λ (l : List ℕ). l ++ typeIn s) (part-add s 0 19 9 ∙ ap (λ (l : List ℕ). l ++ trackingIn s) (sent-start s))
+
+module _ (s : List ℕ) (whole : 321 ≤ length s) (id : List ℕ) (nine : length id ≡ 9) (name : List ℕ) (three : length name ≡ 3) (today : Date)
+    (rest : List (List ℕ)) (ws : List ℕ) (wide : Widths rest ws) where
+  abbrev sentThen : List (List ℕ)
+  sentThen = alikeThen (rateCodeIn s) (accountIn s) id (typeIn s) name today rest
+
+  sent-wide : Widths (companyIn s ∷ sentThen) (widthsThen ws)
+  sent-wide = (
+    length-within s whole 0 2 (omega arith),
     (
-      length-tracking h whole a,
+      length-within s whole 2 5 (omega arith),
       (
-        length-within h whole 28 2 (omega arith),
-        (
-          refl,
-          (
-            length-digits 8 _,
-            (length-digits 9 _, (length-digits 8 _, (refl, (length-balance h whole a, (length-spaces-from 74, tt))))),
-          ),
-        ),
+        length-within s whole 7 12 (omega arith),
+        (nine, (length-within s whole 28 2 (omega arith), (three, (length-digits 8 _, wide)))),
       ),
     ),
   )
 
+  sent-field : (k : ℕ) → k < length (widthsThen ws)
+      → part (chain (companyIn s) sentThen) (start (widthsThen ws) k) (getD (widthsThen ws) k 0) ≡ getD (companyIn s ∷ sentThen) k []
+  sent-field k h = field-at (companyIn s) sentThen (widthsThen ws) sent-wide k h
+
+  sent-at : SentAt s id name today (chain (companyIn s) sentThen)
+  sent-at = alike-at (companyIn s) _ _ id _ name today rest ws sent-wide
+
+-- ---- ACF
+module _ (h : List ℕ) (a : Acf) (whole : 321 ≤ length h) where
+  abbrev acfRest : List (List ℕ)
+  acfRest = digits 9 (a .confirmation) ∷ digits 8 (acfScheduled h a) ∷ text "00" ∷ acfBalance h a ∷ spacesFrom 74 ∷ []
+
+  abbrev acfWidths : List ℕ
+  acfWidths = 9 ∷ 8 ∷ 2 ∷ 13 ∷ 248 ∷ []
+
+  acf-wide : Widths acfRest acfWidths
+  acf-wide = (length-digits 9 _, (length-digits 8 _, (refl, (length-balance h whole a, (length-spaces-from 74, tt)))))
+
   pub acf-at : AcfAt h a (acf h a)
   unfolding acf acfAlike
   acf-at =
-      let field = field-at (positions h 1 19) acfFields acfWidths acf-wide in
-      let within = part-chain (positions h 1 19) acfFields acfWidths acf-wide in
-      record {
-        long = length-acf h whole a;
-        company = within 0 0 2 (omega arith) (omega arith) ∙ part-part h 0 19 0 2 (omega arith);
-        rateCode = within 0 2 5 (omega arith) (omega arith) ∙ part-part h 0 19 2 5 (omega arith);
-        account = within 0 7 12 (omega arith) (omega arith) ∙ part-part h 0 19 7 12 (omega arith);
-        tracking = field 1 (omega arith);
-        type = field 2 (omega arith);
-        notice = field 3 (omega arith);
-        transmission = field 4 (omega arith);
-        confirmation = field 5 (omega arith);
-        scheduled = field 6 (omega arith);
-        recordCount = field 7 (omega arith);
-        balance = field 8 (omega arith);
-        blank = within 9 0 247 (omega arith) (omega arith) ∙ from-blank 74;
-        end = within 9 247 1 (omega arith) (omega arith) ∙ from-end 74;
-      }
+      let id = acfTracking h a in
+      let nine = length-tracking h whole a in
+      let field = sent-field h whole id nine (text "ACF") refl (a .today) acfRest acfWidths acf-wide in
+      rw (sent-start h)
+      (record {
+        long = rw (sent-start h) at (length-acf h whole a);
+        alike = sent-at h whole id nine (text "ACF") refl (a .today) acfRest acfWidths acf-wide;
+        confirmation = field 7 (omega arith);
+        scheduled = field 8 (omega arith);
+        recordCount = field 9 (omega arith);
+        balance = field 10 (omega arith);
+        rest = spaces-at _ 74 (omega arith) (omega arith) (field 11 (omega arith));
+      })
 
 -- ---- REJ
 module _ (r : List ℕ) (x : Rej) (whole : 321 ≤ length r) where
+  abbrev rejHeaderRest : List (List ℕ)
+  rejHeaderRest = digits 9 (x .confirmation) ∷ positions r 51 321 ∷ []
+
   pub rej-header-at : RejHeaderAt r x (rejHeader r x)
   unfolding rejHeader rejAlike
   rej-header-at =
-      let field =
-      field-at (positions r 1 30) (text "REJ" ∷ digits 8 (x .today .0) ∷ digits 9 (x .confirmation) ∷ positions r 51 321 ∷ []) (30 ∷ 3 ∷ 8 ∷ 9 ∷ 271 ∷ [])
-      (length-within r whole 0 30 (omega arith), (refl, (length-digits 8 _, (length-digits 9 _, (length-within r whole 50 271 (omega arith), tt))))) in
-      record {
-        toType = field 0 (omega arith);
-        notice = field 1 (omega arith);
-        transmission = field 2 (omega arith);
-        confirmation = field 3 (omega arith);
-        fromScheduled = field 4 (omega arith);
-      }
+      let nine = length-within r whole 19 9 (omega arith) in
+      let wide : Widths rejHeaderRest (9 ∷ 271 ∷ []) = (length-digits 9 _, (length-within r whole 50 271 (omega arith), tt)) in
+      let field = sent-field r whole (trackingIn r) nine (text "REJ") refl (x .today) rejHeaderRest (9 ∷ 271 ∷ []) wide in
+      rw (sent-type r)
+      (record {
+        alike = sent-at r whole (trackingIn r) nine (text "REJ") refl (x .today) rejHeaderRest (9 ∷ 271 ∷ []) wide;
+        confirmation = field 7 (omega arith);
+        fromScheduled = field 8 (omega arith);
+      })
 
   module _ (sup : Bool) where
-    abbrev rejFields : List (List ℕ)
-    rejFields =
-        text "REJ"
-        ∷ digits 8 (x .today .0)
-        ∷ positions r 42 79
-        ∷ fromBack sup (fromIn r)
-        ∷ positions r 88 259
-        ∷ (text "BR" ++ digits 2 (x .code))
-        ∷ spacesFrom 264
-        ∷ []
+    abbrev rejRest : List (List ℕ)
+    rejRest = positions r 42 79 ∷ fromBack sup (fromIn r) ∷ positions r 88 259 ∷ (text "BR" ++ digits 2 (x .code)) ∷ spacesFrom 264 ∷ []
 
     abbrev rejWidths : List ℕ
-    rejWidths = 30 ∷ 3 ∷ 8 ∷ 38 ∷ 8 ∷ 172 ∷ 4 ∷ 58 ∷ []
+    rejWidths = 38 ∷ 8 ∷ 172 ∷ 4 ∷ 58 ∷ []
 
-    rej-wide : Widths (positions r 1 30 ∷ rejFields) rejWidths
+    rej-wide : Widths rejRest rejWidths
     rej-wide = (
-      length-within r whole 0 30 (omega arith),
+      length-within r whole 41 38 (omega arith),
       (
-        refl,
+        length-from r whole sup,
         (
-          length-digits 8 _,
-          (
-            length-within r whole 41 38 (omega arith),
-            (
-              length-from r whole sup,
-              (
-                length-within r whole 87 172 (omega arith),
-                (
-                  length-append (text "BR") (digits 2 (x .code)) ∙ ap (λ (k : ℕ). 2 + k) (length-digits 2 _),
-                  (length-spaces-from 264, tt),
-                ),
-              ),
-            ),
-          ),
+          length-within r whole 87 172 (omega arith),
+          (length-append (text "BR") (digits 2 (x .code)) ∙ ap (λ (k : ℕ). 2 + k) (length-digits 2 _), (length-spaces-from 264, tt)),
         ),
       ),
     )
 
     -- the error code is one field
-    one-code : rejDetail sup r x ≡ chain (positions r 1 30) rejFields
+    one-code : rejDetail sup r x ≡ chain (positions r 1 30) (text "REJ" ∷ digits 8 (x .today .0) ∷ rejRest)
     unfolding rejDetail rejAlike
     one-code =
         let p : List ℕ = rejAlike r x ++ positions r 42 79 ++ fromBack sup (fromIn r) ++ positions r 88 259 in
         ap (λ (b : List ℕ). b ++ spacesFrom 264) (append-assoc p (text "BR") (digits 2 (x .code)))
 
-    fields-at : RejDetailAt sup r x (chain (positions r 1 30) rejFields)
-    fields-at =
-        let field = field-at (positions r 1 30) rejFields rejWidths rej-wide in
-        let within = part-chain (positions r 1 30) rejFields rejWidths rej-wide in
-        record {
-          toType = field 0 (omega arith);
-          notice = field 1 (omega arith);
-          transmission = field 2 (omega arith);
-          keyToCharge = field 3 (omega arith);
-          from = field 4 (omega arith);
-          tiersToOwed = field 5 (omega arith);
-          errorCode = field 6 (omega arith);
-          blank = within 7 0 57 (omega arith) (omega arith) ∙ from-blank 264;
-          end = within 7 57 1 (omega arith) (omega arith) ∙ from-end 264;
-        }
-
     pub rej-detail-at : RejDetailAt sup r x (rejDetail sup r x)
-    rej-detail-at = rw one-code fields-at
+    rej-detail-at =
+        let nine = length-within r whole 19 9 (omega arith) in
+        let field = sent-field r whole (trackingIn r) nine (text "REJ") refl (x .today) rejRest rejWidths rej-wide in
+        rw (one-code, sent-type r)
+        (record {
+          alike = sent-at r whole (trackingIn r) nine (text "REJ") refl (x .today) rejRest rejWidths rej-wide;
+          keyToCharge = field 7 (omega arith);
+          from = field 8 (omega arith);
+          tiersToOwed = field 9 (omega arith);
+          errorCode = field 10 (omega arith);
+          rest = spaces-at _ 264 (omega arith) (omega arith) (field 11 (omega arith));
+        })
 
 -- every record of a group is whole
 abbrev WholeEach : List (List ℕ) → Type 0

@@ -1,15 +1,17 @@
 -- BIL and CXL hold at each position what document 01 says. Assumes nothing.
-use mathlib.Core.Path.{_≡_, refl, _∙_}
-use mathlib.Core.List.{List, [], _∷_}
+use mathlib.Core.Path.{_≡_, refl, sym, ap, _∙_}
+use mathlib.Core.List.{List, [], _∷_, _++_}
 use Prim.Native.Nat.{ℕ, _+_, _-_, _≤_, _<_}
 use native.Mathlib.Omega.{arith}
+use native.Mathlib.Nat.{add-zero}
 use lib.ListN.{length, getD}
 use Rattle.fields.specs.Text.{text}
 use Rattle.fields.specs.Digits.{digits}
 use Rattle.fields.specs.Put.{part, filled}
-use Rattle.fields.proofs.ChainLaws.{chain, Widths, start, part-chain}
+use Rattle.fields.proofs.ChainLaws.{chain, Widths, start}
 use Rattle.fields.proofs.DigitLaws.{length-digits}
-use Rattle.fields.proofs.PutLaws.{length-filled, part-left, part-at, part-whole}
+use Rattle.fields.proofs.PutLaws.{length-filled, part-left, part-at, part-whole, part-part}
+use Rattle.units.specs.declared.Date.{Date}
 use Rattle.ledger.specs.Bills.{codeBytes, chargeOf, isPrepay}
 use Rattle.records.specs.Layout.{recordAt}
 use Rattle.records.proofs.FieldLaws.{field-at}
@@ -17,52 +19,63 @@ use Rattle.notices.specs.declared.Alike.{Alike}
 use Rattle.notices.specs.declared.bil.Bil.{Bil}
 use Rattle.notices.specs.declared.cxl.Cxl.{Cxl}
 use Rattle.notices.specs.Notices.{spaces, zeros, spacesFrom, alikeFields, header, detailToKey, bilAlike, bilHeader, bilToTiers, productFill, bilToOwed, bilDetail, bil, cxlAlike, cxlHeader, cxlDetail, cxl}
-use Rattle.notices.specs.Positions.{AlikeAt, HeaderAt, BilDetailAt, BilAt, CxlDetailAt, CxlAt}
+use Rattle.notices.specs.Positions.{AlikeAt, OwnAt, SpacesFromAt, HeaderAt, BilDetailAt, BilAt, CxlDetailAt, CxlAt}
 use Rattle.notices.proofs.NoticeLengths.{length-spaces-from, length-bil-header, length-bil-detail, length-bil, length-cxl-header, length-cxl-detail, length-cxl}
 
 -- ---- the spaces that end a record, and its byte 13
-pub from-blank : (a : ℕ) → part (spacesFrom a) 0 (321 - a) ≡ spaces (321 - a)
+pub spaces-at : (r : List ℕ) (a : ℕ) → 1 ≤ a → a ≤ 321 → part r (a - 1) (322 - a) ≡ spacesFrom a → SpacesFromAt a r
 unfolding spacesFrom
-from-blank a =
+spaces-at r a h k e =
     let n = length-filled (321 - a) 32 in
-    part-left (spaces (321 - a)) (13 ∷ []) 0 (321 - a) (omega arith) ∙ part-whole (spaces (321 - a)) (321 - a) n
+    record {
+      blank =
+          ap (λ (j : ℕ). part r j (321 - a)) (sym (add-zero (a - 1)))
+          ∙ sym (part-part r (a - 1) (322 - a) 0 (321 - a) (omega arith))
+          ∙ ap (λ (l : List ℕ). part l 0 (321 - a)) e
+          ∙ part-left (spaces (321 - a)) (13 ∷ []) 0 (321 - a) (omega arith)
+          ∙ part-whole (spaces (321 - a)) (321 - a) n;
+      end =
+          ap (λ (j : ℕ). part r j 1) (omega arith)
+          ∙ sym (part-part r (a - 1) (322 - a) (321 - a) 1 (omega arith))
+          ∙ ap (λ (l : List ℕ). part l (321 - a) 1) e
+          ∙ part-at (spaces (321 - a)) (13 ∷ []) (321 - a) 1 n refl;
+    }
 
-pub from-end : (a : ℕ) → part (spacesFrom a) (321 - a) 1 ≡ 13 ∷ []
-unfolding spacesFrom
-from-end a = part-at (spaces (321 - a)) (13 ∷ []) (321 - a) 1 (length-filled (321 - a) 32) refl
+-- ---- a record: positions 1 to 41, and then the fields of rest, whose widths are ws
+abbrev pub alikeThen : List ℕ → List ℕ → List ℕ → List ℕ → List ℕ → Date → List (List ℕ) → List (List ℕ)
+alikeThen code number id kind name today rest = code ∷ number ∷ id ∷ kind ∷ name ∷ digits 8 (today .0) ∷ rest
 
--- ---- our own records: positions 1 to 41, and then the fields of rest, whose widths are ws
-abbrev alikeThen : Alike → List ℕ → List ℕ → List (List ℕ) → List (List ℕ)
-alikeThen l kind name rest =
-    codeBytes (l .code) ∷ digits 12 (l .account) ∷ digits 9 (l .tracking) ∷ kind ∷ name ∷ digits 8 (l .today .0) ∷ rest
-
-abbrev widthsThen : List ℕ → List ℕ
+abbrev pub widthsThen : List ℕ → List ℕ
 widthsThen ws = 2 ∷ 5 ∷ 12 ∷ 9 ∷ 2 ∷ 3 ∷ 8 ∷ ws
 
+module _ (firm code number id kind name : List ℕ) (today : Date) (rest : List (List ℕ)) (ws : List ℕ)
+    (wide : Widths (firm ∷ alikeThen code number id kind name today rest) (widthsThen ws)) where
+  pub alike-at : AlikeAt firm code number id kind name today (chain firm (alikeThen code number id kind name today rest))
+  alike-at =
+      let field = field-at firm (alikeThen code number id kind name today rest) (widthsThen ws) wide in
+      record {
+        company = field 0 (omega arith);
+        rateCode = field 1 (omega arith);
+        account = field 2 (omega arith);
+        tracking = field 3 (omega arith);
+        type = field 4 (omega arith);
+        notice = field 5 (omega arith);
+        transmission = field 6 (omega arith);
+      }
+
+-- a record of our own
 module _ (l : Alike) (kind name : List ℕ) (two : length kind ≡ 2) (three : length name ≡ 3) (rest : List (List ℕ)) (ws : List ℕ) (wide : Widths rest ws) where
-  own-wide : Widths (text "34" ∷ alikeThen l kind name rest) (widthsThen ws)
+  abbrev ownThen : List (List ℕ)
+  ownThen = alikeThen (codeBytes (l .code)) (digits 12 (l .account)) (digits 9 (l .tracking)) kind name (l .today) rest
+
+  own-wide : Widths (text "34" ∷ ownThen) (widthsThen ws)
   own-wide = (refl, (refl, (length-digits 12 _, (length-digits 9 _, (two, (three, (length-digits 8 _, wide)))))))
 
-  -- field k, and a part of it
-  own-field : (k : ℕ) → k < length (widthsThen ws)
-      → part (chain (text "34") (alikeThen l kind name rest)) (start (widthsThen ws) k) (getD (widthsThen ws) k 0) ≡ getD (text "34" ∷ alikeThen l kind name rest) k []
-  own-field k h = field-at (text "34") (alikeThen l kind name rest) (widthsThen ws) own-wide k h
+  own-field : (k : ℕ) → k < length (widthsThen ws) → part (chain (text "34") ownThen) (start (widthsThen ws) k) (getD (widthsThen ws) k 0) ≡ getD (text "34" ∷ ownThen) k []
+  own-field k h = field-at (text "34") ownThen (widthsThen ws) own-wide k h
 
-  own-part : (k i n : ℕ) → k < length (widthsThen ws) → i + n ≤ getD (widthsThen ws) k 0
-      → part (chain (text "34") (alikeThen l kind name rest)) (start (widthsThen ws) k + i) n ≡ part (getD (text "34" ∷ alikeThen l kind name rest) k []) i n
-  own-part k i n h m = part-chain (text "34") (alikeThen l kind name rest) (widthsThen ws) own-wide k i n h m
-
-  alike-at : AlikeAt l kind name (chain (text "34") (alikeThen l kind name rest))
-  alike-at =
-      record {
-        company = own-field 0 (omega arith);
-        rateCode = own-field 1 (omega arith);
-        account = own-field 2 (omega arith);
-        tracking = own-field 3 (omega arith);
-        type = own-field 4 (omega arith);
-        notice = own-field 5 (omega arith);
-        transmission = own-field 6 (omega arith);
-      }
+  own-at : OwnAt l kind name (chain (text "34") ownThen)
+  own-at = alike-at (text "34") _ _ _ kind name (l .today) rest ws own-wide
 
 module _ (l : Alike) (name : List ℕ) (three : length name ≡ 3) (number date : ℕ) where
   abbrev headerRest : List (List ℕ)
@@ -78,14 +91,12 @@ module _ (l : Alike) (name : List ℕ) (three : length name ≡ 3) (number date 
   unfolding header alikeFields
   header-at =
       let field = own-field l (text "01") name refl three headerRest headerWidths header-wide in
-      let within = own-part l (text "01") name refl three headerRest headerWidths header-wide in
       record {
-        alike = alike-at l (text "01") name refl three headerRest headerWidths header-wide;
+        alike = own-at l (text "01") name refl three headerRest headerWidths header-wide;
         confirmation = field 7 (omega arith);
         scheduled = field 8 (omega arith);
         recordCount = field 9 (omega arith);
-        blank = within 10 0 260 (omega arith) (omega arith) ∙ from-blank 61;
-        end = within 10 260 1 (omega arith) (omega arith) ∙ from-end 61;
+        rest = spaces-at _ 61 (omega arith) (omega arith) (field 10 (omega arith));
       }
 
 -- ---- BIL
@@ -137,9 +148,8 @@ module _ (b : Bil) where
   unfolding bilDetail bilToOwed bilToTiers detailToKey alikeFields
   bil-detail-at =
       let field = own-field (bilAlike b) (text "02") (text "BIL") refl refl bilRest bilWidths bil-wide in
-      let within = own-part (bilAlike b) (text "02") (text "BIL") refl refl bilRest bilWidths bil-wide in
       record {
-        alike = alike-at (bilAlike b) (text "02") (text "BIL") refl refl bilRest bilWidths bil-wide;
+        alike = own-at (bilAlike b) (text "02") (text "BIL") refl refl bilRest bilWidths bil-wide;
         key = field 7 (omega arith);
         billing = field 8 (omega arith);
         sequence = field 9 (omega arith);
@@ -151,8 +161,7 @@ module _ (b : Bil) where
         previousConsumption = field 15 (omega arith);
         previousCharge = field 16 (omega arith);
         appliedAndOwed = field 17 (omega arith);
-        blank = within 18 0 61 (omega arith) (omega arith) ∙ from-blank 260;
-        end = within 18 61 1 (omega arith) (omega arith) ∙ from-end 260;
+        rest = spaces-at _ 260 (omega arith) (omega arith) (field 18 (omega arith));
       }
 
   pub bil-header-at : HeaderAt (bilAlike b) (text "BIL") (b .confirmation) (b .bill .terms .latest .scheduled .0) (bilHeader b)
@@ -183,12 +192,11 @@ module _ (x : Cxl) where
   unfolding cxlDetail detailToKey alikeFields
   cxl-detail-at =
       let wide : Widths cxlRest cxlWidths = (length-digits 4 _, (length-spaces-from 46, tt)) in
-      let within = own-part (cxlAlike x) (text "02") (text "CXL") refl refl cxlRest cxlWidths wide in
+      let field = own-field (cxlAlike x) (text "02") (text "CXL") refl refl cxlRest cxlWidths wide in
       record {
-        alike = alike-at (cxlAlike x) (text "02") (text "CXL") refl refl cxlRest cxlWidths wide;
-        key = own-field (cxlAlike x) (text "02") (text "CXL") refl refl cxlRest cxlWidths wide 7 (omega arith);
-        blank = within 8 0 275 (omega arith) (omega arith) ∙ from-blank 46;
-        end = within 8 275 1 (omega arith) (omega arith) ∙ from-end 46;
+        alike = own-at (cxlAlike x) (text "02") (text "CXL") refl refl cxlRest cxlWidths wide;
+        key = field 7 (omega arith);
+        rest = spaces-at _ 46 (omega arith) (omega arith) (field 8 (omega arith));
       }
 
   pub cxl-header-at : HeaderAt (cxlAlike x) (text "CXL") (x .confirmation) 0 (cxlHeader x)

@@ -1,5 +1,5 @@
 -- What stands at each position of the four notices, in the order and words of "Notices" and of the layout ("Supplier file"). Assumes nothing.
-use Prim.Native.Nat.{ℕ, _+_, _*_, _<_}
+use Prim.Native.Nat.{ℕ, _+_, _-_, _*_, _<_}
 use mathlib.Core.Path.{_≡_}
 use mathlib.Core.Bool.{Bool}
 use mathlib.Core.List.{List, [], _∷_, _++_}
@@ -7,6 +7,7 @@ use lib.ListN.{length, getD}
 use Rattle.fields.specs.Text.{text}
 use Rattle.fields.specs.Digits.{digits}
 use Rattle.fields.specs.Put.{positions, filled}
+use Rattle.units.specs.declared.Date.{Date}
 use Rattle.ledger.specs.Bills.{codeBytes, chargeOf, isPrepay}
 use Rattle.records.specs.Limits.{recordSize, noticeSize}
 use Rattle.records.specs.Layout.{recordAt, companyIn, rateCodeIn, accountIn, trackingIn, typeIn, noticeIn, transmissionIn, confirmationIn, scheduledIn, recordCountIn, balanceIn, keyIn, billingIn, sequenceIn, consumptionIn, detailChargeIn, fromIn, previousSequenceIn, previousConsumptionIn, previousChargeIn, errorCodeIn, isSup}
@@ -18,30 +19,42 @@ use Rattle.notices.specs.declared.rej.Rej.{Rej}
 use Rattle.notices.specs.Notices.{spaces, zeros, bilAlike, productFill, cxlAlike}
 use Rattle.notices.specs.Answers.{acfTracking, acfScheduled, acfBalance, fromBack}
 
--- ---- our own records
--- "1-41 alike"; "Transmission Date is today"
-pub record AlikeAt (l : Alike) (kind name r : List ℕ) : Type 0 where
-  pub company : companyIn r ≡ text "34"
-  pub rateCode : rateCodeIn r ≡ codeBytes (l .code)
-  pub account : accountIn r ≡ digits 12 (l .account)
-  pub tracking : trackingIn r ≡ digits 9 (l .tracking)
+-- ---- what the records of all four notices share
+-- "1-41 alike": what Company, rate code, account, Tracking ID, type and Notification Code hold; "Transmission Date is today"
+pub record AlikeAt (firm code number id kind name : List ℕ) (today : Date) (r : List ℕ) : Type 0 where
+  pub company : companyIn r ≡ firm
+  pub rateCode : rateCodeIn r ≡ code
+  pub account : accountIn r ≡ number
+  pub tracking : trackingIn r ≡ id
   pub type : typeIn r ≡ kind
   pub notice : noticeIn r ≡ name
-  pub transmission : transmissionIn r ≡ digits 8 (l .today .0)
+  pub transmission : transmissionIn r ≡ digits 8 (today .0)
 
--- "Record Count 01, spaces from 61"; "Each record ends in byte 13"
+-- of our own records
+abbrev pub OwnAt : Alike → List ℕ → List ℕ → List ℕ → Type 0
+OwnAt l kind name r = AlikeAt (text "34") (codeBytes (l .code)) (digits 12 (l .account)) (digits 9 (l .tracking)) kind name (l .today) r
+
+-- of the sender's record s "with Notification Code, Transmission Date .. replaced", and this Tracking ID
+abbrev pub SentAt : List ℕ → List ℕ → List ℕ → Date → List ℕ → Type 0
+SentAt s id name today r = AlikeAt (companyIn s) (rateCodeIn s) (accountIn s) id (typeIn s) name today r
+
+-- "spaces from" a position; "Each record ends in byte 13"
+pub record SpacesFromAt (a : ℕ) (r : List ℕ) : Type 0 where
+  pub blank : positions r a 320 ≡ spaces (recordSize - a)
+  pub end : positions r 321 321 ≡ 13 ∷ []
+
+-- ---- a header of our own: "Record Count 01, spaces from 61"
 pub record HeaderAt (l : Alike) (name : List ℕ) (number date : ℕ) (h : List ℕ) : Type 0 where
-  pub alike : AlikeAt l (text "01") name h
+  pub alike : OwnAt l (text "01") name h
   pub confirmation : confirmationIn h ≡ digits 9 number
   pub scheduled : scheduledIn h ≡ digits 8 date
   pub recordCount : recordCountIn h ≡ text "01"
-  pub blank : positions h 61 320 ≡ spaces 260
-  pub end : positions h 321 321 ≡ 13 ∷ []
+  pub rest : SpacesFromAt 61 h
 
 -- ---- BIL: "detail with charge and 88-207 zeros, previous sequence the count of requests, previous consumption the former one (0 on the
 -- first), previous charge the posted one, 234-259 zeros for Prepay and spaces for Bill Ready, spaces from 260"
 pub record BilDetailAt (b : Bil) (d : List ℕ) : Type 0 where
-  pub alike : AlikeAt (bilAlike b) (text "02") (text "BIL") d
+  pub alike : OwnAt (bilAlike b) (text "02") (text "BIL") d
   pub key : keyIn d ≡ digits 4 (b .bill .terms .identity .key)
   pub billing : billingIn d ≡ digits 8 (b .bill .terms .latest .billing .0)
   pub sequence : sequenceIn d ≡ digits 3 (b .bill .terms .sequence)
@@ -53,8 +66,7 @@ pub record BilDetailAt (b : Bil) (d : List ℕ) : Type 0 where
   pub previousConsumption : previousConsumptionIn d ≡ digits 10 (b .previous .0)
   pub previousCharge : previousChargeIn d ≡ digits 13 (chargeOf (b .bill .posted) .0)
   pub appliedAndOwed : positions d 234 259 ≡ filled 26 (productFill (isPrepay (b .bill .terms .product)))
-  pub blank : positions d 260 320 ≡ spaces 61
-  pub end : positions d 321 321 ≡ 13 ∷ []
+  pub rest : SpacesFromAt 260 d
 
 pub record BilAt (b : Bil) (n : List ℕ) : Type 0 where
   pub long : length n ≡ noticeSize
@@ -63,10 +75,9 @@ pub record BilAt (b : Bil) (n : List ℕ) : Type 0 where
 
 -- ---- CXL: "header with Scheduled Date 00000000, Record Count 01; detail to position 45; all else spaces"
 pub record CxlDetailAt (x : Cxl) (d : List ℕ) : Type 0 where
-  pub alike : AlikeAt (cxlAlike x) (text "02") (text "CXL") d
+  pub alike : OwnAt (cxlAlike x) (text "02") (text "CXL") d
   pub key : keyIn d ≡ digits 4 (x .terms .identity .key)
-  pub blank : positions d 46 320 ≡ spaces 275
-  pub end : positions d 321 321 ≡ 13 ∷ []
+  pub rest : SpacesFromAt 46 d
 
 pub record CxlAt (x : Cxl) (n : List ℕ) : Type 0 where
   pub long : length n ≡ noticeSize
@@ -77,40 +88,28 @@ pub record CxlAt (x : Cxl) (n : List ℕ) : Type 0 where
 -- Record Count 00, Scheduled Date the bill's (RSP) or 00000000 (SUP, H), 61-73 as sent for Prepay, else spaces, spaces from 74": h is the sender's
 pub record AcfAt (h : List ℕ) (a : Acf) (n : List ℕ) : Type 0 where
   pub long : length n ≡ recordSize
-  pub company : companyIn n ≡ companyIn h
-  pub rateCode : rateCodeIn n ≡ rateCodeIn h
-  pub account : accountIn n ≡ accountIn h
-  pub tracking : trackingIn n ≡ acfTracking h a
-  pub type : typeIn n ≡ typeIn h
-  pub notice : noticeIn n ≡ text "ACF"
-  pub transmission : transmissionIn n ≡ digits 8 (a .today .0)
+  pub alike : SentAt h (acfTracking h a) (text "ACF") (a .today) n
   pub confirmation : confirmationIn n ≡ digits 9 (a .confirmation)
   pub scheduled : scheduledIn n ≡ digits 8 (acfScheduled h a)
   pub recordCount : recordCountIn n ≡ text "00"
   pub balance : balanceIn n ≡ acfBalance h a
-  pub blank : positions n 74 320 ≡ spaces 247
-  pub end : positions n 321 321 ≡ 13 ∷ []
+  pub rest : SpacesFromAt 74 n
 
 -- ---- REJ: "the sender's header with the same three replaced": h is the sender's
 pub record RejHeaderAt (h : List ℕ) (x : Rej) (r : List ℕ) : Type 0 where
-  pub toType : positions r 1 30 ≡ positions h 1 30
-  pub notice : noticeIn r ≡ text "REJ"
-  pub transmission : transmissionIn r ≡ digits 8 (x .today .0)
+  pub alike : SentAt h (trackingIn h) (text "REJ") (x .today) r
   pub confirmation : confirmationIn r ≡ digits 9 (x .confirmation)
   pub fromScheduled : positions r 51 321 ≡ positions h 51 321
 
 -- "each detail with the first two replaced, error code at 260-263 (both products, H), spaces from 264. Under a SUP header, a From Date all
 -- spaces or all zeros goes back as 00010101": d is the sender's
 pub record RejDetailAt (sup : Bool) (d : List ℕ) (x : Rej) (r : List ℕ) : Type 0 where
-  pub toType : positions r 1 30 ≡ positions d 1 30
-  pub notice : noticeIn r ≡ text "REJ"
-  pub transmission : transmissionIn r ≡ digits 8 (x .today .0)
+  pub alike : SentAt d (trackingIn d) (text "REJ") (x .today) r
   pub keyToCharge : positions r 42 79 ≡ positions d 42 79
   pub from : fromIn r ≡ fromBack sup (fromIn d)
   pub tiersToOwed : positions r 88 259 ≡ positions d 88 259
   pub errorCode : errorCodeIn r ≡ text "BR" ++ digits 2 (x .code)
-  pub blank : positions r 264 320 ≡ spaces 57
-  pub end : positions r 321 321 ≡ 13 ∷ []
+  pub rest : SpacesFromAt 264 r
 
 -- a group's header h and its details ds
 pub record RejAt (h : List ℕ) (ds : List (List ℕ)) (x : Rej) (n : List ℕ) : Type 0 where
