@@ -1,4 +1,5 @@
 -- Laws that belong to no one function.
+pub mod WriteLaws
 pub mod NoticeLengths
 pub mod AnswerLaws
 pub mod RecordLaws

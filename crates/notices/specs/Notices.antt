@@ -5,6 +5,8 @@ use mathlib.Core.List.{List, [], _∷_, _++_}
 use Rattle.fields.specs.Text.{text}
 use Rattle.fields.specs.Digits.{digits}
 use Rattle.fields.specs.Put.{filled}
+use Rattle.units.specs.declared.Date.{Date}
+use Rattle.ledger.specs.declared.Terms.{Terms}
 use Rattle.ledger.specs.Bills.{codeBytes, chargeOf, isPrepay}
 use Rattle.records.specs.Limits.{recordSize}
 use Rattle.notices.specs.declared.Alike.{Alike}
@@ -34,6 +36,10 @@ alikeFields l type notice =
     ++ notice
     ++ digits 8 (l .today .0)
 
+-- those of a record about a bill with these terms, under this Tracking ID
+abbrev pub alikeOf : Terms → ℕ → Date → Alike
+alikeOf t id day = record { code = t .code; account = t .identity .account; tracking = id; today = day }
+
 -- a header: Confirmation Number, Scheduled Date, "Record Count 01, spaces from 61"
 unfoldable pub header : Alike → List ℕ → ℕ → ℕ → List ℕ
 header l notice confirmation scheduled =
@@ -45,13 +51,7 @@ detailToKey l notice key = alikeFields l (text "02") notice ++ digits 4 key
 
 -- ---- BIL
 abbrev pub bilAlike : Bil → Alike
-bilAlike b =
-    record {
-      code = b .bill .terms .code;
-      account = b .bill .terms .identity .account;
-      tracking = b .bill .terms .latest .tracking;
-      today = b .today;
-    }
+bilAlike b = alikeOf (b .bill .terms) (b .bill .terms .latest .tracking) (b .today)
 
 unfoldable pub bilHeader : Bil → List ℕ
 bilHeader b = header (bilAlike b) (text "BIL") (b .confirmation) (b .bill .terms .latest .scheduled .0)
@@ -90,8 +90,7 @@ bil b = bilHeader b ++ bilDetail b
 
 -- ---- CXL: "header with Scheduled Date 00000000, Record Count 01; detail to position 45; all else spaces"
 abbrev pub cxlAlike : Cxl → Alike
-cxlAlike x =
-    record { code = x .terms .code; account = x .terms .identity .account; tracking = x .tracking; today = x .today }
+cxlAlike x = alikeOf (x .terms) (x .tracking) (x .today)
 
 unfoldable pub cxlHeader : Cxl → List ℕ
 cxlHeader x = header (cxlAlike x) (text "CXL") (x .confirmation) 0

@@ -1,14 +1,16 @@
 // BIL: what the distributor asks of a supplier.
 ghost use mathlib.Core.Path.{_≡_};
+ghost use mathlib.Core.List.{_++_};
 ghost use Prim.Native.Nat.{_+_, _≤_};
 ghost use lib.ListN.{length};
+ghost use Rattle.fields.specs.Digits.{digits};
 ghost use Rattle.fields.specs.Put.{put};
 ghost use Rattle.records.specs.Limits.{recordSize, noticeSize};
-ghost use Rattle.notices.specs.Notices.{bilAlike, bilToTiers, productFill, bilToOwed, bilDetail, bil};
-use crate::Alike;
+ghost use Rattle.notices.specs.Notices.{bilToTiers, productFill, bilDetail, bil};
 use ledger::Bill;
 use records::layout;
 use units::Ccf;
+use units::Cents;
 use units::Date;
 
 // What a BIL holds: the bill as the request left it, and its consumption before that.
@@ -19,18 +21,16 @@ pub struct Bil {
     pub confirmation: u64,
 }
 
-fn alike_of(b: Bil) -> Alike
-    ensures { λ r. ⌜ r ≡ bilAlike b ⌝ }
+// Writes sequence, consumption and charge, the bill's or the previous ones.
+fn put_sequence_to_charge(out: &mut [u8], at: usize, sequence: u64, ccf: Ccf, charge: Cents)
+    requires { ⌜ at + 26 ≤ length (now out) ⌝ }
+    ensures { λ _. ⌜ now (out .exit) ≡ put (now (out .entry)) at (digits 3 sequence ++ digits 10 (ccf .0) ++ digits 13 (charge .0)) ⌝ }
 {
-    let terms = b.bill.terms;
-    let code = terms.code;
-    let today = b.today;
-    Alike {
-        code,
-        account: terms.identity.account,
-        tracking: terms.latest.tracking,
-        today,
-    }
+    let ccf_at = at + layout::SEQUENCE_WIDTH;
+    let charge_at = at + (layout::SEQUENCE_WIDTH + layout::CONSUMPTION_WIDTH);
+    fields::put_digits(out, at, layout::SEQUENCE_WIDTH, sequence);
+    fields::put_digits(out, ccf_at, layout::CONSUMPTION_WIDTH, ccf.0);
+    fields::put_digits(out, charge_at, layout::CHARGE_WIDTH, charge.0);
 }
 
 // Writes the detail to position 207.
@@ -38,28 +38,19 @@ fn put_to_tiers(out: &mut [u8], at: usize, b: Bil)
     requires { ⌜ at + 207 ≤ length (now out) ⌝ }
     ensures { λ _. ⌜ now (out .exit) ≡ put (now (out .entry)) at (bilToTiers b) ⌝ }
 {
-    let alike = alike_of(b);
-    let latest = b.bill.terms.latest;
-    crate::put_detail_to_key(out, at, alike, b"BIL", b.bill.terms.identity.key);
+    let terms = b.bill.terms;
+    let latest = terms.latest;
+    let ccf = latest.consumption;
+    let today = b.today;
+    let alike = crate::alike_of(terms, latest.tracking, today);
+    crate::put_detail_to_key(out, at, alike, b"BIL", terms.identity.key);
     fields::put_digits(
         out,
         at + layout::BILLING,
         layout::BILLING_WIDTH,
         latest.billing.0,
     );
-    fields::put_digits(
-        out,
-        at + layout::SEQUENCE,
-        layout::SEQUENCE_WIDTH,
-        b.bill.terms.sequence,
-    );
-    fields::put_digits(
-        out,
-        at + layout::CONSUMPTION,
-        layout::CONSUMPTION_WIDTH,
-        latest.consumption.0,
-    );
-    fields::put_fill(out, at + layout::CHARGE, layout::CHARGE_WIDTH, 48);
+    put_sequence_to_charge(out, at + layout::SEQUENCE, terms.sequence, ccf, Cents(0));
     fields::put_digits(out, at + layout::FROM, layout::FROM_WIDTH, latest.from.0);
     fields::put_fill(out, at + layout::TIER_1, layout::TIERS_WIDTH, 48);
 }
@@ -70,35 +61,25 @@ fn product_fill(prepay: bool) -> u8
     if prepay { 48 } else { 32 }
 }
 
-// Writes the detail to position 259.
-fn put_to_owed(out: &mut [u8], at: usize, b: Bil)
-    requires { ⌜ at + 259 ≤ length (now out) ⌝ }
-    ensures { λ _. ⌜ now (out .exit) ≡ put (now (out .entry)) at (bilToOwed b) ⌝ }
+// Writes the detail.
+fn put_detail(out: &mut [u8], at: usize, b: Bil)
+    requires { ⌜ at + recordSize ≤ length (now out) ⌝ }
+    ensures { λ _. ⌜ now (out .exit) ≡ put (now (out .entry)) at (bilDetail b) ⌝ }
 {
     let bill = b.bill;
     let posted = bill.posted;
     let terms = bill.terms;
     let product = terms.product;
+    let previous = b.previous;
     let charge = posted.charge();
     let fill = product_fill(product.is_prepay());
     put_to_tiers(out, at, b);
-    fields::put_digits(
+    put_sequence_to_charge(
         out,
         at + layout::PREVIOUS_SEQUENCE,
-        layout::PREVIOUS_SEQUENCE_WIDTH,
         terms.requests,
-    );
-    fields::put_digits(
-        out,
-        at + layout::PREVIOUS_CONSUMPTION,
-        layout::PREVIOUS_CONSUMPTION_WIDTH,
-        b.previous.0,
-    );
-    fields::put_digits(
-        out,
-        at + layout::PREVIOUS_CHARGE,
-        layout::PREVIOUS_CHARGE_WIDTH,
-        charge.0,
+        previous,
+        charge,
     );
     fields::put_fill(
         out,
@@ -106,13 +87,6 @@ fn put_to_owed(out: &mut [u8], at: usize, b: Bil)
         layout::APPLIED_WIDTH + layout::OWED_WIDTH,
         fill,
     );
-}
-
-fn put_detail(out: &mut [u8], at: usize, b: Bil)
-    requires { ⌜ at + recordSize ≤ length (now out) ⌝ }
-    ensures { λ _. ⌜ now (out .exit) ≡ put (now (out .entry)) at (bilDetail b) ⌝ }
-{
-    put_to_owed(out, at, b);
     crate::put_end(out, at, layout::DETAIL_FILLER);
 }
 
@@ -121,8 +95,11 @@ pub fn write(out: &mut [u8], at: usize, b: Bil)
     requires { ⌜ at + noticeSize ≤ length (now out) ⌝ }
     ensures { λ _. ⌜ now (out .exit) ≡ put (now (out .entry)) at (bil b) ⌝ }
 {
-    let alike = alike_of(b);
-    let scheduled = b.bill.terms.latest.scheduled;
+    let terms = b.bill.terms;
+    let latest = terms.latest;
+    let today = b.today;
+    let alike = crate::alike_of(terms, latest.tracking, today);
+    let scheduled = latest.scheduled;
     crate::put_header(out, at, alike, b"BIL", b.confirmation, scheduled.0);
     put_detail(out, at + records::RECORD_SIZE, b);
 }

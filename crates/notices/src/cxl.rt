@@ -3,9 +3,8 @@ ghost use mathlib.Core.Path.{_≡_};
 ghost use Prim.Native.Nat.{_+_, _≤_};
 ghost use lib.ListN.{length};
 ghost use Rattle.fields.specs.Put.{put};
-ghost use Rattle.records.specs.Limits.{recordSize, noticeSize};
-ghost use Rattle.notices.specs.Notices.{cxlAlike, cxlDetail, cxl};
-use crate::Alike;
+ghost use Rattle.records.specs.Limits.{noticeSize};
+ghost use Rattle.notices.specs.Notices.{cxl};
 use ledger::Terms;
 use records::layout;
 use units::Date;
@@ -18,34 +17,16 @@ pub struct Cxl {
     pub confirmation: u64,
 }
 
-fn alike_of(x: Cxl) -> Alike
-    ensures { λ r. ⌜ r ≡ cxlAlike x ⌝ }
-{
-    let code = x.terms.code;
-    let today = x.today;
-    Alike {
-        code,
-        account: x.terms.identity.account,
-        tracking: x.tracking,
-        today,
-    }
-}
-
-fn put_detail(out: &mut [u8], at: usize, x: Cxl)
-    requires { ⌜ at + recordSize ≤ length (now out) ⌝ }
-    ensures { λ _. ⌜ now (out .exit) ≡ put (now (out .entry)) at (cxlDetail x) ⌝ }
-{
-    let alike = alike_of(x);
-    crate::put_detail_to_key(out, at, alike, b"CXL", x.terms.identity.key);
-    crate::put_end(out, at, layout::BILLING);
-}
-
 // Writes a CXL.
 pub fn write(out: &mut [u8], at: usize, x: Cxl)
     requires { ⌜ at + noticeSize ≤ length (now out) ⌝ }
     ensures { λ _. ⌜ now (out .exit) ≡ put (now (out .entry)) at (cxl x) ⌝ }
 {
-    let alike = alike_of(x);
+    let terms = x.terms;
+    let today = x.today;
+    let alike = crate::alike_of(terms, x.tracking, today);
+    let detail = at + records::RECORD_SIZE;
     crate::put_header(out, at, alike, b"CXL", x.confirmation, 0);
-    put_detail(out, at + records::RECORD_SIZE, x);
+    crate::put_detail_to_key(out, detail, alike, b"CXL", x.terms.identity.key);
+    crate::put_end(out, detail, layout::BILLING);
 }

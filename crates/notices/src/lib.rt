@@ -5,12 +5,15 @@ pub mod cxl;
 pub mod rej;
 
 ghost use mathlib.Core.Path.{_≡_};
+ghost use mathlib.Core.List.{_++_};
 ghost use Prim.Native.Nat.{_+_, _≤_, _<_};
 ghost use lib.ListN.{length};
+ghost use Rattle.fields.specs.Digits.{digits};
 ghost use Rattle.fields.specs.Put.{put};
 ghost use Rattle.records.specs.Limits.{recordSize};
-ghost use Rattle.notices.specs.Notices.{spacesFrom, alikeFields, header, detailToKey};
+ghost use Rattle.notices.specs.Notices.{spacesFrom, alikeOf, alikeFields, header, detailToKey};
 use ledger::RateCode;
+use ledger::Terms;
 use records::layout;
 use units::Date;
 
@@ -20,6 +23,19 @@ pub struct Alike {
     pub account: u64,
     pub tracking: u64,
     pub today: Date,
+}
+
+// Those of a record about a bill with these terms, under this Tracking ID.
+fn alike_of(t: Terms, tracking: u64, today: Date) -> Alike
+    ensures { λ r. ⌜ r ≡ alikeOf t tracking today ⌝ }
+{
+    let code = t.code;
+    Alike {
+        code,
+        account: t.identity.account,
+        tracking,
+        today,
+    }
 }
 
 // Writes the end of the record that starts at `at`: spaces from its index `from` on, and byte 13.
@@ -56,6 +72,18 @@ pub fn put_alike(out: &mut [u8], at: usize, l: Alike, kind: &[u8], notice: &[u8]
     );
 }
 
+// Writes Confirmation Number, Scheduled Date and Record Count, positions 42 to 60 of a header.
+pub fn put_to_count(out: &mut [u8], at: usize, confirmation: u64, scheduled: u64, count: &[u8])
+    requires { ⌜ (at + 19 ≤ length (now out)) × (length (now count) ≡ 2) ⌝ }
+    ensures { λ _. ⌜ now (out .exit) ≡ put (now (out .entry)) at (digits 9 confirmation ++ digits 8 scheduled ++ now (count .entry)) ⌝ }
+{
+    let scheduled_at = at + layout::CONFIRMATION_WIDTH;
+    let count_at = at + (layout::CONFIRMATION_WIDTH + layout::SCHEDULED_WIDTH);
+    fields::put_digits(out, at, layout::CONFIRMATION_WIDTH, confirmation);
+    fields::put_digits(out, scheduled_at, layout::SCHEDULED_WIDTH, scheduled);
+    fields::put_bytes(out, count_at, count);
+}
+
 // Writes a header.
 pub fn put_header(
     out: &mut [u8],
@@ -70,19 +98,13 @@ pub fn put_header(
     ensures { λ _. ⌜ now (out .exit) ≡ put (now (out .entry)) at (header l (now (notice .entry)) confirmation scheduled) ⌝ }
 {
     put_alike(out, at, l, b"01", notice);
-    fields::put_digits(
+    put_to_count(
         out,
         at + layout::CONFIRMATION,
-        layout::CONFIRMATION_WIDTH,
         confirmation,
-    );
-    fields::put_digits(
-        out,
-        at + layout::SCHEDULED,
-        layout::SCHEDULED_WIDTH,
         scheduled,
+        b"01",
     );
-    fields::put_bytes(out, at + layout::RECORD_COUNT, b"01");
     put_end(out, at, layout::BALANCE);
 }
 

@@ -1,11 +1,13 @@
--- `notices::bil::put_to_tiers` meets its contract: seven writes, one after the other.
+-- `notices::bil::put_to_tiers` meets its contract: five writes, one after the other.
 use borrow.Author.Needs.{needs}
 use native.Mathlib.Omega.{arith}
 use mathlib.Core.Path.{refl}
+use Rattle.fields.specs.Digits.{digits}
 use Rattle.fields.proofs.PutLaws.{first, next, length-filled}
 use Rattle.fields.proofs.DigitLaws.{length-digits}
-use Rattle.notices.specs.Notices.{bilToTiers}
+use Rattle.notices.specs.Notices.{zeros, bilToTiers}
 use Rattle.notices.proofs.NoticeLengths.{length-detail-to-key}
+use Rattle.notices.proofs.WriteLaws.{next-three, no-charge}
 use Rattle.notices.proofs.bil.put_to_tiers.Statement.{statement}
 use Rattle.notices.proofs.bil.put_to_tiers.Tie as tie
 
@@ -24,17 +26,17 @@ add-put-digits c = search needs
 put-digits-requires : tie.Need-put-digits-requires
 put-digits-requires c κs = search needs
 
+add-put-sequence-to-charge : tie.Need-add-put-sequence-to-charge
+add-put-sequence-to-charge c = search needs
+
+put-sequence-to-charge-requires : tie.Need-put-sequence-to-charge-requires
+put-sequence-to-charge-requires c κs = search needs
+
 add-put-digits-2 : tie.Need-add-put-digits-2
 add-put-digits-2 c = search needs
 
 put-digits-requires-2 : tie.Need-put-digits-requires-2
 put-digits-requires-2 c κs = search needs
-
-add-put-digits-3 : tie.Need-add-put-digits-3
-add-put-digits-3 c = search needs
-
-put-digits-requires-3 : tie.Need-put-digits-requires-3
-put-digits-requires-3 c κs = search needs
 
 add-put-fill : tie.Need-add-put-fill
 add-put-fill c = search needs
@@ -42,41 +44,24 @@ add-put-fill c = search needs
 put-fill-requires : tie.Need-put-fill-requires
 put-fill-requires c κs = search needs
 
-add-put-digits-4 : tie.Need-add-put-digits-4
-add-put-digits-4 c = search needs
-
-put-digits-requires-4 : tie.Need-put-digits-requires-4
-put-digits-requires-4 c κs = search needs
-
-add-put-fill-2 : tie.Need-add-put-fill-2
-add-put-fill-2 c =
-    let start = c .before .before .before .before .before .before .before .before .before .before .before .before .before .before .before .before .before .before .before .before .before .before .before .before .before .before .before .before .before in
-    omega (arith, start .pre, start .good)
-
-put-fill-requires-2 : tie.Need-put-fill-requires-2
-put-fill-requires-2 c κs = search needs
-
 same-length : tie.Need-same-length
 same-length c = search needs
 
 returns : tie.Need-returns
 unfolding bilToTiers
 returns c =
-    let at-put-fill = c .before .before .before .before .before .before .before .before .before .before in
-    let at-put-digits3 = at-put-fill .before .before .before .before in
-    let at-put-digits2 = at-put-digits3 .before .before .before .before in
-    let at-put-digits = at-put-digits2 .before .before .before .before in
+    let at-put-sequence-to-charge = c .before .before .before .before .before .before .before .before .before .before in
+    let at-put-digits = at-put-sequence-to-charge .before .before .before .before in
     let at-put-detail-to-key = at-put-digits .before .before .before .before in
-    let at-alike-of = at-put-detail-to-key .before .before .before .before in
-    let start = at-alike-of .before .before in
+    let at-alike-of = at-put-detail-to-key .before .before .before in
+    let start = at-alike-of .before .before .before .before .before .before in
     let a = start .args in
+    let t = a .b .bill .terms in
     let w1 = first (a .out .now) (a .at) _ (omega (arith, start .pre)) (rw (at-alike-of .alike-of .ensures) at (at-put-detail-to-key .put-detail-to-key .ensures)) (length-detail-to-key _ _ refl _) in
     let w2 = next w1 _ (at-put-digits .put-digits .ensures) (length-digits 8 _) in
-    let w3 = next w2 _ (at-put-digits2 .put-digits2 .ensures) (length-digits 3 _) in
-    let w4 = next w3 _ (at-put-digits3 .put-digits3 .ensures) (length-digits 10 _) in
-    let w5 = next w4 _ (at-put-fill .put-fill .ensures) (length-filled 13 48) in
-    let w6 = next w5 _ (c .before .before .before .before .before .before .put-digits4 .ensures) (length-digits 8 _) in
-    next w6 _ (c .before .before .put-fill2 .ensures) (length-filled 120 48) .same
+    let w3 = next-three w2 (digits 3 (t .sequence)) (digits 10 (t .latest .consumption .0)) (zeros 13) (rw no-charge at (at-put-sequence-to-charge .put-sequence-to-charge .ensures)) (length-digits 3 _) (length-digits 10 _) (length-filled 13 48) in
+    let w4 = next w3 _ (c .before .before .before .before .before .before .put-digits2 .ensures) (length-digits 8 _) in
+    next w4 _ (c .before .before .put-fill .ensures) (length-filled 120 48) .same
 
 pub put-to-tiers-spec : {M : Type 1} → statement M
 put-to-tiers-spec =
@@ -87,15 +72,11 @@ put-to-tiers-spec =
     put-detail-to-key-requires
     add-put-digits
     put-digits-requires
+    add-put-sequence-to-charge
+    put-sequence-to-charge-requires
     add-put-digits-2
     put-digits-requires-2
-    add-put-digits-3
-    put-digits-requires-3
     add-put-fill
     put-fill-requires
-    add-put-digits-4
-    put-digits-requires-4
-    add-put-fill-2
-    put-fill-requires-2
     same-length
     returns)

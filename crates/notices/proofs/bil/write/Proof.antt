@@ -30,7 +30,7 @@ returns : tie.Need-returns
 unfolding bil bilHeader
 returns c =
     let at-alike-of = c .before .before .before .before .before .before .before .before .before .before in
-    let start = at-alike-of .before .before in
+    let start = at-alike-of .before .before .before .before .before in
     let a = start .args in
     let w1 = first (a .out .now) (a .at) _ (omega (arith, start .pre)) (rw (at-alike-of .alike-of .ensures) at (c .before .before .before .before .before .before .put-header .ensures)) (length-header _ _ refl _ _) in
     next w1 _ (c .before .before .put-detail .ensures) (length-bil-detail _) .same
