@@ -46,7 +46,7 @@ fn put_alike(out: &mut [u8], at: usize, h: &[u8], a: Acf)
     let sup = is_sup(h);
     fields::put_part(out, at, h, layout::COMPANY, layout::TRACKING);
     put_tracking(out, at + layout::TRACKING, h, sup, a.tracking);
-    fields::put_part(out, at + layout::TYPE, h, layout::TYPE, layout::TYPE_WIDTH);
+    crate::put_as_sent(out, at, h, layout::TYPE, layout::TYPE_WIDTH);
     fields::put_bytes(out, at + layout::NOTICE, b"ACF");
     fields::put_digits(
         out,
@@ -74,19 +74,13 @@ pub fn write(out: &mut [u8], at: usize, h: &[u8], a: Acf)
     let due = terms.latest.scheduled;
     let scheduled = scheduled_of(is_sup(h), due);
     put_alike(out, at, h, a);
-    fields::put_digits(
+    notices::put_to_count(
         out,
         at + layout::CONFIRMATION,
-        layout::CONFIRMATION_WIDTH,
         a.confirmation,
-    );
-    fields::put_digits(
-        out,
-        at + layout::SCHEDULED,
-        layout::SCHEDULED_WIDTH,
         scheduled,
+        b"00",
     );
-    fields::put_bytes(out, at + layout::RECORD_COUNT, b"00");
     put_balance(out, at + layout::BALANCE, h, prepay);
     notices::put_end(out, at, layout::HEADER_FILLER);
 }

@@ -38,9 +38,9 @@ fn put_header(out: &mut [u8], at: usize, h: &[u8], x: Rej)
         layout::CONFIRMATION_WIDTH,
         x.confirmation,
     );
-    fields::put_part(
+    crate::put_as_sent(
         out,
-        at + layout::SCHEDULED,
+        at,
         h,
         layout::SCHEDULED,
         layout::SCHEDULED_TO_END_WIDTH,
@@ -73,21 +73,9 @@ fn put_detail(out: &mut [u8], at: usize, d: &[u8], sup: bool, x: Rej)
     ensures { λ _. ⌜ now (out .exit) ≡ put (now (out .entry)) at (rejDetail sup (now (d .entry)) x) ⌝ }
 {
     put_alike(out, at, d, x);
-    fields::put_part(
-        out,
-        at + layout::KEY,
-        d,
-        layout::KEY,
-        layout::KEY_TO_CHARGE_WIDTH,
-    );
+    crate::put_as_sent(out, at, d, layout::KEY, layout::KEY_TO_CHARGE_WIDTH);
     put_from(out, at + layout::FROM, d, sup);
-    fields::put_part(
-        out,
-        at + layout::TIER_1,
-        d,
-        layout::TIER_1,
-        layout::TIERS_TO_OWED_WIDTH,
-    );
+    crate::put_as_sent(out, at, d, layout::TIER_1, layout::TIERS_TO_OWED_WIDTH);
     fields::put_bytes(out, at + layout::ERROR_CODE, b"BR");
     fields::put_digits(
         out,
@@ -98,14 +86,14 @@ fn put_detail(out: &mut [u8], at: usize, d: &[u8], sup: bool, x: Rej)
     notices::put_end(out, at, layout::REJ_FILLER);
 }
 
-// Writes a detail for record j of the file s.
-fn put_detail_at(out: &mut [u8], at: usize, s: &[u8], j: usize, sup: bool, x: Rej)
-    requires { ⌜ (at + recordSize ≤ length (now out)) × (j * recordSize + recordSize ≤ length (now s)) ⌝ }
-    ensures { λ _. ⌜ now (out .exit) ≡ put (now (out .entry)) at (rejDetail sup (recordAt (now (s .entry)) j) x) ⌝ }
+// Writes detail j of the REJ for the group of the file s whose header is record i.
+fn put_detail_at(out: &mut [u8], at: usize, s: &[u8], i: usize, j: usize, sup: bool, x: Rej)
+    requires { ⌜ (at + recordSize + j * recordSize + recordSize ≤ length (now out)) × ((i + 1 + j) * recordSize + recordSize ≤ length (now s)) ⌝ }
+    ensures { λ _. ⌜ now (out .exit) ≡ put (now (out .entry)) (at + recordSize + j * recordSize) (rejDetail sup (recordAt (now (s .entry)) (i + 1 + j)) x) ⌝ }
 {
-    let a = j * RECORD_SIZE;
+    let a = (i + 1 + j) * RECORD_SIZE;
     let e = a + RECORD_SIZE;
-    put_detail(out, at, &s[a..e], sup, x);
+    put_detail(out, at + RECORD_SIZE + j * RECORD_SIZE, &s[a..e], sup, x);
 }
 
 // Writes the REJ for the group of the file s whose header is record i and which has k details: k + 1 records.
@@ -119,14 +107,7 @@ pub fn write(out: &mut [u8], at: usize, s: &[u8], i: usize, k: usize, x: Rej)
     put_header(out, at, &s[a..e], x);
     let mut j = 0;
     while j < k {
-        put_detail_at(
-            out,
-            at + RECORD_SIZE + j * RECORD_SIZE,
-            s,
-            i + 1 + j,
-            sup,
-            x,
-        );
+        put_detail_at(out, at, s, i, j, sup, x);
         j += 1;
     }
 }

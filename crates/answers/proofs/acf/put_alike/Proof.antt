@@ -21,11 +21,8 @@ add-put-tracking c = search needs
 put-tracking-requires : tie.Need-put-tracking-requires
 put-tracking-requires c κs = search needs
 
-add-put-part : tie.Need-add-put-part
-add-put-part c = search needs
-
-put-part-requires-2 : tie.Need-put-part-requires-2
-put-part-requires-2 c κs = search needs
+put-as-sent-requires : tie.Need-put-as-sent-requires
+put-as-sent-requires c κs = search needs
 
 add-put-bytes : tie.Need-add-put-bytes
 add-put-bytes c = search needs
@@ -48,15 +45,15 @@ same-length c = search needs
 returns : tie.Need-returns
 unfolding acfAlike
 returns c =
-    let at-put-part2 = c .before .before .before .before .before .before .before .before .before .before .before in
-    let at-put-tracking = at-put-part2 .before .before .before .before in
+    let at-put-as-sent = c .before .before .before .before .before .before .before .before .before .before .before in
+    let at-put-tracking = at-put-as-sent .before .before .before .before in
     let at-put-part = at-put-tracking .before .before .before .before in
     let at-is-sup = at-put-part .before .before in
     let start = at-is-sup .before .before .before in
     let a = start .args in
     let w1 = first (a .out .now) (a .at) _ (omega (arith, start .pre)) (at-put-part .put-part .ensures) (length-within (a .h .now) (start .pre .1) 0 19 (omega arith)) in
     let w2 = next w1 _ (rw (at-is-sup .is-sup .ensures) at (at-put-tracking .put-tracking .ensures)) (length-tracking (a .h .now) (start .pre .1) (a .a)) in
-    let w3 = next w2 _ (at-put-part2 .put-part2 .ensures) (length-within (a .h .now) (start .pre .1) 28 2 (omega arith)) in
+    let w3 = next w2 _ (at-put-as-sent .put-as-sent .ensures) (length-within (a .h .now) (start .pre .1) 28 2 (omega arith)) in
     let w4 = next w3 _ (c .before .before .before .before .before .before .put-bytes .ensures) refl in
     next w4 _ (c .before .before .put-digits .ensures) (length-digits 8 _) .same
 
@@ -68,8 +65,7 @@ put-alike-spec =
     put-part-requires
     add-put-tracking
     put-tracking-requires
-    add-put-part
-    put-part-requires-2
+    put-as-sent-requires
     add-put-bytes
     slice-aggregate-put-bytes
     put-bytes-requires

@@ -17,11 +17,8 @@ add-put-digits c = search needs
 put-digits-requires : tie.Need-put-digits-requires
 put-digits-requires c κs = search needs
 
-add-put-part : tie.Need-add-put-part
-add-put-part c = search needs
-
-put-part-requires : tie.Need-put-part-requires
-put-part-requires c κs = search needs
+put-as-sent-requires : tie.Need-put-as-sent-requires
+put-as-sent-requires c κs = search needs
 
 same-length : tie.Need-same-length
 same-length c = search needs
@@ -34,7 +31,7 @@ returns c =
     let a = start .args in
     let w1 = first (a .out .now) (a .at) _ (omega (arith, start .pre)) (at-put-alike .put-alike .ensures) (length-rej-alike (a .h .now) (start .pre .1) _) in
     let w2 = next w1 _ (c .before .before .before .before .before .before .put-digits .ensures) (length-digits 9 _) in
-    next w2 _ (c .before .before .put-part .ensures) (length-within (a .h .now) (start .pre .1) 50 271 (omega arith)) .same
+    next w2 _ (c .before .before .put-as-sent .ensures) (length-within (a .h .now) (start .pre .1) 50 271 (omega arith)) .same
 
 pub put-header-spec : {M : Type 1} → statement M
 put-header-spec =
@@ -43,7 +40,6 @@ put-header-spec =
     put-alike-requires
     add-put-digits
     put-digits-requires
-    add-put-part
-    put-part-requires
+    put-as-sent-requires
     same-length
     returns)

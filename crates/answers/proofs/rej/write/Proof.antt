@@ -70,31 +70,6 @@ loop-holds c =
           (record { same = put-nil _ _; long = refl; fits = omega (arith, start .pre, c .before .before .put-header .kept .0) });
     }
 
-add-put-detail-at : tie.Need-add-put-detail-at Inv-loop μ-loop
-add-put-detail-at c =
-    let start = c .before .before .before .before .before .before .before .before .before .before .before .before in
-    omega (arith, start .pre, start .good)
-
-mul-put-detail-at : tie.Need-mul-put-detail-at Inv-loop μ-loop
-mul-put-detail-at c =
-    let start = c .before .before .before .before .before .before .before .before .before .before .before .before in
-    omega (arith, start .pre, start .good)
-
-add-put-detail-at-2 : tie.Need-add-put-detail-at-2 Inv-loop μ-loop
-add-put-detail-at-2 c =
-    let start = c .before .before .before .before .before .before .before .before .before .before .before .before in
-    omega (arith, start .pre, start .good)
-
-add-put-detail-at-3 : tie.Need-add-put-detail-at-3 Inv-loop μ-loop
-add-put-detail-at-3 c =
-    let start = c .before .before .before .before .before .before .before .before .before .before .before .before in
-    omega (arith, start .pre, start .good)
-
-add-put-detail-at-4 : tie.Need-add-put-detail-at-4 Inv-loop μ-loop
-add-put-detail-at-4 c =
-    let start = c .before .before .before .before .before .before .before .before .before .before .before .before in
-    omega (arith, start .pre, start .good)
-
 put-detail-at-requires : tie.Need-put-detail-at-requires Inv-loop μ-loop
 put-detail-at-requires c κs =
     let start = c .before .before .before .before .before .before .before .before .before .before .before .before in
@@ -157,11 +132,6 @@ write-spec =
     part-put-header-end
     put-header-requires
     loop-holds
-    add-put-detail-at
-    mul-put-detail-at
-    add-put-detail-at-2
-    add-put-detail-at-3
-    add-put-detail-at-4
     put-detail-at-requires
     add-j
     loop-less
