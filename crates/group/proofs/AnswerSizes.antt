@@ -6,6 +6,7 @@ use native.Mathlib.Omega.{arith}
 use native.Mathlib.Nat.{not-suc-le-zero, le-of-suc-le-suc}
 use lib.ListN.{length, take}
 use Rattle.ledger.specs.declared.Bill.{Bill}
+use Rattle.ledger.specs.declared.Posted.{Posted}
 use Rattle.ledger.specs.declared.LedgerHeader.{LedgerHeader}
 use Rattle.records.proofs.LayoutLaws.{long-record}
 use Rattle.notices.proofs.AnswerLaws.{length-acf}
@@ -50,6 +51,19 @@ module _ (v : Verdict) (x : LedgerHeader) (b : Bill) (s : List ℕ) (i n : ℕ) 
       go : (w : Verdict) → recordsBy w (groupAt s i n) ≤ 1 + leading (recordsAfter s i n)
       go (Accepted amounts) = omega arith
       go (Rejected m) = omega (arith, length-details s i n)
+
+  -- r is its length
+  abbrev Sized : ℕ → Type 0
+  Sized r = (r ≡ length (answerAt v x b (groupAt s i n))) × (r ≤ (n - i) * 321)
+
+  sized : (r : ℕ) → r ≡ recordsBy v (groupAt s i n) * 321 → Sized r
+  sized r e = (e ∙ sym answer-size, omega (arith, e, records-few, leading-within s i n))
+
+  pub sized-acf : (amounts : Posted) → v ≡ Accepted amounts → Sized 321
+  sized-acf amounts e = sized 321 (rw e)
+
+  pub sized-rej : (m : ℕ) → v ≡ Rejected m → (k : ℕ) → k ≡ leading (recordsAfter s i n) → Sized ((k + 1) * 321)
+  sized-rej m e k l = sized ((k + 1) * 321) (rw e (ap (λ (j : ℕ). (j + 1) * 321) (l ∙ sym (length-details s i n))))
 
   pub answer-long : length (answerAt v x b (groupAt s i n)) ≤ (1 + leading (recordsAfter s i n)) * 321
   answer-long = omega (arith, answer-size, records-few)

@@ -266,6 +266,10 @@ module _ (s : List ℕ) (n : ℕ) (l : Ledger) (writes : Bool) (out₀ : List �
           ∙ ap (λ (x : Verdict). x ∷ verdicts ahead (settled kb g x) (rest s n (i + 1))) (sym same)
           ∙ ap (λ (x : List Verdict). now ∷ x) (sym (ap₂ (λ (x : List Group) (y : Book). verdicts x y (rest s n (i + 1))) (before-header s n i e) book-is))
 
+      -- one verdict more is counted
+      counts-step : (q : Verdict → Bool) → count q (verdicts (before s n i) kb (rest s n i)) ≡ cond (q now) 1 0 + count q (verdicts (before s n (i + 1)) (book after-turn) (rest s n (i + 1)))
+      counts-step q = ap (count q) verdicts-step ∙ count-cons q now (verdicts (before s n (i + 1)) (book after-turn) (rest s n (i + 1)))
+
       answers-step : answers (before s n i) kb (rest s n i) ≡ told ++ answers (before s n (i + 1)) (book after-turn) (rest s n (i + 1))
       unfolding answers
       answers-step =
@@ -298,20 +302,8 @@ module _ (s : List ℕ) (n : ℕ) (l : Ledger) (writes : Bool) (out₀ : List �
                 ∙ stored-stored l kb (settled kb g now) (sym (length-settled kb g now))
                 ∙ ap (stored l) (sym book-is);
             books = sym books-step ∙ w .books;
-            accepted =
-                omega (
-                  arith,
-                  w .accepted,
-                  ap (count isAccepted) verdicts-step,
-                  count-cons isAccepted now (verdicts (before s n (i + 1)) (book after-turn) (rest s n (i + 1))),
-                );
-            rejected =
-                omega (
-                  arith,
-                  w .rejected,
-                  ap (count isRejected) verdicts-step,
-                  count-cons isRejected now (verdicts (before s n (i + 1)) (book after-turn) (rest s n (i + 1))),
-                );
+            accepted = omega (arith, w .accepted, counts-step isAccepted);
+            rejected = omega (arith, w .rejected, counts-step isRejected);
             done = w .done ++ told;
             wrote = out-more writes 0 out₀ out (w .done) (c .written) (w .wrote) told out′ _ (λ z. omega (arith, fits z, long, leading-within s i n)) (turned .bytes) refl;
             bytes =

@@ -8,7 +8,7 @@ ghost use Rattle.records.specs.Limits.{recordSize, fileRecords};
 ghost use Rattle.records.specs.Layout.{recordAt};
 ghost use Rattle.notices.specs.Answers.{acf};
 ghost use Rattle.file.specs.parts.Walk.{groupAt};
-ghost use Rattle.group.specs.parts.Turns.{ifWritten, answerAt, recordsBy};
+ghost use Rattle.group.specs.parts.Turns.{ifWritten, answerAt};
 use ledger::Bill;
 use ledger::LedgerHeader;
 use notices::acf::Acf;
@@ -26,70 +26,7 @@ fn write_acf(out: &mut [u8], at: usize, s: &[u8], i: usize, a: Acf)
     answers::acf::write(out, at, &s[b..e], a);
 }
 
-// How many records the answer to the group has whose header is record i.
-fn records(s: &[u8], i: usize, n: usize, v: Verdict) -> usize
-    requires { ⌜ (i < n) × (n * recordSize ≤ length (now s)) ⌝ }
-    ensures { λ r. ⌜ (r ≡ recordsBy v (groupAt (now (s .entry)) i n)) × (r ≤ n - i) ⌝ }
-{
-    match v {
-        Verdict::Accepted(_) => 1,
-        Verdict::Rejected(_) => file::detail_count(s, i, n) + 1,
-    }
-}
-
-// Writes the answer to the group whose header is record i, where b is the bill at its place and k the records of the answer.
-fn write_answer(
-    out: &mut [u8],
-    at: usize,
-    s: &[u8],
-    i: usize,
-    n: usize,
-    v: Verdict,
-    b: Bill,
-    h: LedgerHeader,
-    k: usize,
-)
-    requires { ⌜ (i < n) × (n * recordSize ≤ length (now s)) × (at + (n - i) * recordSize ≤ length (now out)) ⌝ }
-    requires { ⌜ (k ≡ recordsBy v (groupAt (now s) i n)) × (k ≤ n - i) ⌝ }
-    ensures { λ _. ⌜ now (out .exit) ≡ put (now (out .entry)) at (answerAt v h b (groupAt (now (s .entry)) i n)) ⌝ }
-{
-    let today = h.today;
-    let confirmation = h.confirmation;
-    match v {
-        Verdict::Accepted(_) => {
-            let terms = b.terms;
-            let tracking = h.tracking;
-            write_acf(
-                out,
-                at,
-                s,
-                i,
-                Acf {
-                    terms,
-                    tracking,
-                    today,
-                    confirmation,
-                },
-            );
-        }
-        Verdict::Rejected(code) => {
-            answers::rej::write(
-                out,
-                at,
-                s,
-                i,
-                k - 1,
-                Rej {
-                    code,
-                    today,
-                    confirmation,
-                },
-            );
-        }
-    }
-}
-
-// Writes it where notices are written, and says how long it is.
+// Writes the answer to the group whose header is record i, where b is the bill at its place, if notices are written, and says how long it is.
 pub fn answer(
     out: &mut [u8],
     at: usize,
@@ -105,10 +42,36 @@ pub fn answer(
     requires { ⌜ (writes ≡ true → at + (n - i) * recordSize ≤ length (now out)) ⌝ }
     ensures { λ r. ⌜ (now (out .exit) ≡ put (now (out .entry)) at (ifWritten writes (answerAt v h b (groupAt (now (s .entry)) i n)))) × (r ≡ length (answerAt v h b (groupAt (now (s .entry)) i n))) × (r ≤ (n - i) * recordSize) ⌝ }
 {
-    let k = records(s, i, n, v);
-    if writes {
-        write_answer(out, at, s, i, n, v, b, h, k);
-        return k * RECORD_SIZE;
+    let today = h.today;
+    let confirmation = h.confirmation;
+    match v {
+        Verdict::Accepted(_) => {
+            if writes {
+                let terms = b.terms;
+                let tracking = h.tracking;
+                let a = Acf {
+                    terms,
+                    tracking,
+                    today,
+                    confirmation,
+                };
+                write_acf(out, at, s, i, a);
+                return RECORD_SIZE;
+            }
+            RECORD_SIZE
+        }
+        Verdict::Rejected(code) => {
+            let k = file::detail_count(s, i, n);
+            if writes {
+                let x = Rej {
+                    code,
+                    today,
+                    confirmation,
+                };
+                answers::rej::write(out, at, s, i, k, x);
+                return (k + 1) * RECORD_SIZE;
+            }
+            (k + 1) * RECORD_SIZE
+        }
     }
-    k * RECORD_SIZE
 }

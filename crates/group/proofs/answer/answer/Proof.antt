@@ -1,46 +1,106 @@
--- `group::answer::answer` meets its contract.
-use mathlib.Core.Path.{_≡_, sym, ap, _∙_}
-use Prim.Native.Nat.{ℕ, _*_}
+-- `group::answer::answer` meets its contract, by the verdict that was told.
 use native.Mathlib.Omega.{arith}
 use Rattle.fields.proofs.PutLaws.{put-nil}
-use Rattle.group.proofs.AnswerSizes.{answer-size}
+use Rattle.file.proofs.FileLaws.{header-is, leading-within}
+use Rattle.group.specs.parts.Turns.{answerAt}
+use Rattle.group.proofs.AnswerSizes.{details-are, sized-acf, sized-rej}
 use borrow.Author.Needs.{needs}
 use Rattle.group.proofs.answer.answer.Statement.{statement}
 use Rattle.group.proofs.answer.answer.Tie as tie
 
-records-requires : tie.Need-records-requires
-records-requires c κs = search needs
+enum-told : tie.Need-enum-told
+enum-told c = search needs
 
-write-answer-requires : tie.Need-write-answer-requires
-write-answer-requires c κs = ((c .before .before .before .before .before .pre .0 .0, c .before .before .before .before .before .pre .0 .1, c .before .before .before .before .before .pre .1 (c .before .if1 .taken)), c .before .before .records .ensures)
-
-mul-result : tie.Need-mul-result
-mul-result c = search needs
+write-acf-requires : tie.Need-write-acf-requires
+write-acf-requires c κs =
+    let start = c .before .before .before .before .before .before .before .before in
+    let room = start .pre .1 (c .before .before .if1 .taken) in
+    (omega (arith, start .pre), omega (arith, start .pre, room))
 
 same-length : tie.Need-same-length
 same-length c = search needs
 
 returns : tie.Need-returns
+unfolding answerAt
 returns c =
-    let start = c .before .before .before .before .before .before .before .before in
-    let e = answer-size (start .args .v) (start .args .h) (start .args .b) (start .args .s .now) (start .args .i) (start .args .n) (start .pre .0 .0) (start .pre .0 .1) in
-    (rw (c .before .before .before .before .if1 .taken) (c .before .before .write-answer .ensures), ap (λ (k : ℕ). k * 321) (c .before .before .before .before .before .records .ensures .0) ∙ sym e, omega (arith, c .before .before .before .before .before .records .ensures .1))
+    let start = c .before .before .before .before .before .before .before .before .before .before .before in
+    let a = start .args in
+    let told = c .before .before .before .before .before .before .enum-told .given .1 in
+    let z = sized-acf (a .v) (a .h) (a .b) (a .s .now) (a .i) (a .n) (start .pre .0 .0) (start .pre .0 .1) _ told in
+    (rw (c .before .before .before .before .before .if1 .taken, told, header-is (a .s .now) (a .i) (a .n)) (c .before .before .write-acf .ensures), z .0, z .1)
 
-mul-result-2 : tie.Need-mul-result-2
-mul-result-2 c = search needs
+enum-known-v : tie.Need-enum-known-v
+enum-known-v c = search needs
+
+detail-count-requires : tie.Need-detail-count-requires
+detail-count-requires c κs = search needs
+
+write-requires : tie.Need-write-requires
+write-requires c κs =
+    let start = c .before .before .before .before .before .before .before .before .before in
+    let a = start .args in
+    let room = start .pre .1 (c .before .if2 .taken) in
+    let k = leading-within (a .s .now) (a .i) (a .n) in
+    (omega (arith, start .pre, room, k, c .before .before .detail-count .ensures), omega (arith, start .pre, k, c .before .before .detail-count .ensures))
+
+add-result : tie.Need-add-result
+add-result c = let start = c .before .before .before .before .before .before .before .before .before .before .before .before in omega (arith, start .pre, c .before .before .before .before .before .detail-count .ensures, leading-within (start .args .s .now) (start .args .i) (start .args .n))
+
+mul-result : tie.Need-mul-result
+mul-result c = let start = c .before .before .before .before .before .before .before .before .before .before .before .before in omega (arith, start .pre, c .before .before .before .before .before .detail-count .ensures, leading-within (start .args .s .now) (start .args .i) (start .args .n))
+
+same-length-2 : tie.Need-same-length-2
+same-length-2 c = search needs
 
 returns-2 : tie.Need-returns-2
-returns-2 c = let e = answer-size (c .before .before .before .before .args .v) (c .before .before .before .before .args .h) (c .before .before .before .before .args .b) (c .before .before .before .before .args .s .now) (c .before .before .before .before .args .i) (c .before .before .before .before .args .n) (c .before .before .before .before .pre .0 .0) (c .before .before .before .before .pre .0 .1) in
-    (rw (c .if1 .left) (put-nil _ _), ap (λ (k : ℕ). k * 321) (c .before .records .ensures .0) ∙ sym e, omega (arith, c .before .records .ensures .1))
+unfolding answerAt
+returns-2 c =
+    let start = c .before .before .before .before .before .before .before .before .before .before .before .before in
+    let a = start .args in
+    let told = c .before .before .before .before .before .before .before .v .given .1 in
+    let k = c .before .before .before .before .before .detail-count .ensures in
+    let z = sized-rej (a .v) (a .h) (a .b) (a .s .now) (a .i) (a .n) (start .pre .0 .0) (start .pre .0 .1) _ told _ k in
+    (rw (c .before .before .before .before .if2 .taken, told, header-is (a .s .now) (a .i) (a .n), details-are (a .s .now) (a .i) (a .n) _ k) (c .before .before .write .ensures), z .0, z .1)
+
+add-result-2 : tie.Need-add-result-2
+add-result-2 c = let start = c .before .before .before .before .before .before .before .before in omega (arith, start .pre, c .before .detail-count .ensures, leading-within (start .args .s .now) (start .args .i) (start .args .n))
+
+mul-result-2 : tie.Need-mul-result-2
+mul-result-2 c = let start = c .before .before .before .before .before .before .before .before in omega (arith, start .pre, c .before .detail-count .ensures, leading-within (start .args .s .now) (start .args .i) (start .args .n))
+
+returns-3 : tie.Need-returns-3
+returns-3 c =
+    let start = c .before .before .before .before .before .before in
+    let a = start .args in
+    let told = c .before .enum-told .given .1 in
+    let z = sized-acf (a .v) (a .h) (a .b) (a .s .now) (a .i) (a .n) (start .pre .0 .0) (start .pre .0 .1) _ told in
+    (rw (c .if1 .left) (put-nil _ _), z .0, z .1)
+
+returns-4 : tie.Need-returns-4
+returns-4 c =
+    let start = c .before .before .before .before .before .before .before .before in
+    let a = start .args in
+    let told = c .before .before .before .v .given .1 in
+    let k = c .before .detail-count .ensures in
+    let z = sized-rej (a .v) (a .h) (a .b) (a .s .now) (a .i) (a .n) (start .pre .0 .0) (start .pre .0 .1) _ told _ k in
+    (rw (c .if2 .left) (put-nil _ _), z .0, z .1)
 
 pub answer-spec : {M : Type 1} → statement M
 answer-spec =
     tie.close
     (tie.spec
-    records-requires
-    write-answer-requires
-    mul-result
+    enum-told
+    write-acf-requires
     same-length
     returns
+    enum-known-v
+    detail-count-requires
+    write-requires
+    add-result
+    mul-result
+    same-length-2
+    returns-2
+    add-result-2
     mul-result-2
-    returns-2)
+    returns-3
+    returns-4)
