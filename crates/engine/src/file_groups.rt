@@ -8,30 +8,22 @@ ghost use Rattle.records.specs.Layout.{recordsFrom};
 ghost use Rattle.file.specs.File.{groups};
 ghost use Rattle.group.specs.parts.Turns.{Ready, FitForTurn, TurnLeavesOn, FileTaken};
 ghost use Rattle.records.specs.Limits.{recordSize, fileRecords};
+use group::GroupAt;
 use group::Tally;
 use places::place;
 
 // One group's turn: its bill found, the group decided and answered, and what that leaves stored.
-fn turn(
-    ws: &mut [u64],
-    out: &mut [u8],
-    writes: bool,
-    c: Tally,
-    s: &[u8],
-    i: usize,
-    n: usize,
-    duplicate: bool,
-) -> Tally
-    requires { ⌜ (i < n) × (n * recordSize ≤ length (now s)) × (n ≤ fileRecords) × (writes ≡ true → c .written + (n - i) * recordSize ≤ length (now out)) ⌝ }
+fn turn(ws: &mut [u64], out: &mut [u8], writes: bool, c: Tally, s: &[u8], g: GroupAt) -> Tally
+    requires { ⌜ (g .header < g .records) × (g .records * recordSize ≤ length (now s)) × (g .records ≤ fileRecords) × (writes ≡ true → c .written + (g .records - g .header) * recordSize ≤ length (now out)) ⌝ }
     requires { ⌜ (holdsLedger (now ws) ≡ true) × FitForTurn (ledgerOf (now ws)) c ⌝ }
-    ensures { λ r. ⌜ (holdsLedger (now (ws .exit)) ≡ true) × TurnLeavesOn (now (s .entry)) i n duplicate (ledgerOf (now (ws .entry))) c writes (now (out .entry)) (ledgerOf (now (ws .exit))) (now (out .exit)) r ⌝ }
+    ensures { λ r. ⌜ (holdsLedger (now (ws .exit)) ≡ true) × TurnLeavesOn (now (s .entry)) (g .header) (g .records) (g .duplicate) (ledgerOf (now (ws .entry))) c writes (now (out .entry)) (ledgerOf (now (ws .exit))) (now (out .exit)) r ⌝ }
 {
     let h = place::header(ws);
     let count = h.count;
-    let f = place::find(ws, count, group::identity_at(s, i, n));
+    let f = place::find(ws, count, group::identity_at(s, g.header, g.records));
     let p = ledger::books::bill_place(f, count);
     let b = place::bill_at(ws, p);
-    let x = group::turn(out, writes, c, s, i, n, duplicate, h, f, b);
+    let x = group::turn(out, writes, c, s, g, h, f, b);
     let u = x.update;
     place::update(ws, p, u);
     x.tally
@@ -48,7 +40,12 @@ pub fn take(ws: &mut [u64], out: &mut [u8], writes: bool, s: &[u8], n: usize) ->
     for i in 0..n {
         if file::header_at(s, i) {
             let duplicate = marks[i];
-            c = turn(ws, out, writes, c, s, i, n, duplicate);
+            let g = GroupAt {
+                header: i,
+                records: n,
+                duplicate,
+            };
+            c = turn(ws, out, writes, c, s, g);
         }
     }
     c

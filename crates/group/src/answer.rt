@@ -9,6 +9,7 @@ ghost use Rattle.records.specs.Layout.{recordAt};
 ghost use Rattle.notices.specs.Answers.{acf};
 ghost use Rattle.file.specs.parts.Walk.{groupAt};
 ghost use Rattle.group.specs.parts.Turns.{ifWritten, answerAt};
+use crate::GroupAt;
 use ledger::Bill;
 use ledger::LedgerHeader;
 use notices::acf::Acf;
@@ -26,21 +27,20 @@ fn write_acf(out: &mut [u8], at: usize, s: &[u8], i: usize, a: Acf)
     answers::acf::write(out, at, &s[b..e], a);
 }
 
-// Writes the answer to the group whose header is record i, where b is the bill at its place, if notices are written, and says how long it is.
+// Writes the answer to the group g, where b is the bill at its place, if notices are written, and says how long it is.
 pub fn answer(
     out: &mut [u8],
     at: usize,
     writes: bool,
     s: &[u8],
-    i: usize,
-    n: usize,
+    g: GroupAt,
     v: Verdict,
     b: Bill,
     h: LedgerHeader,
 ) -> usize
-    requires { ⌜ (i < n) × (n * recordSize ≤ length (now s)) × (n ≤ fileRecords) ⌝ }
-    requires { ⌜ (writes ≡ true → at + (n - i) * recordSize ≤ length (now out)) ⌝ }
-    ensures { λ r. ⌜ (now (out .exit) ≡ put (now (out .entry)) at (ifWritten writes (answerAt v h b (groupAt (now (s .entry)) i n)))) × (r ≡ length (answerAt v h b (groupAt (now (s .entry)) i n))) × (r ≤ (n - i) * recordSize) ⌝ }
+    requires { ⌜ (g .header < g .records) × (g .records * recordSize ≤ length (now s)) × (g .records ≤ fileRecords) ⌝ }
+    requires { ⌜ (writes ≡ true → at + (g .records - g .header) * recordSize ≤ length (now out)) ⌝ }
+    ensures { λ r. ⌜ (now (out .exit) ≡ put (now (out .entry)) at (ifWritten writes (answerAt v h b (groupAt (now (s .entry)) (g .header) (g .records))))) × (r ≡ length (answerAt v h b (groupAt (now (s .entry)) (g .header) (g .records)))) × (r ≤ (g .records - g .header) * recordSize) ⌝ }
 {
     let today = h.today;
     let confirmation = h.confirmation;
@@ -55,20 +55,20 @@ pub fn answer(
                     today,
                     confirmation,
                 };
-                write_acf(out, at, s, i, a);
+                write_acf(out, at, s, g.header, a);
                 return RECORD_SIZE;
             }
             RECORD_SIZE
         }
         Verdict::Rejected(code) => {
-            let k = file::detail_count(s, i, n);
+            let k = file::detail_count(s, g.header, g.records);
             if writes {
                 let x = Rej {
                     code,
                     today,
                     confirmation,
                 };
-                answers::rej::write(out, at, s, i, k, x);
+                answers::rej::write(out, at, s, g.header, k, x);
                 return (k + 1) * RECORD_SIZE;
             }
             (k + 1) * RECORD_SIZE

@@ -24,6 +24,13 @@ use verdict::Kind;
 use verdict::Sought;
 use verdict::Verdict;
 
+// A group of a file: the record that is its header, how many records the file has, and whether the group gets BR14.
+pub struct GroupAt {
+    pub header: usize,
+    pub records: usize,
+    pub duplicate: bool,
+}
+
 // What came of a file's groups so far: how many were accepted and rejected, how many bytes their answers have, and the sums of the charges that were posted and
 // of those that they replaced.
 pub struct Tally {
@@ -140,21 +147,19 @@ pub fn turn(
     writes: bool,
     c: Tally,
     s: &[u8],
-    i: usize,
-    n: usize,
-    duplicate: bool,
+    g: GroupAt,
     h: LedgerHeader,
     f: Found,
     b: Bill,
 ) -> TurnResult
-    requires { ⌜ (i < n) × (n * recordSize ≤ length (now s)) × (n ≤ fileRecords) × (writes ≡ true → c .written + (n - i) * recordSize ≤ length (now out)) ⌝ }
+    requires { ⌜ (g .header < g .records) × (g .records * recordSize ≤ length (now s)) × (g .records ≤ fileRecords) × (writes ≡ true → c .written + (g .records - g .header) * recordSize ≤ length (now out)) ⌝ }
     requires { ⌜ InWidthsAt f b × WithinFile c × (h .tracking ≤ 1000000200) × (h .confirmation ≤ 1000000200) ⌝ }
-    ensures { λ r. ⌜ TurnLeaves (verdictOn duplicate (h .today) (soughtBy f b) (groupAt (now (s .entry)) i n)) (groupAt (now (s .entry)) i n) h b c writes (now (out .entry)) (now (out .exit)) r ⌝ }
+    ensures { λ r. ⌜ TurnLeaves (verdictOn (g .duplicate) (h .today) (soughtBy f b) (groupAt (now (s .entry)) (g .header) (g .records))) (groupAt (now (s .entry)) (g .header) (g .records)) h b c writes (now (out .entry)) (now (out .exit)) r ⌝ }
 {
-    let sup = file::sup_at(s, i);
+    let sup = file::sup_at(s, g.header);
     let today = h.today;
-    let v = verdict_at(s, i, n, duplicate, sought_by(f, b), today);
-    let size = answer::answer(out, c.written, writes, s, i, n, v, b, h);
+    let v = verdict_at(s, g.header, g.records, g.duplicate, sought_by(f, b), today);
+    let size = answer::answer(out, c.written, writes, s, g, v, b, h);
     let tally = counts::add(c, v, b, size);
     let header = LedgerHeader {
         today,

@@ -8,6 +8,7 @@ ghost use Rattle.file.specs.File.{groups};
 ghost use Rattle.group.specs.parts.Turns.{Ready, FitForTurn, TurnLeavesOn, FileTaken};
 ghost use Rattle.ledger.specs.Limits.{ledgerPlaces};
 ghost use Rattle.groups.specs.parts.Standing.{StandsIn};
+use group::GroupAt;
 use group::Tally;
 use ledger::Bill;
 use ledger::Identity;
@@ -53,18 +54,18 @@ pub struct Taken {
 }
 
 // One group's turn: its bill found, the group decided and answered, and what that leaves stored.
-fn turn(t: Taken, out: &mut [u8], s: &[u8], i: usize, n: usize, duplicate: bool) -> Taken
-    requires { ⌜ (i < n) × (n * recordSize ≤ length (now s)) × (n ≤ fileRecords) × (t .tally .written + (n - i) * recordSize ≤ length (now out)) ⌝ }
+fn turn(t: Taken, out: &mut [u8], s: &[u8], g: GroupAt) -> Taken
+    requires { ⌜ (g .header < g .records) × (g .records * recordSize ≤ length (now s)) × (g .records ≤ fileRecords) × (t .tally .written + (g .records - g .header) * recordSize ≤ length (now out)) ⌝ }
     requires { ⌜ FitForTurn (t .ledger) (t .tally) ⌝ }
-    ensures { λ r. ⌜ TurnLeavesOn (now (s .entry)) i n duplicate (t .ledger) (t .tally) true (now (out .entry)) (r .ledger) (now (out .exit)) (r .tally) ⌝ }
+    ensures { λ r. ⌜ TurnLeavesOn (now (s .entry)) (g .header) (g .records) (g .duplicate) (t .ledger) (t .tally) true (now (out .entry)) (r .ledger) (now (out .exit)) (r .tally) ⌝ }
 {
     let l = t.ledger;
     let c = t.tally;
-    let r = read_for(l, group::identity_at(s, i, n));
+    let r = read_for(l, group::identity_at(s, g.header, g.records));
     let h = r.header;
     let f = r.found;
     let b = r.bill;
-    let x = group::turn(out, true, c, s, i, n, duplicate, h, f, b);
+    let x = group::turn(out, true, c, s, g, h, f, b);
     let u = x.update;
     let tally = x.tally;
     let next = l.updated(r.place, u);
@@ -88,7 +89,12 @@ pub fn take_groups(l: Ledger, out: &mut [u8], s: &[u8], n: usize) -> Taken
     for i in 0..n {
         if file::header_at(s, i) {
             let duplicate = marks[i];
-            t = turn(t, out, s, i, n, duplicate);
+            let g = GroupAt {
+                header: i,
+                records: n,
+                duplicate,
+            };
+            t = turn(t, out, s, g);
         }
     }
     t

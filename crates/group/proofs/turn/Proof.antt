@@ -35,13 +35,13 @@ add-requires c κs =
 ids-used-requires : tie.Need-ids-used-requires
 ids-used-requires c κs = search needs
 
-add-t23 : tie.Need-add-t23
-add-t23 c =
+add-t21 : tie.Need-add-t21
+add-t21 c =
     let start = c .before .before .before .before .before .before .before .before .before .before .before .before .before in
     omega (arith, c .before .ids-used .ensures .1, start .pre .1)
 
-add-t24 : tie.Need-add-t24
-add-t24 c =
+add-t22 : tie.Need-add-t22
+add-t22 c =
     let start = c .before .before .before .before .before .before .before .before .before .before .before .before .before .before in
     omega (arith, start .pre .1)
 
@@ -61,7 +61,7 @@ returns c =
     let at-sought-by = at-verdict-at .before in
     let at-sup-at = at-sought-by .before .before in
     let start = at-sup-at .before .before .before in
-    turn-done (start .args .out .now) _ (start .args .writes) (start .args .c) (start .args .s .now) (start .args .i) (start .args .n) (start .args .duplicate) (start .args .h) (start .args .f) (start .args .b) _ (at-sup-at .sup-at .ensures) _ (verdict-now _ _ (start .args .f) (start .args .b) _ _ _ (at-sought-by .sought-by .ensures) (at-verdict-at .verdict-at .ensures)) _ (c .before .before .before .before .before .before .before .answer .ensures .1) (c .before .before .before .before .before .before .before .answer .ensures .0) _ (c .before .before .before .before .add .ensures) _ (c .before .before .before .ids-used .ensures .0) _ (c .post .ensures)
+    turn-done (start .args .out .now) _ (start .args .writes) (start .args .c) (start .args .s .now) (start .args .g .header) (start .args .g .records) (start .args .g .duplicate) (start .args .h) (start .args .f) (start .args .b) _ (at-sup-at .sup-at .ensures) _ (verdict-now _ _ (start .args .f) (start .args .b) _ _ _ (at-sought-by .sought-by .ensures) (at-verdict-at .verdict-at .ensures)) _ (c .before .before .before .before .before .before .before .answer .ensures .1) (c .before .before .before .before .before .before .before .answer .ensures .0) _ (c .before .before .before .before .add .ensures) _ (c .before .before .before .ids-used .ensures .0) _ (c .post .ensures)
 
 pub turn-spec : {M : Type 1} → statement M
 turn-spec =
@@ -73,8 +73,8 @@ turn-spec =
     answer-requires
     add-requires
     ids-used-requires
-    add-t23
-    add-t24
+    add-t21
+    add-t22
     post-requires
     same-length
     returns)

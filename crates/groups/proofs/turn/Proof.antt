@@ -17,7 +17,7 @@ turn-requires c κs =
     let start = at-read .before .before .before .before .before .before in
     let fit = start .pre .1 in
     let r = at-read .read-for .ensures in
-    let calm = turn-calm (start .args .t .ledger) (start .args .t .tally) fit (start .args .s .now) (start .args .i) (start .args .n) _ (at-read .before .identity-at .ensures) _ (r .found) _ (r .place) _ (r .bill) in
+    let calm = turn-calm (start .args .t .ledger) (start .args .t .tally) fit (start .args .s .now) (start .args .g .header) (start .args .g .records) _ (at-read .before .identity-at .ensures) _ (r .found) _ (r .place) _ (r .bill) in
     ((start .pre .0 .0, start .pre .0 .1, start .pre .0 .2, λ z. start .pre .0 .3), (calm, fit .few, rw (r .header) (fit .tracking), rw (r .header) (fit .confirmation)))
 
 updated-requires : tie.Need-updated-requires
@@ -32,7 +32,7 @@ returns c =
     let at-read = at-turn .before .before .before .before in
     let start = at-read .before .before .before .before .before .before in
     let r = at-read .read-for .ensures in
-    turn-on (start .args .t .ledger) (start .args .t .tally) (start .pre .1) (start .args .s .now) (start .args .i) (start .args .n) _ (at-read .before .identity-at .ensures) _ (r .found) _ (r .place) _ (r .bill) _ _ _ _ _ (rw (r .header) at (at-turn .turn .ensures)) _ (c .updated .ensures)
+    turn-on (start .args .t .ledger) (start .args .t .tally) (start .pre .1) (start .args .s .now) (start .args .g .header) (start .args .g .records) _ (at-read .before .identity-at .ensures) _ (r .found) _ (r .place) _ (r .bill) _ _ _ _ _ (rw (r .header) at (at-turn .turn .ensures)) _ (c .updated .ensures)
 
 pub turn-spec : {M : Type 1} → statement M
 turn-spec = tie.close (tie.spec identity-at-requires read-for-requires turn-requires updated-requires same-length returns)

@@ -28,7 +28,7 @@ bill-at-requires c κs = search needs
 turn-requires : tie.Need-turn-requires
 turn-requires c κs =
     let start = c .before .before .before .before .before .before .before .before .before .before .before .before in
-    (start .pre .0, (turn-calm (ledgerOf (start .args .ws .now)) (start .args .c) (start .pre .1 .1) (start .args .s .now) (start .args .i) (start .args .n) _ (c .before .before .before .before .before .identity-at .ensures) _ (found-is (start .args .ws .now) _ _ (c .before .before .before .before .before .before .before .header .ensures) _ (c .before .before .before .before .find .ensures)) _ (place-is (start .args .ws .now) _ _ (c .before .before .before .before .before .before .before .header .ensures) _ (c .before .before .before .before .find .ensures) _ (c .before .before .before .bill-place .ensures .0)) _ (c .before .bill-at .ensures), start .pre .1 .1 .few, rw (c .before .before .before .before .before .before .before .header .ensures) (start .pre .1 .1 .tracking), rw (c .before .before .before .before .before .before .before .header .ensures) (start .pre .1 .1 .confirmation)))
+    (start .pre .0, (turn-calm (ledgerOf (start .args .ws .now)) (start .args .c) (start .pre .1 .1) (start .args .s .now) (start .args .g .header) (start .args .g .records) _ (c .before .before .before .before .before .identity-at .ensures) _ (found-is (start .args .ws .now) _ _ (c .before .before .before .before .before .before .before .header .ensures) _ (c .before .before .before .before .find .ensures)) _ (place-is (start .args .ws .now) _ _ (c .before .before .before .before .before .before .before .header .ensures) _ (c .before .before .before .before .find .ensures) _ (c .before .before .before .bill-place .ensures .0)) _ (c .before .bill-at .ensures), start .pre .1 .1 .few, rw (c .before .before .before .before .before .before .before .header .ensures) (start .pre .1 .1 .tracking), rw (c .before .before .before .before .before .before .before .header .ensures) (start .pre .1 .1 .confirmation)))
 
 update-requires : tie.Need-update-requires
 update-requires c κs =
@@ -51,7 +51,7 @@ returns c =
     let at-identity-at = at-find .before in
     let at-header = at-identity-at .before .before in
     let start = at-header .before .before .before .before .before in
-    (c .before .before .before .update .ensures .0, turn-on (ledgerOf (start .args .ws .now)) (start .args .c) (start .pre .1 .1) (start .args .s .now) (start .args .i) (start .args .n) _ (at-identity-at .identity-at .ensures) _ (found-is (start .args .ws .now) _ _ (at-header .header .ensures) _ (at-find .find .ensures)) _ (place-is (start .args .ws .now) _ _ (at-header .header .ensures) _ (at-find .find .ensures) _ (at-place .bill-place .ensures .0)) _ (at-bill-at .bill-at .ensures) (start .args .duplicate) (start .args .writes) (start .args .out .now) _ (at-turn .turn .result) (turned-here (start .args .duplicate) (at-find .find .result) (at-bill-at .bill-at .result) (groupAt (start .args .s .now) (start .args .i) (start .args .n)) (start .args .c) (start .args .writes) (start .args .out .now) _ (at-turn .turn .result) (at-header .header .result) (headerOf (ledgerOf (start .args .ws .now))) (at-header .header .ensures) (at-turn .turn .ensures)) _ (c .before .before .before .update .ensures .1))
+    (c .before .before .before .update .ensures .0, turn-on (ledgerOf (start .args .ws .now)) (start .args .c) (start .pre .1 .1) (start .args .s .now) (start .args .g .header) (start .args .g .records) _ (at-identity-at .identity-at .ensures) _ (found-is (start .args .ws .now) _ _ (at-header .header .ensures) _ (at-find .find .ensures)) _ (place-is (start .args .ws .now) _ _ (at-header .header .ensures) _ (at-find .find .ensures) _ (at-place .bill-place .ensures .0)) _ (at-bill-at .bill-at .ensures) (start .args .g .duplicate) (start .args .writes) (start .args .out .now) _ (at-turn .turn .result) (turned-here (start .args .g .duplicate) (at-find .find .result) (at-bill-at .bill-at .result) (groupAt (start .args .s .now) (start .args .g .header) (start .args .g .records)) (start .args .c) (start .args .writes) (start .args .out .now) _ (at-turn .turn .result) (at-header .header .result) (headerOf (ledgerOf (start .args .ws .now))) (at-header .header .ensures) (at-turn .turn .ensures)) _ (c .before .before .before .update .ensures .1))
 
 pub turn-spec : {M : Type 1} → statement M
 turn-spec =
