@@ -1,7 +1,7 @@
 -- An entry by its call on the words. Assumes nothing.
 use Prim.Native.Nat.{ℕ, _-_}
 use mathlib.Core.Path.{_≡_, refl}
-use mathlib.Core.Bool.{Bool, true}
+use mathlib.Core.Bool.{Bool, true, false}
 use mathlib.Core.List.{List}
 use lib.ListN.{take, drop}
 use Rattle.fields.specs.Put.{put, part}
@@ -34,10 +34,10 @@ module _ (writes : Bool) (room : ℕ) (ws out : List ℕ) (sure : soundLedger (l
 
 -- ---- what stands at the start of some bytes
 module _ (writes : Bool) (seen : ℕ) (src ws₀ out₀ : List ℕ) where
-  pub step-cut : headOf seen src ≡ Cut → SteppedIn writes 0 seen src ws₀ out₀ ws₀ out₀ step.Cut
+  pub step-cut : headOf seen src ≡ Cut → SteppedIn writes 0 seen src ws₀ out₀ ws₀ out₀ (step.Left false)
   step-cut e = rw e (refl, refl, refl)
 
-  pub step-bad : headOf seen src ≡ Bad → SteppedIn writes 0 seen src ws₀ out₀ ws₀ out₀ step.Bad
+  pub step-bad : headOf seen src ≡ Bad → SteppedIn writes 0 seen src ws₀ out₀ ws₀ out₀ (step.Left true)
   step-bad e = rw e (refl, refl, refl)
 
   pub step-made : (b : Body) (n : ℕ) → headOf seen src ≡ Whole b n → (ws out : List ℕ) (a : Answer) → EntryCalledIn writes 64200 0 b (take (n - 3) (drop 3 src)) ws₀ out₀ ws out a

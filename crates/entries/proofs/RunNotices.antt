@@ -14,6 +14,7 @@ use Rattle.fields.proofs.PutLaws.{put-lent, put-nil, length-part}
 use Rattle.ledger.specs.Books.{Book, book}
 use Rattle.ledger.specs.Sound.{soundLedger}
 use Rattle.words.specs.Layout.{ledgerOf}
+use Rattle.words.proofs.WordLaws.{words-long, sound-holds}
 use Rattle.group.specs.parts.Turns.{ifWritten}
 use Rattle.group.proofs.OutputLaws.{Out, out-start, out-more}
 use Rattle.calls.specs.declared.Answer.{Answer}
@@ -23,14 +24,13 @@ use Rattle.journal.specs.declared.Head.the-variants.{Cut, Bad, Whole}
 use Rattle.journal.specs.Entries.{headOf}
 use Rattle.journal.specs.Journal.{Entry, afterEntry, afterEntries, callOf}
 use Rattle.journal.specs.EntryCalls.{entryWritten, noticesOf, writtenBy, lengthOf}
-use Rattle.journal.proofs.JournalLaws.{parse-cut, parse-bad}
 use Rattle.journal.proofs.MadeLaws.{made-written}
 use Rattle.journal.proofs.ShortLaws.{made-short, made-length}
 use Rattle.entries.specs.declared.entry.Stepped.{Stepped}
 use Rattle.entries.specs.declared.entry.Stepped.the-variants as step
 use Rattle.entries.specs.parts.Stepping.{StepOn, SteppedIn}
 use Rattle.entries.specs.parts.Running.{entryAt, ranTo, FirstMade, NoneLeft, RanIn}
-use Rattle.entries.proofs.StoodLaws.{Stood, stood-whole, stood-cut, stood-bad}
+use Rattle.entries.proofs.StoodLaws.{Stood, stood-whole, stood-left}
 use Rattle.entries.proofs.FirstMadeLaws.{first-none, left-full, left-none, next-fits, first-more}
 
 -- ---- entries one after another
@@ -99,6 +99,10 @@ module _ (writes : Bool) (n : ℕ) (out₀ : List ℕ) (room : writes ≡ true �
           let short : length (entryWritten 64200 (ledgerOf ws₀) b bytes) ≤ 64200 = omega (arith, made-length 64200 (ledgerOf ws₀) b bytes, made-short (ledgerOf ws₀) b bytes) in
           (w .0, w .1, record { sound = y .sound; ledger = y .ledger; answer = y .answer; bytes = put-said now (entryWritten 64200 (ledgerOf ws₀) b bytes) short (y .bytes) })
 
+-- the words of two sound ledgers are as many
+pub same-words : (ws ws₀ : List ℕ) → soundLedger (ledgerOf ws) ≡ true → soundLedger (ledgerOf ws₀) ≡ true → length ws ≡ length ws₀
+same-words ws ws₀ h h₀ = omega (arith, words-long ws (sound-holds ws h), words-long ws₀ (sound-holds ws₀ h₀))
+
 -- ---- what holds before each entry
 pub record Running (src ws₀ : List ℕ) (seen₀ : ℕ) (writes : Bool) (out₀ ws out : List ℕ) (at seen n : ℕ) : Type 0 where
   pub done : List Entry
@@ -146,15 +150,10 @@ module _ (src ws₀ : List ℕ) (seen₀ : ℕ) (writes : Bool) (out₀ ws out :
 
   module _ (ws′ out′ : List ℕ) (r : Stepped) (s : SteppedIn writes n seen (drop at src) ws out ws′ out′ r) where
     -- no whole entry stands there
-    pub ran-cut : (writes && ltb (length out - n) 64200) ≡ false → r ≡ step.Cut → RanIn seen₀ writes src ws₀ out₀ ws′ out′ (ranTo at seen n false false)
-    ran-cut f e =
-        let x = stood-cut writes n seen (drop at src) ws out ws′ out′ r s e in
-        rw (x .1, x .2) (ends false false f (left-none src at seen n false (parse-cut seen (drop at src) (x .0))))
-
-    pub ran-bad : (writes && ltb (length out - n) 64200) ≡ false → r ≡ step.Bad → RanIn seen₀ writes src ws₀ out₀ ws′ out′ (ranTo at seen n false true)
-    ran-bad f e =
-        let x = stood-bad writes n seen (drop at src) ws out ws′ out′ r s e in
-        rw (x .1, x .2) (ends false true f (left-none src at seen n true (parse-bad seen (drop at src) (x .0))))
+    pub ran-left : (bad : Bool) → (writes && ltb (length out - n) 64200) ≡ false → r ≡ step.Left bad → RanIn seen₀ writes src ws₀ out₀ ws′ out′ (ranTo at seen n false bad)
+    ran-left bad f e =
+        let x = stood-left writes n seen (drop at src) ws out ws′ out′ r s bad e in
+        rw (x .1, x .2) (ends false bad f (left-none src at seen n bad (x .0)))
 
     module _ (m : ℕ) (a : Answer) (e : r ≡ step.Made m a) where
       abbrev was : Stood writes n seen (drop at src) ws out ws′ out′ r s m a

@@ -1,8 +1,8 @@
 -- What stood at the start of some bytes, by what a step answered. Assumes nothing.
 use Prim.Native.Nat.{ℕ, _-_}
 use mathlib.Core.Path.{_≡_, refl, sym, ap, _∙_, subst}
-use mathlib.Core.Bool.{Bool}
-use mathlib.Core.List.{List}
+use mathlib.Core.Bool.{Bool, true, false}
+use mathlib.Core.List.{List, []}
 use native.Mathlib.Omega.{arith}
 use Rattle.fields.specs.Put.{part}
 use Rattle.calls.specs.declared.Answer.{Answer}
@@ -10,6 +10,8 @@ use Rattle.journal.specs.declared.Body.{Body}
 use Rattle.journal.specs.declared.Head.{Head}
 use Rattle.journal.specs.declared.Head.the-variants.{Cut, Bad, Whole}
 use Rattle.journal.specs.Entries.{headOf}
+use Rattle.journal.specs.Journal.{parse}
+use Rattle.journal.proofs.JournalLaws.{parse-cut, parse-bad}
 use Rattle.entries.specs.declared.entry.Stepped.{Stepped}
 use Rattle.entries.specs.declared.entry.Stepped.the-variants as step
 use Rattle.entries.specs.parts.Stepping.{EntryCalledIn, StepOn, SteppedIn}
@@ -23,8 +25,8 @@ module _ (writes : Bool) (n seen : ℕ) (src ws₀ out₀ ws out : List ℕ) (r 
   stood-whole m a q = go (headOf seen src) refl x
     where
       go : (h : Head) → headOf seen src ≡ h → StepOn h writes n src ws₀ out₀ ws out r → Stood m a
-      go Cut e w = let p : step.Cut ≡ step.Made m a = sym (w .2) ∙ q in let z : _≡_ {A = ℕ} 0 1 = cc in absurd (omega arith)
-      go Bad e w = let p : step.Bad ≡ step.Made m a = sym (w .2) ∙ q in let z : _≡_ {A = ℕ} 0 1 = cc in absurd (omega arith)
+      go Cut e w = let p : step.Left false ≡ step.Made m a = sym (w .2) ∙ q in let z : _≡_ {A = ℕ} 0 1 = cc in absurd (omega arith)
+      go Bad e w = let p : step.Left true ≡ step.Made m a = sym (w .2) ∙ q in let z : _≡_ {A = ℕ} 0 1 = cc in absurd (omega arith)
       go (Whole b k) e w =
           let p : step.Made k (w .0) ≡ step.Made m a = sym (w .1) ∙ q in
           let z : k ≡ m = cc in
@@ -35,22 +37,14 @@ module _ (writes : Bool) (n seen : ℕ) (src ws₀ out₀ ws out : List ℕ) (r 
                 (subst (λ (v : Answer). EntryCalledIn writes 64200 n b (part src 3 (k - 3)) ws₀ out₀ ws out v) y (w .2)),
           )
 
-  -- no whole entry: words and output are as they were
-  abbrev pub Neither : Head → Type 0
-  Neither h = (headOf seen src ≡ h) × (ws ≡ ws₀) × (out ≡ out₀)
+  -- no whole entry: nothing is parsed there, and words and output are as they were
+  abbrev pub Neither : Bool → Type 0
+  Neither bad = (parse seen src ≡ record { entries = []; stopped = bad; rest = src }) × (ws ≡ ws₀) × (out ≡ out₀)
 
-  pub stood-cut : r ≡ step.Cut → Neither Cut
-  stood-cut q = go (headOf seen src) refl x
+  pub stood-left : (bad : Bool) → r ≡ step.Left bad → Neither bad
+  stood-left bad q = go (headOf seen src) refl x
     where
-      go : (h : Head) → headOf seen src ≡ h → StepOn h writes n src ws₀ out₀ ws out r → Neither Cut
-      go Cut e w = (e, w .0, w .1)
-      go Bad e w = let p : step.Bad ≡ step.Cut = sym (w .2) ∙ q in let z : _≡_ {A = ℕ} 0 1 = cc in absurd (omega arith)
-      go (Whole b k) e w = let p : step.Made k (w .0) ≡ step.Cut = sym (w .1) ∙ q in let z : _≡_ {A = ℕ} 0 1 = cc in absurd (omega arith)
-
-  pub stood-bad : r ≡ step.Bad → Neither Bad
-  stood-bad q = go (headOf seen src) refl x
-    where
-      go : (h : Head) → headOf seen src ≡ h → StepOn h writes n src ws₀ out₀ ws out r → Neither Bad
-      go Cut e w = let p : step.Cut ≡ step.Bad = sym (w .2) ∙ q in let z : _≡_ {A = ℕ} 0 1 = cc in absurd (omega arith)
-      go Bad e w = (e, w .0, w .1)
-      go (Whole b k) e w = let p : step.Made k (w .0) ≡ step.Bad = sym (w .1) ∙ q in let z : _≡_ {A = ℕ} 0 1 = cc in absurd (omega arith)
+      go : (h : Head) → headOf seen src ≡ h → StepOn h writes n src ws₀ out₀ ws out r → Neither bad
+      go Cut e w = let p : step.Left false ≡ step.Left bad = sym (w .2) ∙ q in let z : false ≡ bad = cc in subst Neither z (parse-cut seen src e, w .0, w .1)
+      go Bad e w = let p : step.Left true ≡ step.Left bad = sym (w .2) ∙ q in let z : true ≡ bad = cc in subst Neither z (parse-bad seen src e, w .0, w .1)
+      go (Whole b k) e w = let p : step.Made k (w .0) ≡ step.Left bad = sym (w .1) ∙ q in let z : _≡_ {A = ℕ} 0 1 = cc in absurd (omega arith)

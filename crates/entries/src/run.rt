@@ -96,11 +96,8 @@ pub fn run(ws: &mut [u64], out: &mut [u8], writes: bool, src: &[u8], seen: u64) 
     while !is_full(writes, out.len(), n) {
         let r = next(ws, out, writes, n, src, at, k);
         match r {
-            Stepped::Cut => {
-                return ran_to(at, k, n, false, false);
-            }
-            Stepped::Bad => {
-                return ran_to(at, k, n, false, true);
+            Stepped::Left(bad) => {
+                return ran_to(at, k, n, false, bad);
             }
             Stepped::Made(m, a) => {
                 at += m;

@@ -24,22 +24,17 @@ use Rattle.calls.specs.Machine.{Outcome}
 use Rattle.calls.proofs.RunLaws.{step-in}
 use Rattle.journal.specs.declared.Body.{Body}
 use Rattle.journal.specs.declared.Body.the-variants as body
-use Rattle.journal.specs.declared.Head.the-variants.{Cut, Bad, Whole}
+use Rattle.journal.specs.declared.Head.the-variants.{Whole}
 use Rattle.journal.specs.Entries.{bodyOf, headOf}
 use Rattle.journal.specs.EntryCalls.{entryCalled, entryWritten}
 use Rattle.journal.proofs.HeadLaws.{tagIn, whole-fits, whole-small, whole-holds, whole-bytes}
 use Rattle.journal.proofs.BeginLaws.{whole-taken}
-use Rattle.entries.specs.declared.entry.Stepped.{Stepped}
-use Rattle.entries.specs.declared.entry.Stepped.the-variants as step
-use Rattle.entries.specs.parts.Stepping.{SteppedIn}
 use Rattle.entries.specs.parts.Running.{entryAt}
-use Rattle.entries.proofs.StoodLaws.{stood-whole, stood-cut, stood-bad}
 use Rattle.trace_lines.specs.Lines.{tagOf, callLine, groupLines}
 use Rattle.trace_lines.specs.parts.ReadAnswers.{Lined}
 use Rattle.trace_lines.specs.Trace.{answerTo, entryAnswer, linesUnder, entryLines}
 use Rattle.trace_lines.proofs.TraceLaws.{answer-in, Carried, file-done, file-refused, tag-is, put-begins}
-use Rattle.tracing.specs.declared.Traced.the-variants as traced
-use Rattle.tracing.specs.parts.Tracing.{isDone, LinesOf, EntryIn}
+use Rattle.tracing.specs.parts.Tracing.{isDone, LinesOf}
 
 -- ---- the lines under an entry's line
 module _ (k : Book) (bytes : List ℕ) where
@@ -158,28 +153,3 @@ module _ (number : ℕ) (src : List ℕ) (n : ℕ) (a : Answer) (sent out₀ : L
             e q w;
         within = s;
       }
-
--- ---- what an entry's turn came to, by what its step answered
-module _ (seen : ℕ) (src ws₀ o₀ ws o : List ℕ) (r : Stepped) (x : SteppedIn true 0 seen src ws₀ o₀ ws o r) where
-  pub was-fits : (m : ℕ) (a : Answer) → r ≡ step.Made m a → (3 ≤ m) × (m ≤ length src) × (m ≤ 64203) × (seen < 1000000000)
-  was-fits m a q =
-      let w = stood-whole true 0 seen src ws₀ o₀ ws o r x m a q in
-      let f = whole-fits seen src (w .0) m (w .1) in
-      (f .0, f .1, omega (arith, f .0, whole-small seen src (w .0) m (w .1)), f .2)
-
-  module _ (at : ℕ) (out₀ : List ℕ) where
-    pub entry-cut : r ≡ step.Cut → EntryIn seen src at ws₀ out₀ ws out₀ (traced.Left false)
-    entry-cut q = let w = stood-cut true 0 seen src ws₀ o₀ ws o r x q in rw (w .0) (w .1, refl, refl)
-
-    pub entry-bad : r ≡ step.Bad → EntryIn seen src at ws₀ out₀ ws out₀ (traced.Left true)
-    entry-bad q = let w = stood-bad true 0 seen src ws₀ o₀ ws o r x q in rw (w .0) (w .1, refl, refl)
-
-    pub entry-made : soundLedger (ledgerOf ws₀) ≡ true → (m : ℕ) (a : Answer) → r ≡ step.Made m a → (out : List ℕ) (end : ℕ)
-        → LinesOf (seen + 1) src m a o out₀ at out end → EntryIn seen src at ws₀ out₀ ws out (traced.Made m end)
-    entry-made h m a q out end p =
-        let w = stood-whole true 0 seen src ws₀ o₀ ws o r x m a q in
-        let y = w .2 in
-        let s : List ℕ = entryWritten 64200 (ledgerOf ws₀) (w .0) (part src 3 (m - 3)) in
-        let g = p .lines seen (ledgerOf ws₀) (w .0) (drop (0 + length s) o₀) (w .1) h (y .answer) (y .bytes ∙ put-begins o₀ s) in
-        rw (w .1)
-        (end, refl, record { sound = y .sound; ledger = y .ledger; bytes = g .0; long = g .1; within = p .within })

@@ -8,23 +8,24 @@ use native.Mathlib.Nat.{add-zero, zero-add}
 use lib.ListN.{length, take, drop, length-drop}
 use lib.Seq.{take-all}
 use borrow.Author.Tests.{lt-ltb, le-ltb}
-use Rattle.fields.specs.Put.{put}
+use Rattle.fields.specs.Put.{put, part}
 use Rattle.fields.proofs.PutLaws.{first, next, put-nil}
 use Rattle.ledger.specs.Books.{Book, book}
 use Rattle.ledger.specs.Sound.{soundLedger}
 use Rattle.words.specs.Layout.{ledgerOf}
-use Rattle.journal.specs.declared.Body.{Body}
-use Rattle.journal.specs.declared.Head.{Head}
-use Rattle.journal.specs.declared.Head.the-variants.{Cut, Bad, Whole}
-use Rattle.journal.specs.Entries.{headOf}
+use Rattle.calls.specs.declared.Answer.{Answer}
 use Rattle.journal.specs.Journal.{Entry, parse, afterEntry, afterEntries}
-use Rattle.journal.proofs.JournalLaws.{parse-cut, parse-bad}
+use Rattle.journal.specs.EntryCalls.{entryWritten}
+use Rattle.journal.proofs.HeadLaws.{whole-small}
+use Rattle.entries.specs.declared.entry.Stepped.{Stepped}
+use Rattle.entries.specs.declared.entry.Stepped.the-variants as step
+use Rattle.entries.specs.parts.Stepping.{SteppedIn}
 use Rattle.entries.specs.parts.Running.{entryAt, ranTo}
+use Rattle.entries.proofs.StoodLaws.{Stood, stood-whole, stood-left}
 use Rattle.entries.proofs.FirstMadeLaws.{first-none, left-full, left-none, next-fits, first-more}
 use Rattle.trace_lines.specs.Trace.{entryLines, traceLines}
-use Rattle.tracing.specs.declared.Traced.{Traced}
-use Rattle.tracing.specs.declared.Traced.the-variants as traced
-use Rattle.tracing.specs.parts.Tracing.{EntryMade, EntryOn, EntryIn, Traces, TracesIn}
+use Rattle.trace_lines.proofs.TraceLaws.{put-begins}
+use Rattle.tracing.specs.parts.Tracing.{LinesOf, Traces, TracesIn}
 
 -- ---- entries one after another
 pub lines-append : (number : ℕ) (k : Book) (es fs : List Entry)
@@ -42,42 +43,13 @@ lines-append number k (e ∷ es) fs =
 pub rest-is : (src : List ℕ) (at : ℕ) → take (length src - at) (drop at src) ≡ drop at src
 rest-is src at = take-all (length src - at) (drop at src) (omega (arith, length-drop at src))
 
+pub within-rest : (src : List ℕ) (at m : ℕ) → at + m ≤ length src → m ≤ length (take (length src - at) (drop at src))
+within-rest src at m h = omega (arith, ap length (rest-is src at), length-drop at src)
+
 pub traces-start : (seen : ℕ) (src ws out : List ℕ) → soundLedger (ledgerOf ws) ≡ true → Traces seen src ws out ws out 0 seen 0
 unfolding traceLines
 traces-start seen src ws out h =
     record { done = []; made = first-none seen src ws h; kept = refl; bytes = put-nil out 0; written = refl; within = omega arith }
-
--- ---- what stood there, by what an entry's turn answered
-module _ (k : ℕ) (s : List ℕ) (n : ℕ) (ws out ws′ out′ : List ℕ) (r : Traced) (x : EntryIn k s n ws out ws′ out′ r) where
-  abbrev Was : ℕ → ℕ → Type 0
-  Was m end = (b : Body) × (headOf k s ≡ Whole b m) × EntryMade b m k s n ws out ws′ out′ end
-
-  was-made : (m end : ℕ) → r ≡ traced.Made m end → Was m end
-  was-made m end q = go (headOf k s) refl x
-    where
-      go : (h : Head) → headOf k s ≡ h → EntryOn h k s n ws out ws′ out′ r → Was m end
-      go Cut e w = let p : traced.Left false ≡ traced.Made m end = sym (w .2) ∙ q in let z : _≡_ {A = ℕ} 0 1 = cc in absurd (omega arith)
-      go Bad e w = let p : traced.Left true ≡ traced.Made m end = sym (w .2) ∙ q in let z : _≡_ {A = ℕ} 0 1 = cc in absurd (omega arith)
-      go (Whole b i) e w =
-          let p : traced.Made i (w .0) ≡ traced.Made m end = sym (w .1) ∙ q in
-          let z : i ≡ m = cc in
-          let y : w .0 ≡ end = cc in (
-            b,
-            e ∙ ap (λ (j : ℕ). Whole b j) z,
-            subst (λ (j : ℕ). EntryMade b j k s n ws out ws′ out′ end) z
-                (subst (λ (v : ℕ). EntryMade b i k s n ws out ws′ out′ v) y (w .2)),
-          )
-
-  abbrev None : Bool → Type 0
-  None bad = (parse k s ≡ record { entries = []; stopped = bad; rest = s }) × (ws′ ≡ ws) × (out′ ≡ out)
-
-  was-left : (bad : Bool) → r ≡ traced.Left bad → None bad
-  was-left bad q = go (headOf k s) refl x
-    where
-      go : (h : Head) → headOf k s ≡ h → EntryOn h k s n ws out ws′ out′ r → None bad
-      go Cut e w = let p : traced.Left false ≡ traced.Left bad = sym (w .2) ∙ q in let z : false ≡ bad = cc in subst None z (parse-cut k s e, w .0, w .1)
-      go Bad e w = let p : traced.Left true ≡ traced.Left bad = sym (w .2) ∙ q in let z : true ≡ bad = cc in subst None z (parse-bad k s e, w .0, w .1)
-      go (Whole b i) e w = let p : traced.Made i (w .0) ≡ traced.Left bad = sym (w .1) ∙ q in let z : _≡_ {A = ℕ} 0 1 = cc in absurd (omega arith)
 
 -- ---- one entry more
 module _ (seen : ℕ) (src ws₀ out₀ ws out : List ℕ) (at k n : ℕ) (w : Traces seen src ws₀ out₀ ws out at k n) where
@@ -88,17 +60,16 @@ module _ (seen : ℕ) (src ws₀ out₀ ws out : List ℕ) (at k n : ℕ) (w : T
       → TracesIn seen src ws₀ out₀ ws out (ranTo at k n false bad)
   ended bad f e = record { traces = w; full = sym (le-ltb (length out₀ - n) 8652 (omega (arith, w .kept))); rest = left-none src at k n bad e }
 
-  module _ (room : 8652 ≤ length out - n) (ws′ out′ : List ℕ) (r : Traced)
-      (y : EntryIn k (take (length src - at) (drop at src)) n ws out ws′ out′ r) where
-    turn : EntryIn k (drop at src) n ws out ws′ out′ r
-    turn = subst (λ (s : List ℕ). EntryIn k s n ws out ws′ out′ r) (rest-is src at) y
+  module _ (sent ws′ sent′ : List ℕ) (r : Stepped) (y : SteppedIn true 0 k (take (length src - at) (drop at src)) ws sent ws′ sent′ r) where
+    turn : SteppedIn true 0 k (drop at src) ws sent ws′ sent′ r
+    turn = subst (λ (s : List ℕ). SteppedIn true 0 k s ws sent ws′ sent′ r) (rest-is src at) y
 
-    pub traces-left : (bad : Bool) → r ≡ traced.Left bad → TracesIn seen src ws₀ out₀ ws′ out′ (ranTo at k n false bad)
-    traces-left bad q = let x = was-left k (drop at src) n ws out ws′ out′ r turn bad q in rw (x .1, x .2) (ended bad room (x .0))
+    pub traces-left : (bad : Bool) → r ≡ step.Left bad → 8652 ≤ length out - n → TracesIn seen src ws₀ out₀ ws′ out (ranTo at k n false bad)
+    traces-left bad q f = let x = stood-left true 0 k (drop at src) ws sent ws′ sent′ r turn bad q in rw (x .1) (ended bad f (x .0))
 
-    module _ (m end : ℕ) (q : r ≡ traced.Made m end) where
-      abbrev was : Was k (drop at src) n ws out ws′ out′ r turn m end
-      was = was-made k (drop at src) n ws out ws′ out′ r turn m end q
+    module _ (m : ℕ) (a : Answer) (q : r ≡ step.Made m a) where
+      abbrev was : Stood true 0 k (drop at src) ws sent ws′ sent′ r turn m a
+      was = stood-whole true 0 k (drop at src) ws sent ws′ sent′ r turn m a q
 
       abbrev one : Entry
       one = entryAt (drop at src) (was .0) m
@@ -109,8 +80,10 @@ module _ (seen : ℕ) (src ws₀ out₀ ws out : List ℕ) (at k n : ℕ) (w : T
       abbrev lines : List ℕ
       lines = entryLines (book (ledgerOf ws)) (k + 1) one
 
-      pub traces-fits : (3 ≤ m) × (at + m ≤ length src) × (k < 1000000000)
-      traces-fits = next-fits seen src ws₀ ws at k (w .done) (w .made) (was .0) m (was .1)
+      pub traces-fits : (3 ≤ m) × (at + m ≤ length src) × (m ≤ 64203) × (k < 1000000000)
+      traces-fits =
+          let x = next-fits seen src ws₀ ws at k (w .done) (w .made) (was .0) m (was .1) in
+          (x .0, x .1, omega (arith, x .0, whole-small k (drop at src) (was .0) m (was .1)), x .2)
 
       all-lines : so-far ++ lines ≡ traceLines (seen + 1) (book (ledgerOf ws₀)) (w .done ++ (one ∷ []))
       unfolding traceLines
@@ -120,14 +93,23 @@ module _ (seen : ℕ) (src ws₀ out₀ ws out : List ℕ) (at k n : ℕ) (w : T
           ∙ ap₂ (λ (j : Book) (x : ℕ). so-far ++ traceLines x j (one ∷ [])) (w .made .books) i
           ∙ sym (lines-append (seen + 1) (book (ledgerOf ws₀)) (w .done) (one ∷ []))
 
-      pub traces-on : length out′ ≡ length out → Traces seen src ws₀ out₀ ws′ out′ (at + m) (k + 1) end
-      traces-on kept =
-          let g = next (first out₀ 0 so-far (omega arith) (w .bytes) refl) lines (was .2 .bytes ∙ ap (λ (i : ℕ). put out i lines) (w .written ∙ sym (zero-add (length so-far)))) refl in
-          record {
-            done = w .done ++ (one ∷ []);
-            made = first-more seen src ws₀ ws at k (w .done) (w .made) (was .0) m (was .1) ws′ (was .2 .sound) (was .2 .ledger);
-            kept = kept ∙ w .kept;
-            bytes = g .same ∙ ap (put out₀ 0) all-lines;
-            written = omega (arith, was .2 .long, w .written, g .long, ap length all-lines);
-            within = omega (arith, was .2 .within, w .kept, w .within);
-          }
+      module _ (out′ : List ℕ) (end : ℕ) (p : LinesOf (k + 1) (take (length src - at) (drop at src)) m a sent′ out n out′ end) where
+        -- the lines were put behind the others
+        its-lines : (out′ ≡ put out n lines) × (end ≡ n + length lines)
+        its-lines =
+            let s = entryWritten 64200 (ledgerOf ws) (was .0) (part (drop at src) 3 (m - 3)) in
+            subst (λ (x : List ℕ). LinesOf (k + 1) x m a sent′ out n out′ end) (rest-is src at) p .lines k (ledgerOf ws) (was .0) (drop (0 + length s) sent) (was .1) (w .made .sound)
+            (was .2 .answer) (was .2 .bytes ∙ put-begins sent s)
+
+        pub traces-on : 8652 ≤ length out - n → length out′ ≡ length out → Traces seen src ws₀ out₀ ws′ out′ (at + m) (k + 1) end
+        traces-on f kept =
+            let x = its-lines in
+            let g = next (first out₀ 0 so-far (omega arith) (w .bytes) refl) lines (x .0 ∙ ap (λ (i : ℕ). put out i lines) (w .written ∙ sym (zero-add (length so-far)))) refl in
+            record {
+              done = w .done ++ (one ∷ []);
+              made = first-more seen src ws₀ ws at k (w .done) (w .made) (was .0) m (was .1) ws′ (was .2 .sound) (was .2 .ledger);
+              kept = kept ∙ w .kept;
+              bytes = g .same ∙ ap (put out₀ 0) all-lines;
+              written = omega (arith, x .1, w .written, g .long, ap length all-lines);
+              within = omega (arith, p .within, w .kept, w .within);
+            }

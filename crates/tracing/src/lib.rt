@@ -5,7 +5,7 @@ ghost use Prim.Native.Nat.{_+_, _-_, _≤_};
 ghost use lib.ListN.{length};
 ghost use Rattle.ledger.specs.Sound.{soundLedger};
 ghost use Rattle.words.specs.Layout.{ledgerOf};
-ghost use Rattle.tracing.specs.parts.Tracing.{isDone, LinesOf, EntryIn, TracesIn, entryRoom};
+ghost use Rattle.tracing.specs.parts.Tracing.{isDone, LinesOf, TracesIn, entryRoom};
 ghost use Rattle.records.specs.Limits.{fileSize};
 use calls::Answer;
 use entries::entry::Stepped;
@@ -48,35 +48,6 @@ fn put_lines(
     end
 }
 
-// What stands before a reader: no whole good entry, and whether a bad one; or one that was made, with how many bytes it has and where its lines end.
-enum Traced {
-    Left(bool),
-    Made(usize, usize),
-}
-
-// Makes the entry at the start of src, after so many entries, and writes its lines from index `at` on; its notices go to sent.
-fn entry(
-    ws: &mut [u64],
-    sent: &mut [u8],
-    out: &mut [u8],
-    at: usize,
-    src: &[u8],
-    seen: u64,
-) -> Traced
-    requires { ⌜ (soundLedger (ledgerOf (now ws)) ≡ true) × (fileSize ≤ length (now sent)) × (at + entryRoom ≤ length (now out)) ⌝ }
-    ensures { λ r. ⌜ EntryIn seen (now (src .entry)) at (now (ws .entry)) (now (out .entry)) (now (ws .exit)) (now (out .exit)) r ⌝ }
-{
-    let r = entries::entry::step(ws, sent, src, seen, true);
-    match r {
-        Stepped::Cut => Traced::Left(false),
-        Stepped::Bad => Traced::Left(true),
-        Stepped::Made(n, a) => {
-            let number = seen + 1;
-            Traced::Made(n, put_lines(out, at, src, n, number, a, sent))
-        }
-    }
-}
-
 // Makes the entries at the start of src, after so many entries, and writes their lines, as long as the output has room for another entry's.
 pub fn run(ws: &mut [u64], sent: &mut [u8], out: &mut [u8], src: &[u8], seen: u64) -> Ran
     requires { ⌜ (soundLedger (ledgerOf (now ws)) ≡ true) × (fileSize ≤ length (now sent)) ⌝ }
@@ -86,15 +57,16 @@ pub fn run(ws: &mut [u64], sent: &mut [u8], out: &mut [u8], src: &[u8], seen: u6
     let mut k = seen;
     let mut n = 0;
     while ENTRY_ROOM <= out.len() - n {
-        let r = entry(ws, sent, out, n, &src[used..], k);
+        let rest = &src[used..];
+        let r = entries::entry::step(ws, sent, rest, k, true);
         match r {
-            Traced::Left(bad) => {
+            Stepped::Left(bad) => {
                 return entries::run::ran_to(used, k, n, false, bad);
             }
-            Traced::Made(m, end) => {
+            Stepped::Made(m, a) => {
+                n = put_lines(out, n, rest, m, k + 1, a, sent);
                 used += m;
                 k += 1;
-                n = end;
             }
         }
     }

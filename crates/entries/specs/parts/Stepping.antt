@@ -1,7 +1,7 @@
 -- What the contracts of the entries cite: an entry of a journal, made on a ledger that is lent as words. Assumes nothing.
 use Prim.Native.Nat.{ℕ, _-_}
 use mathlib.Core.Path.{_≡_}
-use mathlib.Core.Bool.{Bool, true}
+use mathlib.Core.Bool.{Bool, true, false}
 use mathlib.Core.List.{List}
 use Rattle.fields.specs.Put.{put, part}
 use Rattle.ledger.specs.Sound.{soundLedger}
@@ -27,8 +27,8 @@ pub record EntryCalledIn (writes : Bool) (room at : ℕ) (b : Body) (s ws₀ out
 
 -- what stands at the start of src, made: where no whole entry does, words and output are as they were
 abbrev pub StepOn : Head → Bool → ℕ → List ℕ → List ℕ → List ℕ → List ℕ → List ℕ → Stepped → Type 0
-StepOn Cut writes at src ws₀ out₀ ws out r = (ws ≡ ws₀) × (out ≡ out₀) × (r ≡ step.Cut)
-StepOn Bad writes at src ws₀ out₀ ws out r = (ws ≡ ws₀) × (out ≡ out₀) × (r ≡ step.Bad)
+StepOn Cut writes at src ws₀ out₀ ws out r = (ws ≡ ws₀) × (out ≡ out₀) × (r ≡ step.Left false)
+StepOn Bad writes at src ws₀ out₀ ws out r = (ws ≡ ws₀) × (out ≡ out₀) × (r ≡ step.Left true)
 StepOn (Whole b n) writes at src ws₀ out₀ ws out r =
     (a : Answer) × (r ≡ step.Made n a) × EntryCalledIn writes fileSize at b (part src 3 (n - 3)) ws₀ out₀ ws out a
 

@@ -13,16 +13,13 @@ use Rattle.words.specs.Layout.{ledgerOf}
 use Rattle.calls.specs.declared.Answer.{Answer}
 use Rattle.calls.specs.declared.Answer.the-variants.{Done, Refused}
 use Rattle.journal.specs.declared.Body.{Body}
-use Rattle.journal.specs.declared.Head.{Head}
-use Rattle.journal.specs.declared.Head.the-variants.{Cut, Bad, Whole}
+use Rattle.journal.specs.declared.Head.the-variants.{Whole}
 use Rattle.journal.specs.Entries.{headOf}
 use Rattle.journal.specs.Journal.{Entry}
 use Rattle.journal.specs.EntryCalls.{entryCalled, entryWritten}
 use Rattle.entries.specs.declared.run.Ran.{Ran}
 use Rattle.entries.specs.parts.Running.{entryAt, FirstMade, NoneLeft}
 use Rattle.trace_lines.specs.Trace.{entryLines, traceLines}
-use Rattle.tracing.specs.declared.Traced.{Traced}
-use Rattle.tracing.specs.declared.Traced.the-variants as traced
 use Rattle.records.specs.Limits.{fileSize}
 
 -- a call was carried out
@@ -41,24 +38,6 @@ pub record LinesOf (number : ℕ) (src : List ℕ) (n : ℕ) (a : Answer) (sent 
       → a ≡ entryCalled fileSize l b (part src 3 (n - 3)) .answer → sent ≡ entryWritten fileSize l b (part src 3 (n - 3)) ++ rest
       → (out ≡ put out₀ at (entryLines (book l) number (entryAt src b n))) × (r ≡ at + length (entryLines (book l) number (entryAt src b n)))
   pub within : r ≤ at + entryRoom
-
--- ---- one entry
--- the entry of n bytes at the start of src was made, after so many entries, and its lines were put at `at` and end at `end`
-pub record EntryMade (b : Body) (n seen : ℕ) (src : List ℕ) (at : ℕ) (ws₀ out₀ ws out : List ℕ) (end : ℕ) : Type 0 where
-  pub sound : soundLedger (ledgerOf ws) ≡ true
-  pub ledger : ledgerOf ws ≡ entryCalled fileSize (ledgerOf ws₀) b (part src 3 (n - 3)) .ledger
-  pub bytes : out ≡ put out₀ at (entryLines (book (ledgerOf ws₀)) (seen + 1) (entryAt src b n))
-  pub long : end ≡ at + length (entryLines (book (ledgerOf ws₀)) (seen + 1) (entryAt src b n))
-  pub within : end ≤ at + entryRoom
-
--- what stands at the start of src, made: where no whole entry does, words and output are as they were
-abbrev pub EntryOn : Head → ℕ → List ℕ → ℕ → List ℕ → List ℕ → List ℕ → List ℕ → Traced → Type 0
-EntryOn Cut seen src at ws₀ out₀ ws out r = (ws ≡ ws₀) × (out ≡ out₀) × (r ≡ traced.Left false)
-EntryOn Bad seen src at ws₀ out₀ ws out r = (ws ≡ ws₀) × (out ≡ out₀) × (r ≡ traced.Left true)
-EntryOn (Whole b n) seen src at ws₀ out₀ ws out r = (end : ℕ) × (r ≡ traced.Made n end) × EntryMade b n seen src at ws₀ out₀ ws out end
-
-abbrev pub EntryIn : ℕ → List ℕ → ℕ → List ℕ → List ℕ → List ℕ → List ℕ → Traced → Type 0
-EntryIn seen src = EntryOn (headOf seen src) seen src
 
 -- ---- entries one after another
 -- the first entries of src were made, after so many entries: they have `at` bytes, `k` entries came by now, and their lines stand at the start of the
