@@ -22,44 +22,28 @@ use Rattle.notices.specs.Answers.{acfTracking, acfScheduled, acf, rejHeader, re
 use Rattle.file.specs.File.{isHeader}
 use Rattle.history.specs.Written.{isAcf, assigns}
 
--- ---- BIL and CXL
-pub bil-header-assigns : (b : Bil) → assigns (bilHeader b) ≡ true
+-- ---- BIL and CXL: a header assigns a Tracking ID, a detail none, and neither is an ACF
+pub bil-header-reads : (b : Bil) → (assigns (bilHeader b) ≡ true) × (isAcf (bilHeader b) ≡ false)
 unfolding assigns isHeader part sameList digits bilHeader header alikeFields
-bil-header-assigns b = refl
+bil-header-reads b = (refl, refl)
 
-pub bil-detail-not : (b : Bil) → assigns (bilDetail b) ≡ false
+pub bil-detail-reads : (b : Bil) → (assigns (bilDetail b) ≡ false) × (isAcf (bilDetail b) ≡ false)
 unfolding assigns isHeader part sameList digits bilDetail bilToOwed bilToTiers detailToKey alikeFields
-bil-detail-not b = refl
+bil-detail-reads b = (refl, refl)
 
-pub cxl-header-assigns : (x : Cxl) → assigns (cxlHeader x) ≡ true
+pub cxl-header-reads : (x : Cxl) → (assigns (cxlHeader x) ≡ true) × (isAcf (cxlHeader x) ≡ false)
 unfolding assigns isHeader part sameList digits cxlHeader header alikeFields
-cxl-header-assigns x = refl
+cxl-header-reads x = (refl, refl)
+
+pub cxl-detail-reads : (x : Cxl) → (assigns (cxlDetail x) ≡ false) × (isAcf (cxlDetail x) ≡ false)
+unfolding assigns isHeader part sameList digits cxlDetail detailToKey alikeFields
+cxl-detail-reads x = (refl, refl)
 
 pub bil-tracking : (b : Bil) → trackingIn (bilHeader b) ≡ digits 9 (b .bill .terms .latest .tracking)
 bil-tracking b = bil-header-at b .alike .tracking
 
 pub cxl-tracking : (x : Cxl) → trackingIn (cxlHeader x) ≡ digits 9 (x .tracking)
 cxl-tracking x = cxl-header-at x .alike .tracking
-
-pub cxl-detail-not : (x : Cxl) → assigns (cxlDetail x) ≡ false
-unfolding assigns isHeader part sameList digits cxlDetail detailToKey alikeFields
-cxl-detail-not x = refl
-
-pub bil-header-not-acf : (b : Bil) → isAcf (bilHeader b) ≡ false
-unfolding part sameList digits bilHeader header alikeFields
-bil-header-not-acf b = refl
-
-pub bil-detail-not-acf : (b : Bil) → isAcf (bilDetail b) ≡ false
-unfolding part sameList digits bilDetail bilToOwed bilToTiers detailToKey alikeFields
-bil-detail-not-acf b = refl
-
-pub cxl-header-not-acf : (x : Cxl) → isAcf (cxlHeader x) ≡ false
-unfolding part sameList digits cxlHeader header alikeFields
-cxl-header-not-acf x = refl
-
-pub cxl-detail-not-acf : (x : Cxl) → isAcf (cxlDetail x) ≡ false
-unfolding part sameList digits cxlDetail detailToKey alikeFields
-cxl-detail-not-acf x = refl
 
 -- ---- ACF
 module _ (h : List ℕ) (a : Acf) (whole : 321 ≤ length h) where

@@ -29,7 +29,7 @@ use Rattle.group.specs.Groups.{sought, answer, isAccepted}
 use Rattle.history.specs.Claim.{All}
 use Rattle.history.specs.Written.{keep, isAcf, assigns, assignedIn, acfsIn}
 use Rattle.history.proofs.WrittenRecordLaws.{records-cons, records-none, Whole, Formed}
-use Rattle.history.proofs.NoticeReads.{bil-tracking, bil-header-assigns, bil-detail-not, cxl-header-assigns, cxl-tracking, cxl-detail-not, bil-header-not-acf, bil-detail-not-acf, cxl-header-not-acf, cxl-detail-not-acf, acf-tracking, acf-is-acf, acf-sup-assigns, acf-rsp-not, rej-header-notice, rej-detail-notice, rej-not-acf, rej-not-assigns}
+use Rattle.history.proofs.NoticeReads.{bil-header-reads, bil-detail-reads, cxl-header-reads, cxl-detail-reads, bil-tracking, cxl-tracking, acf-tracking, acf-is-acf, acf-sup-assigns, acf-rsp-not, rej-header-notice, rej-detail-notice, rej-not-acf, rej-not-assigns}
 
 -- ---- those of the records that pass a test
 module _ (p : List ℕ → Bool) where
@@ -79,26 +79,26 @@ idIn r = number (trackingIn r)
 pub bil-assigns : (b : Bil) → b .bill .terms .latest .tracking < 10 ^ 9 → assignedIn (bil b) ≡ b .bill .terms .latest .tracking ∷ []
 unfolding assignedIn kept bil
 bil-assigns b t =
-    ap (map idIn) (kept-in assigns (bilHeader b) (bilDetail b) (length-bil-header b) (bil-header-assigns b))
-    ∙ rw (kept-last assigns (bilDetail b) (length-bil-detail b) (bil-detail-not b), bil-tracking b, number-digits 9 _ t)
+    ap (map idIn) (kept-in assigns (bilHeader b) (bilDetail b) (length-bil-header b) (bil-header-reads b .0))
+    ∙ rw (kept-last assigns (bilDetail b) (length-bil-detail b) (bil-detail-reads b .0), bil-tracking b, number-digits 9 _ t)
 
 pub cxl-assigns : (x : Cxl) → x .tracking < 10 ^ 9 → assignedIn (cxl x) ≡ x .tracking ∷ []
 unfolding assignedIn kept cxl
 cxl-assigns x t =
-    ap (map idIn) (kept-in assigns (cxlHeader x) (cxlDetail x) (length-cxl-header x) (cxl-header-assigns x))
-    ∙ rw (kept-last assigns (cxlDetail x) (length-cxl-detail x) (cxl-detail-not x), cxl-tracking x, number-digits 9 _ t)
+    ap (map idIn) (kept-in assigns (cxlHeader x) (cxlDetail x) (length-cxl-header x) (cxl-header-reads x .0))
+    ∙ rw (kept-last assigns (cxlDetail x) (length-cxl-detail x) (cxl-detail-reads x .0), cxl-tracking x, number-digits 9 _ t)
 
 pub bil-no-acf : (b : Bil) → acfsIn (bil b) ≡ []
 unfolding acfsIn kept bil
 bil-no-acf b =
-    kept-out isAcf (bilHeader b) (bilDetail b) (length-bil-header b) (bil-header-not-acf b)
-    ∙ kept-last isAcf (bilDetail b) (length-bil-detail b) (bil-detail-not-acf b)
+    kept-out isAcf (bilHeader b) (bilDetail b) (length-bil-header b) (bil-header-reads b .1)
+    ∙ kept-last isAcf (bilDetail b) (length-bil-detail b) (bil-detail-reads b .1)
 
 pub cxl-no-acf : (x : Cxl) → acfsIn (cxl x) ≡ []
 unfolding acfsIn kept cxl
 cxl-no-acf x =
-    kept-out isAcf (cxlHeader x) (cxlDetail x) (length-cxl-header x) (cxl-header-not-acf x)
-    ∙ kept-last isAcf (cxlDetail x) (length-cxl-detail x) (cxl-detail-not-acf x)
+    kept-out isAcf (cxlHeader x) (cxlDetail x) (length-cxl-header x) (cxl-header-reads x .1)
+    ∙ kept-last isAcf (cxlDetail x) (length-cxl-detail x) (cxl-detail-reads x .1)
 
 pub none-assigned : assignedIn [] ≡ []
 unfolding assignedIn kept

@@ -9,9 +9,8 @@ fn most_of(tag: u8, n: usize) -> usize
     ensures { λ r. ⌜ r ≡ mostOf tag n ⌝ }
 {
     match tag {
-        1 => records::NOTICE_SIZE,
+        1 | 3 => records::NOTICE_SIZE,
         2 => n,
-        3 => records::NOTICE_SIZE,
         _ => 0,
     }
 }
