@@ -69,6 +69,16 @@ given s out₀ out n bad all ends h o =
     let e : ltb (length out₀) (length (brnOf s)) ≡ false = le-ltb (length out₀) (length (brnOf s)) h in
     record { answer = rw (e, all); stopped = ends; bytes = rw e o }
 
+-- ---- what a run q into a buffer comes to, over the bytes that a run r left: its notices have room behind those of r, and put there they are all
+pub record LastRun (s out₀ out last : List ℕ) (r q : Ran) : Type 0 where
+  pub size : q .written ≤ length last
+  pub sum : r .written + q .written ≤ length out₀
+  pub room : r .written + length (take (q .written) last) ≤ length out
+  pub used : q .used ≤ length s - r .used
+  pub given : (now : List ℕ) (bad : Bool) → now ≡ put out (r .written) (take (q .written) last)
+      → bad ≡ endsBad (q .stopped) (length s - r .used - q .used) (q .seen)
+      → ReportsNotices s out₀ now (record { report = Written (r .written + q .written); stopped = bad })
+
 -- ---- one run into the output
 module _ (s ws₀ out₀ ws out : List ℕ) (r : Ran) (w : RanIn 0 true s ws₀ out₀ ws out r) (z : book (layout.ledgerOf ws₀) ≡ firstBook)
     (fits : length (brnOf s) ≤ length out₀) where
@@ -123,24 +133,12 @@ module _ (s ws₀ out₀ ws out : List ℕ) (r : Ran) (w : RanIn 0 true s ws₀ 
       size-is : q .written ≡ length rest
       size-is = x .written ∙ ap length rest-is
 
-      pub size-within : q .written ≤ length last
-      size-within = omega (arith, size-is, rest-short, x .kept, long)
-
       last-is : take (q .written) last ≡ rest
       unfolding part
       last-is = ap (take (q .written)) (x .bytes ∙ ap (put last₀ 0) rest-is) ∙ part-put last₀ 0 rest (q .written) (omega arith) (sym size-is)
 
       all-written : r .written + q .written ≡ length (brnOf s)
       all-written = omega (arith, w .written, size-is, ap length all-of, length-append front rest)
-
-      pub sum-within : r .written + q .written ≤ length out₀
-      sum-within = omega (arith, all-written)
-
-      pub room : r .written + length (take (q .written) last) ≤ length out
-      room = omega (arith, ap length last-is, size-is, sum-within, w .kept)
-
-      pub used-within : q .used ≤ length s - r .used
-      used-within = omega (arith, x .made .used, length-drop (r .used) s)
 
       all-put : put out (r .written) (take (q .written) last) ≡ put out₀ 0 (brnOf s)
       all-put =
@@ -177,7 +175,12 @@ module _ (s ws₀ out₀ ws out : List ℕ) (r : Ran) (w : RanIn 0 true s ws₀ 
           in
           rw (a, b, c)
 
-      pub last-given : (now : List ℕ) (bad : Bool) → now ≡ put out (r .written) (take (q .written) last)
-          → bad ≡ endsBad (q .stopped) (length s - r .used - q .used) (q .seen)
-          → ReportsNotices s out₀ now (record { report = Written (r .written + q .written); stopped = bad })
-      last-given now bad o b = given s out₀ now (r .written + q .written) bad all-written (b ∙ ends) fits (o ∙ all-put)
+      pub last-run : LastRun s out₀ out last r q
+      last-run =
+          record {
+            size = omega (arith, size-is, rest-short, x .kept, long);
+            sum = omega (arith, all-written);
+            room = omega (arith, ap length last-is, size-is, all-written, w .kept);
+            used = omega (arith, x .made .used, length-drop (r .used) s);
+            given = λ now bad o b. given s out₀ now (r .written + q .written) bad all-written (b ∙ ends) fits (o ∙ all-put);
+          }

@@ -5,10 +5,20 @@ use lib.ListN.{length}
 use lib.Seq.{length-take-le}
 use borrow.Author.Tests.{not-true, not-false}
 use Rattle.fields.proofs.PutLaws.{length-put}
-use Rattle.report.proofs.BrnLaws.{all-given, size-within, sum-within, used-within, room, last-given}
+use Rattle.report.proofs.BrnLaws.{all-given, LastRun, last-run}
 use borrow.Author.Needs.{needs}
 use Rattle.report.proofs.brn_file.write_notices.Statement.{statement}
 use Rattle.report.proofs.brn_file.write_notices.Tie as tie
+
+-- the second run, into a buffer
+last : (c : tie.After-run2)
+    → let at-run = c .before .before .before .before .before .before .before .before .before in let start = at-run .before .before .before .before .before .before .before .before in
+    LastRun (start .args .src .now) (start .args .out .now) (at-run .run .last .1 .0) (c .run2 .last .1 .0) (at-run .run .result) (c .run2 .result)
+last c =
+    let at-run = c .before .before .before .before .before .before .before .before .before in
+    let at-start = at-run .before .before .before .before in
+    let start = at-start .before .before .before .before in
+    last-run _ _ _ _ _ _ (at-run .run .ensures) (at-start .start .ensures .2) (start .pre) (not-false _ (c .before .before .before .before .if1 .left)) _ refl _ _ _ (c .run2 .ensures)
 
 slice-aggregate-start : tie.Need-slice-aggregate-start
 slice-aggregate-start c = search needs
@@ -56,45 +66,24 @@ run-requires-2 : tie.Need-run-requires-2
 run-requires-2 c κs = search needs
 
 array-share-prefix-last : tie.Need-array-share-prefix-last
-array-share-prefix-last c =
-    let at-run = c .before .before .before .before .before .before .before .before .before .before .before .before in
-    let at-start = at-run .before .before .before .before in
-    let start-2 = at-start .before .before .before .before in
-    size-within _ _ _ _ _ _ (at-run .run .ensures) (at-start .start .ensures .2) (start-2 .pre) (not-false _ (c .before .before .before .before .before .before .before .if1 .left)) _ refl _ _ _ (c .before .before .before .run2 .ensures)
+array-share-prefix-last c = last (c .before .before .before) .size
 
 slice-aggregate-put-bytes : tie.Need-slice-aggregate-put-bytes
-slice-aggregate-put-bytes c =
-    let at-if1 = c .before .before .before .before .before .before .before .before in
-    let at-run = at-if1 .before .before .before .before .before in
-    let at-start = at-run .before .before .before .before in
-    let start-2 = at-start .before .before .before .before in
-    sym (length-take-le _ _ (size-within _ _ _ _ _ _ (at-run .run .ensures) (at-start .start .ensures .2) (start-2 .pre) (not-false _ (at-if1 .if1 .left)) _ refl _ _ _ (c .before .before .before .before .run2 .ensures)))
+slice-aggregate-put-bytes c = sym (length-take-le _ _ (last (c .before .before .before .before) .size))
 
 put-bytes-requires : tie.Need-put-bytes-requires
-put-bytes-requires c κs =
-    let at-if1 = c .before .before .before .before .before .before .before .before in
-    let at-run = at-if1 .before .before .before .before .before in
-    let at-start = at-run .before .before .before .before in
-    let start-2 = at-start .before .before .before .before in
-    room _ _ _ _ _ _ (at-run .run .ensures) (at-start .start .ensures .2) (start-2 .pre) (not-false _ (at-if1 .if1 .left)) _ refl _ _ _ (c .before .before .before .before .run2 .ensures)
+put-bytes-requires c κs = last (c .before .before .before .before) .room
 
 add-t18 : tie.Need-add-t18
 add-t18 c =
     let at-run2 = c .before .before .before .before .before .before .before .before in
-    let at-if1 = at-run2 .before .before .before .before in
-    let at-run = at-if1 .before .before .before .before .before in
-    let at-start = at-run .before .before .before .before in
-    let at-good = at-start .before .before .before .before in
-    omega (arith, at-good .good .1 .0 .0, sum-within _ _ _ _ _ _ (at-run .run .ensures) (at-start .start .ensures .2) (at-good .pre) (not-false _ (at-if1 .if1 .left)) _ refl _ _ _ (at-run2 .run2 .ensures))
+    let start = at-run2 .before .before .before .before .before .before .before .before .before .before .before .before .before .before .before .before .before in
+    omega (arith, start .good .1 .0 .0, last at-run2 .sum)
 
 sub-ends-bad : tie.Need-sub-ends-bad
 sub-ends-bad c =
     let at-run2 = c .before .before .before .before .before .before .before .before .before in
-    let at-if1 = at-run2 .before .before .before .before in
-    let at-run = at-if1 .before .before .before .before .before in
-    let at-start = at-run .before .before .before .before in
-    let start-2 = at-start .before .before .before .before in
-    used-within _ _ _ _ _ _ (at-run .run .ensures) (at-start .start .ensures .2) (start-2 .pre) (not-false _ (at-if1 .if1 .left)) _ refl _ _ _ (at-run2 .run2 .ensures)
+    last at-run2 .used
 
 ends-bad-requires-2 : tie.Need-ends-bad-requires-2
 ends-bad-requires-2 c κs = search needs
@@ -102,20 +91,13 @@ ends-bad-requires-2 c κs = search needs
 same-length-2 : tie.Need-same-length-2
 same-length-2 c =
     let at-run2 = c .before .before .before .before .before .before .before .before .before .before in
-    let at-if1 = at-run2 .before .before .before .before in
-    let at-run = at-if1 .before .before .before .before .before in
-    let at-start = at-run .before .before .before .before in
-    let start-2 = at-start .before .before .before .before in
-    ap length (c .before .before .before .before .before .put-bytes .ensures) ∙ length-put _ _ _ (room _ _ _ _ _ _ (at-run .run .ensures) (at-start .start .ensures .2) (start-2 .pre) (not-false _ (at-if1 .if1 .left)) _ refl _ _ _ (at-run2 .run2 .ensures)) ∙ at-run .run .ensures .kept
+    let at-run = at-run2 .before .before .before .before .before .before .before .before .before in
+    ap length (c .before .before .before .before .before .put-bytes .ensures) ∙ length-put _ _ _ (last at-run2 .room) ∙ at-run .run .ensures .kept
 
 returns-2 : tie.Need-returns-2
 returns-2 c =
     let at-run2 = c .before .before .before .before .before .before .before .before .before .before in
-    let at-if1 = at-run2 .before .before .before .before in
-    let at-run = at-if1 .before .before .before .before .before in
-    let at-start = at-run .before .before .before .before in
-    let start-2 = at-start .before .before .before .before in
-    last-given _ _ _ _ _ _ (at-run .run .ensures) (at-start .start .ensures .2) (start-2 .pre) (not-false _ (at-if1 .if1 .left)) _ refl _ _ _ (at-run2 .run2 .ensures) _ _ (c .before .before .before .before .before .put-bytes .ensures) (c .ends-bad2 .ensures)
+    last at-run2 .given _ _ (c .before .before .before .before .before .put-bytes .ensures) (c .ends-bad2 .ensures)
 
 pub write-notices-spec : {M : Type 1} → statement M
 write-notices-spec =
