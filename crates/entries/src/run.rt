@@ -1,15 +1,14 @@
 // The entries at the start of some bytes, one after another, on a ledger that is lent as words.
 ghost use mathlib.Core.Path.{_≡_};
 ghost use mathlib.Core.Bool.{true, cond, _&&_};
-ghost use Prim.Native.Nat.{_+_, _-_, _≤_};
+ghost use Prim.Native.Nat.{_-_, _≤_};
 ghost use lib.Dec.{ltb};
-ghost use lib.ListN.{length, drop};
+ghost use lib.ListN.{length};
 ghost use Rattle.ledger.specs.Books.{book};
 ghost use Rattle.ledger.specs.Sound.{soundLedger};
 ghost use Rattle.words.specs.Layout.{ledgerOf, ledgerSize};
 ghost use Rattle.journal.specs.Journal.{firstBook};
 ghost use Rattle.journal.specs.EntryCalls.{lengthOf, firstLedger};
-ghost use Rattle.entries.specs.parts.Stepping.{SteppedIn};
 ghost use Rattle.entries.specs.parts.Running.{ranTo, RanIn};
 ghost use Rattle.records.specs.Limits.{fileSize};
 use crate::entry;
@@ -67,23 +66,6 @@ fn place_for(writes: bool, n: usize) -> usize
     if writes { n } else { 0 }
 }
 
-// Makes the entry that stands at index `at` of src; its notices go behind the n bytes that are written.
-fn next(
-    ws: &mut [u64],
-    out: &mut [u8],
-    writes: bool,
-    n: usize,
-    src: &[u8],
-    at: usize,
-    seen: u64,
-) -> Stepped
-    requires { ⌜ (soundLedger (ledgerOf (now ws)) ≡ true) × (at ≤ length (now src)) × (writes ≡ true → n + fileSize ≤ length (now out)) ⌝ }
-    ensures { λ r. ⌜ SteppedIn writes n seen (drop at (now (src .entry))) (now (ws .entry)) (now (out .entry)) (now (ws .exit)) (now (out .exit)) r ⌝ }
-{
-    let to = place_for(writes, n);
-    entry::step(ws, &mut out[to..], &src[at..], seen, writes)
-}
-
 // Makes the entries at the start of src, after so many entries, as long as the output has room for another entry's notices. Where notices are not
 // written they are measured, and every whole entry is made.
 pub fn run(ws: &mut [u64], out: &mut [u8], writes: bool, src: &[u8], seen: u64) -> Ran
@@ -94,7 +76,8 @@ pub fn run(ws: &mut [u64], out: &mut [u8], writes: bool, src: &[u8], seen: u64) 
     let mut k = seen;
     let mut n = 0;
     while !is_full(writes, out.len(), n) {
-        let r = next(ws, out, writes, n, src, at, k);
+        let to = place_for(writes, n);
+        let r = entry::step(ws, &mut out[to..], &src[at..], k, writes);
         match r {
             Stepped::Left(bad) => {
                 return ran_to(at, k, n, false, bad);

@@ -6,7 +6,6 @@ use mathlib.Core.List.{List, [], _∷_, _++_, append-assoc, append-nil}
 use native.Mathlib.Omega.{arith}
 use native.Mathlib.Nat.{add-zero, zero-add}
 use lib.ListN.{length, take, drop, length-drop}
-use lib.Seq.{take-all}
 use borrow.Author.Tests.{lt-ltb, le-ltb}
 use Rattle.fields.specs.Put.{put, part}
 use Rattle.fields.proofs.PutLaws.{first, next, put-nil}
@@ -21,6 +20,7 @@ use Rattle.entries.specs.declared.entry.Stepped.{Stepped}
 use Rattle.entries.specs.declared.entry.Stepped.the-variants as step
 use Rattle.entries.specs.parts.Stepping.{SteppedIn}
 use Rattle.entries.specs.parts.Running.{entryAt, ranTo}
+use Rattle.entries.proofs.RunNotices.{rest-is}
 use Rattle.entries.proofs.StoodLaws.{Stood, stood-whole, stood-left}
 use Rattle.entries.proofs.FirstMadeLaws.{first-none, left-full, left-none, next-fits, first-more}
 use Rattle.trace_lines.specs.Trace.{entryLines, traceLines}
@@ -39,9 +39,6 @@ lines-append number k (e ∷ es) fs =
     ap (λ (x : List ℕ). w ++ x) (lines-append (number + 1) j es fs)
     ∙ sym (append-assoc w (traceLines (number + 1) j es) (traceLines (number + 1 + length es) (afterEntries j es) fs))
     ∙ ap (λ (x : ℕ). (w ++ traceLines (number + 1) j es) ++ traceLines x (afterEntries j es) fs) i
-
-pub rest-is : (src : List ℕ) (at : ℕ) → take (length src - at) (drop at src) ≡ drop at src
-rest-is src at = take-all (length src - at) (drop at src) (omega (arith, length-drop at src))
 
 pub within-rest : (src : List ℕ) (at m : ℕ) → at + m ≤ length src → m ≤ length (take (length src - at) (drop at src))
 within-rest src at m h = omega (arith, ap length (rest-is src at), length-drop at src)

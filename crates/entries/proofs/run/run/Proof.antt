@@ -3,13 +3,15 @@ use borrow.Author.Needs.{needs}
 use borrow.Author.Tests.{not-true, not-false}
 use Prim.Native.Nat.{_+_, _-_, _*_, _≤_, _<_}
 use mathlib.Core.Path.{_≡_, sym, _∙_}
-use mathlib.Core.Bool.{false, _&&_}
+use mathlib.Core.Bool.{true, false, _&&_}
 use native.Mathlib.Omega.{arith}
 use lib.Dec.{ltb}
-use lib.ListN.{length}
+use lib.ListN.{length, drop}
+use borrow.Rule.Slice.PartMut.{putMid}
 use Rattle.journal.specs.EntryCalls.{lengthOf}
+use Rattle.entries.specs.parts.Stepping.{SteppedIn}
 use Rattle.entries.specs.parts.Running.{ranTo, RanIn}
-use Rattle.entries.proofs.RunNotices.{same-words, Running, running-start, running-len, running-room, ran-left, ran-full, ran-fits, ran-on}
+use Rattle.entries.proofs.RunNotices.{rest-is, to-within, lent-room, next-in, same-words, Running, running-start, running-len, running-room, ran-left, ran-full, ran-fits, ran-on}
 use Rattle.entries.proofs.run.run.Statement.{statement}
 use Rattle.entries.proofs.run.run.Tie as tie
 
@@ -25,35 +27,78 @@ loop-holds c = running-start _ _ _ _ _ (c .before .before .before .pre)
 is-full-requires : tie.Need-is-full-requires Inv-loop μ-loop
 is-full-requires c κs = running-len _ _ _ _ _ _ _ _ _ _ (c .loop .inv)
 
-next-requires : tie.Need-next-requires Inv-loop μ-loop
-next-requires c κs = (c .before .before .before .before .loop .inv .made .sound, c .before .before .before .before .loop .inv .made .used, running-room _ _ _ _ _ _ _ _ _ _ (c .before .before .before .before .loop .inv) (sym (c .before .before .before .is-full .ensures) ∙ not-true _ (c .before .before .if1 .taken)))
+place-for-requires : tie.Need-place-for-requires Inv-loop μ-loop
+place-for-requires c κs = search needs
 
--- ---- at the call of next
--- the output has room for what the entry may write
-with-room : (c : tie.After-next Inv-loop μ-loop)
-    → let top = c .before .before .before .before .before in let start = top .before .before .before .before in
+-- ---- before the step: the output has room for what the entry may write
+not-full : (c : tie.After-place-for Inv-loop μ-loop)
+    → let top = c .before .before .before in let start = top .before .before .before .before in
     (start .args .writes && ltb (length (top .loop .out) - top .loop .n) 64200) ≡ false
-with-room c = sym (c .before .before .before .before .is-full .ensures) ∙ not-true _ (c .before .before .before .if1 .taken)
+not-full c = sym (c .before .before .is-full .ensures) ∙ not-true _ (c .before .if1 .taken)
+
+with-room : (c : tie.After-place-for Inv-loop μ-loop)
+    → let top = c .before .before .before in let start = top .before .before .before .before in start .args .writes ≡ true → top .loop .n + 64200 ≤ length (top .loop .out)
+with-room c = running-room _ _ _ _ _ _ _ _ _ _ (c .before .before .before .loop .inv) (not-full c)
+
+-- and is lent from a place within it
+within : (c : tie.After-place-for Inv-loop μ-loop) → let top = c .before .before .before in c .place-for .result ≤ length (top .loop .out)
+within c = to-within _ _ (c .before .before .before .loop .out) (with-room c) _ (c .place-for .ensures)
+
+sub-step : tie.Need-sub-step Inv-loop μ-loop
+sub-step c = omega (arith, within (c .before))
+
+part-step-start : tie.Need-part-step-start Inv-loop μ-loop
+part-step-start c = omega (arith, within (c .before))
+
+part-step-end : tie.Need-part-step-end Inv-loop μ-loop
+part-step-end c = omega (arith, within (c .before))
+
+sub-step-2 : tie.Need-sub-step-2 Inv-loop μ-loop
+sub-step-2 c = omega (arith, c .before .before .before .before .before .loop .inv .made .used)
+
+part-step-start-2 : tie.Need-part-step-start-2 Inv-loop μ-loop
+part-step-start-2 c = omega (arith, c .before .before .before .before .before .loop .inv .made .used)
+
+part-step-end-2 : tie.Need-part-step-end-2 Inv-loop μ-loop
+part-step-end-2 c = omega (arith, c .before .before .before .before .before .loop .inv .made .used)
+
+step-requires : tie.Need-step-requires Inv-loop μ-loop
+step-requires c κs =
+    let placed = c .before .before .before in
+    let top = placed .before .before .before in
+    (top .loop .inv .made .sound, lent-room _ _ (top .loop .out) (with-room placed) _ (placed .place-for .ensures))
+
+-- ---- after the step
+-- what it came to, on the whole of src and of the output
+stepped : (c : tie.After-step Inv-loop μ-loop)
+    → let placed = c .before .before .before .before in let top = placed .before .before .before in let start = top .before .before .before .before in let to = placed .place-for .result in
+    SteppedIn (start .args .writes) (top .loop .n) (top .loop .k) (drop (top .loop .at) (start .args .src .now)) (top .loop .ws) (top .loop .out) (c .step .last .0)
+    (putMid to (length (top .loop .out) - to) (top .loop .out) (c .step .last .1 .0)) (c .step .result)
+stepped c =
+    let placed = c .before .before .before .before in
+    let top = placed .before .before .before in
+    let start = top .before .before .before .before in
+    next-in _ _ _ (with-room placed) _ (placed .place-for .ensures) _ _ _ _ _ _ _ (rest-is (start .args .src .now) (top .loop .at)) (c .step .ensures)
 
 -- where no whole entry stands there, the run ends so
 left : (c : tie.After-r Inv-loop μ-loop)
-    → let at-next = c .before .before .before .before .before .before in let top = at-next .before .before .before .before .before in
-    let start = top .before .before .before .before in
-    RanIn (start .args .seen) (start .args .writes) (start .args .src .now) (start .args .ws .now) (start .args .out .now) (at-next .next .last .0) (at-next .next .last .1 .0)
-    (ranTo (top .loop .at) (top .loop .k) (top .loop .n) false (c .r .given .0 .0))
+    → let at-step = c .before .before .before .before .before .before in let placed = at-step .before .before .before .before in let top = placed .before .before .before in let start = top .before .before .before .before in let to = placed .place-for .result in
+    RanIn (start .args .seen) (start .args .writes) (start .args .src .now) (start .args .ws .now) (start .args .out .now) (at-step .step .last .0)
+    (putMid to (length (top .loop .out) - to) (top .loop .out) (at-step .step .last .1 .0)) (ranTo (top .loop .at) (top .loop .k) (top .loop .n) false (c .r .given .0 .0))
 left c =
-    let at-next = c .before .before .before .before .before .before in
-    ran-left _ _ _ _ _ _ _ _ _ _ (at-next .before .before .before .before .before .loop .inv) _ _ _ (at-next .next .ensures) _ (with-room at-next) (c .r .given .1)
+    let at-step = c .before .before .before .before .before .before in
+    let placed = at-step .before .before .before .before in
+    ran-left _ _ _ _ _ _ _ _ _ _ (placed .before .before .before .loop .inv) _ _ _ (stepped at-step) _ (not-full placed) (c .r .given .1)
 
 -- what an entry that was made allows to add
 fits : (c : tie.After-r2 Inv-loop μ-loop)
-    → let top = c .before .before .before .before .before .before .before .before .before .before .before in let start = top .before .before .before .before in
-    let m = c .r2 .given .0 in
+    → let top = c .before .before .before .before .before .before .before .before .before .before .before .before .before in let start = top .before .before .before .before in let m = c .r2 .given .0 in
     (3 ≤ m .0) × (top .loop .at + m .0 ≤ length (start .args .src .now)) × (top .loop .k < 1000000000)
     × (top .loop .n + lengthOf (m .1 .0) ≤ 1000000000 * 64200)
 fits c =
-    let at-next = c .before .before .before .before .before .before in
-    ran-fits _ _ _ _ _ _ _ _ _ _ (at-next .before .before .before .before .before .loop .inv) _ _ _ (at-next .next .ensures) _ _ (c .r2 .given .1)
+    let at-step = c .before .before .before .before .before .before in
+    let top = at-step .before .before .before .before .before .before .before in
+    ran-fits _ _ _ _ _ _ _ _ _ _ (top .loop .inv) _ _ _ (stepped at-step) _ _ (c .r2 .given .1)
 
 enum-known-r : tie.Need-enum-known-r Inv-loop μ-loop
 enum-known-r c = search needs
@@ -63,11 +108,11 @@ ran-to-requires c κs = search needs
 
 same-length : tie.Need-same-length Inv-loop μ-loop
 same-length c =
-    let top = c .before .before .before .before .before .before .before .before .before .before .before .before .before in
-    same-words _ _ (left (c .before .before) .made .sound) (top .before .before .before .before .pre)
+    let start = c .before .before .before .before .before .before .before .before .before .before .before .before .before .before .before .before .before .before .before in
+    same-words _ _ (left (c .before .before) .made .sound) (start .pre)
 
 same-length-2 : tie.Need-same-length-2 Inv-loop μ-loop
-same-length-2 c = search needs
+same-length-2 c = left (c .before .before) .kept
 
 returns : tie.Need-returns Inv-loop μ-loop
 returns c = rw (c .ran-to .ensures) (left (c .before .before))
@@ -92,9 +137,10 @@ loop-less c = omega (arith, fits (c .before .before))
 
 loop-again : tie.Need-loop-again Inv-loop μ-loop
 loop-again c =
-    let made = c .before .before .before .before .before .before .before .before in
-    let top = made .before .before .before .before .before in
-    rw (c .written .ensures) (ran-on _ _ _ _ _ _ _ _ _ _ (top .loop .inv) _ _ _ (made .next .ensures) _ _ (c .before .before .r2 .given .1) (with-room made))
+    let made = c .before .before in
+    let at-step = made .before .before .before .before .before .before in
+    let placed = at-step .before .before .before .before in
+    rw (c .written .ensures) (ran-on _ _ _ _ _ _ _ _ _ _ (placed .before .before .before .loop .inv) _ _ _ (stepped at-step) _ _ (made .r2 .given .1) (not-full placed))
 
 ran-to-requires-2 : tie.Need-ran-to-requires-2 Inv-loop μ-loop
 ran-to-requires-2 c κs = search needs
@@ -116,7 +162,14 @@ run-spec =
     μ-loop
     loop-holds
     is-full-requires
-    next-requires
+    place-for-requires
+    sub-step
+    part-step-start
+    part-step-end
+    sub-step-2
+    part-step-start-2
+    part-step-end-2
+    step-requires
     enum-known-r
     ran-to-requires
     same-length
