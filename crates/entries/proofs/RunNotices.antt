@@ -6,8 +6,7 @@ use mathlib.Core.List.{List, [], _∷_, _++_, append-assoc, append-nil}
 use native.Mathlib.Omega.{arith}
 use native.Mathlib.Nat.{add-zero, zero-add}
 use lib.Dec.{ltb}
-use lib.ListN.{length, take, drop, length-append, length-drop}
-use lib.Seq.{take-all}
+use lib.ListN.{length, take, drop, length-append}
 use borrow.Rule.Slice.PartMut.{putMid}
 use borrow.Author.Tests.{ltb-false}
 use Rattle.fields.specs.Put.{put, part}
@@ -42,10 +41,6 @@ notices-append k (e ∷ es) fs =
     let w = writtenBy (outcomes k (callOf (e .body) (e .bytes))) in
     let j = afterEntry (e .body) (e .bytes) k in
     ap (λ (x : List ℕ). w ++ x) (notices-append j es fs) ∙ sym (append-assoc w (noticesOf j es) (noticesOf (afterEntries j es) fs))
-
--- what is left of src, as the code lends it
-pub rest-is : (src : List ℕ) (at : ℕ) → take (length src - at) (drop at src) ≡ drop at src
-rest-is src at = take-all (length src - at) (drop at src) (omega (arith, length-drop at src))
 
 -- ---- one step, its output lent from an index on
 module _ (writes : Bool) (n : ℕ) (out₀ : List ℕ) (room : writes ≡ true → n + 64200 ≤ length out₀) (to : ℕ) (te : to ≡ cond writes n 0) where

@@ -12,6 +12,7 @@ use Rattle.fields.proofs.PutLaws.{first, next, put-nil}
 use Rattle.ledger.specs.Books.{Book, book}
 use Rattle.ledger.specs.Sound.{soundLedger}
 use Rattle.words.specs.Layout.{ledgerOf}
+use Rattle.words.proofs.WordPlaceLaws.{rest}
 use Rattle.calls.specs.declared.Answer.{Answer}
 use Rattle.journal.specs.Journal.{Entry, parse, afterEntry, afterEntries}
 use Rattle.journal.specs.EntryCalls.{entryWritten}
@@ -20,7 +21,6 @@ use Rattle.entries.specs.declared.entry.Stepped.{Stepped}
 use Rattle.entries.specs.declared.entry.Stepped.the-variants as step
 use Rattle.entries.specs.parts.Stepping.{SteppedIn}
 use Rattle.entries.specs.parts.Running.{entryAt, ranTo}
-use Rattle.entries.proofs.RunNotices.{rest-is}
 use Rattle.entries.proofs.StoodLaws.{Stood, stood-whole, stood-left}
 use Rattle.entries.proofs.FirstMadeLaws.{first-none, left-full, left-none, next-fits, first-more}
 use Rattle.trace_lines.specs.Trace.{entryLines, traceLines}
@@ -41,7 +41,7 @@ lines-append number k (e ∷ es) fs =
     ∙ ap (λ (x : ℕ). (w ++ traceLines (number + 1) j es) ++ traceLines x (afterEntries j es) fs) i
 
 pub within-rest : (src : List ℕ) (at m : ℕ) → at + m ≤ length src → m ≤ length (take (length src - at) (drop at src))
-within-rest src at m h = omega (arith, ap length (rest-is src at), length-drop at src)
+within-rest src at m h = omega (arith, ap length (rest src at), length-drop at src)
 
 pub traces-start : (seen : ℕ) (src ws out : List ℕ) → soundLedger (ledgerOf ws) ≡ true → Traces seen src ws out ws out 0 seen 0
 unfolding traceLines
@@ -59,7 +59,7 @@ module _ (seen : ℕ) (src ws₀ out₀ ws out : List ℕ) (at k n : ℕ) (w : T
 
   module _ (sent ws′ sent′ : List ℕ) (r : Stepped) (y : SteppedIn true 0 k (take (length src - at) (drop at src)) ws sent ws′ sent′ r) where
     turn : SteppedIn true 0 k (drop at src) ws sent ws′ sent′ r
-    turn = subst (λ (s : List ℕ). SteppedIn true 0 k s ws sent ws′ sent′ r) (rest-is src at) y
+    turn = subst (λ (s : List ℕ). SteppedIn true 0 k s ws sent ws′ sent′ r) (rest src at) y
 
     pub traces-left : (bad : Bool) → r ≡ step.Left bad → 8652 ≤ length out - n → TracesIn seen src ws₀ out₀ ws′ out (ranTo at k n false bad)
     traces-left bad q f = let x = stood-left true 0 k (drop at src) ws sent ws′ sent′ r turn bad q in rw (x .1) (ended bad f (x .0))
@@ -95,7 +95,7 @@ module _ (seen : ℕ) (src ws₀ out₀ ws out : List ℕ) (at k n : ℕ) (w : T
         its-lines : (out′ ≡ put out n lines) × (end ≡ n + length lines)
         its-lines =
             let s = entryWritten 64200 (ledgerOf ws) (was .0) (part (drop at src) 3 (m - 3)) in
-            subst (λ (x : List ℕ). LinesOf (k + 1) x m a sent′ out n out′ end) (rest-is src at) p .lines k (ledgerOf ws) (was .0) (drop (0 + length s) sent) (was .1) (w .made .sound)
+            subst (λ (x : List ℕ). LinesOf (k + 1) x m a sent′ out n out′ end) (rest src at) p .lines k (ledgerOf ws) (was .0) (drop (0 + length s) sent) (was .1) (w .made .sound)
             (was .2 .answer) (was .2 .bytes ∙ put-begins sent s)
 
         pub traces-on : 8652 ≤ length out - n → length out′ ≡ length out → Traces seen src ws₀ out₀ ws′ out′ (at + m) (k + 1) end

@@ -60,14 +60,17 @@ fits c = rw (c .f .given .1) at (c .before .before .before .before .more .ensure
 
 -- the reading after the piece
 module _ (c : tie.After-make Inv-loop μ-loop) where
-  came : Reading (c .before .before .before .before .before .before .before .before .before .before .before .before .before .before .before .before .args .tells) (c .make .last .0) (c .make .last .1 .0) (c .make .result .seen) (c .make .result .left) (c .before .before .before .before .before .before .before .before .before .before .before .before .loop .total + c .make .result .written)
-  came = reading-more _ _ _ _ _ _ (held (c .before .before .before .before .before .before .before .before .before)) _ (fits (c .before .before .before .before .before) .0) _ _ _ _ _ (c .make .ensures)
+  abbrev at-more : tie.After-more Inv-loop μ-loop
+  at-more = c .before .before .before .before .before .before .before .before .before
+
+  came : Reading (at-more .before .before .before .before .before .before .before .args .tells) (c .make .last .0) (c .make .last .1 .0) (c .make .result .seen) (c .make .result .left) (at-more .before .before .before .loop .total + c .make .result .written)
+  came = reading-more _ _ _ _ _ _ (held at-more) _ (fits (c .before .before .before .before .before) .0) _ _ _ _ _ (c .make .ensures)
 
   room-kept : length (c .make .last .1 .0) ≡ 262144
-  room-kept = c .make .kept .1 .0 ∙ c .before .before .before .before .before .before .before .before .before .more .kept .0 ∙ c .before .before .before .before .before .before .before .before .before .before .before .before .loop .inv .room
+  room-kept = c .make .kept .1 .0 ∙ at-more .more .kept .0 ∙ at-more .before .before .before .loop .inv .room
 
   room-out : c .make .result .written ≤ 262144
-  room-out = omega (arith, c .make .ensures .room, c .make .kept .1 .1 .0, c .before .before .before .before .before .before .before .before .before .before .before .before .loop .inv .same-out, c .before .before .before .before .before .before .before .before .before .before .before .before .before .before .before .before .pre .2)
+  room-out = omega (arith, c .make .ensures .room, c .make .kept .1 .1 .0, at-more .before .before .before .loop .inv .same-out, at-more .before .before .before .before .before .before .before .pre .2)
 
 end-of-input-requires : tie.Need-end-of-input-requires Inv-loop μ-loop
 end-of-input-requires c κs = search needs

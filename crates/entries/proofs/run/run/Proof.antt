@@ -8,10 +8,11 @@ use native.Mathlib.Omega.{arith}
 use lib.Dec.{ltb}
 use lib.ListN.{length, drop}
 use borrow.Rule.Slice.PartMut.{putMid}
+use Rattle.words.proofs.WordPlaceLaws.{rest}
 use Rattle.journal.specs.EntryCalls.{lengthOf}
 use Rattle.entries.specs.parts.Stepping.{SteppedIn}
 use Rattle.entries.specs.parts.Running.{ranTo, RanIn}
-use Rattle.entries.proofs.RunNotices.{rest-is, to-within, lent-room, next-in, same-words, Running, running-start, running-len, running-room, ran-left, ran-full, ran-fits, ran-on}
+use Rattle.entries.proofs.RunNotices.{to-within, lent-room, next-in, same-words, Running, running-start, running-len, running-room, ran-left, ran-full, ran-fits, ran-on}
 use Rattle.entries.proofs.run.run.Statement.{statement}
 use Rattle.entries.proofs.run.run.Tie as tie
 
@@ -78,7 +79,7 @@ stepped c =
     let placed = c .before .before .before .before in
     let top = placed .before .before .before in
     let start = top .before .before .before .before in
-    next-in _ _ _ (with-room placed) _ (placed .place-for .ensures) _ _ _ _ _ _ _ (rest-is (start .args .src .now) (top .loop .at)) (c .step .ensures)
+    next-in _ _ _ (with-room placed) _ (placed .place-for .ensures) _ _ _ _ _ _ _ (rest (start .args .src .now) (top .loop .at)) (c .step .ensures)
 
 -- where no whole entry stands there, the run ends so
 left : (c : tie.After-r Inv-loop μ-loop)
