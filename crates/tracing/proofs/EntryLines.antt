@@ -1,11 +1,11 @@
 -- One entry: the lines that were written of it, by what its step answered. Assumes nothing.
-use Prim.Native.Nat.{ℕ, _+_, _-_, _/_, _≤_, _<_}
+use Prim.Native.Nat.{ℕ, _+_, _-_, _/_, _≤_}
 use mathlib.Core.Path.{_≡_, refl, sym, ap, ap₂, _∙_, subst}
 use mathlib.Core.Bool.{Bool, true, false, _&&_, true≢false, false≢true}
 use mathlib.Core.List.{List, [], _++_, append-nil}
 use native.Mathlib.Omega.{arith}
 use lib.Dec.{eqb}
-use lib.ListN.{length, drop}
+use lib.ListN.{length}
 use borrow.Author.Tests.{eqb-true}
 use Rattle.fields.specs.Put.{put, part}
 use Rattle.fields.proofs.BoolLaws.{and-both}
@@ -13,7 +13,6 @@ use Rattle.fields.proofs.PutLaws.{first, next}
 use Rattle.ledger.specs.declared.Ledger.{Ledger}
 use Rattle.ledger.specs.Books.{Book, book}
 use Rattle.ledger.specs.Sound.{soundLedger}
-use Rattle.words.specs.Layout.{ledgerOf}
 use Rattle.records.specs.Layout.{recordsFrom}
 use Rattle.file.specs.File.{Group, records, groups, fileGroups}
 use Rattle.group.specs.Groups.{answers, verdicts}
@@ -27,13 +26,13 @@ use Rattle.journal.specs.declared.Body.the-variants as body
 use Rattle.journal.specs.declared.Head.the-variants.{Whole}
 use Rattle.journal.specs.Entries.{bodyOf, headOf}
 use Rattle.journal.specs.EntryCalls.{entryCalled, entryWritten}
-use Rattle.journal.proofs.HeadLaws.{tagIn, whole-fits, whole-small, whole-holds, whole-bytes}
+use Rattle.journal.proofs.HeadLaws.{tagIn, whole-holds, whole-bytes}
 use Rattle.journal.proofs.BeginLaws.{whole-taken}
 use Rattle.entries.specs.parts.Running.{entryAt}
 use Rattle.trace_lines.specs.Lines.{tagOf, callLine, groupLines}
 use Rattle.trace_lines.specs.parts.ReadAnswers.{Lined}
 use Rattle.trace_lines.specs.Trace.{answerTo, entryAnswer, linesUnder, entryLines}
-use Rattle.trace_lines.proofs.TraceLaws.{answer-in, Carried, file-done, file-refused, tag-is, put-begins}
+use Rattle.trace_lines.proofs.TraceLaws.{answer-in, Carried, file-done, file-refused, tag-is}
 use Rattle.tracing.specs.parts.Tracing.{isDone, LinesOf}
 
 -- ---- the lines under an entry's line
