@@ -3,7 +3,7 @@
  * to libclearing_c.a (`rt staticlib clearing_c`, then target/staticlib/), for C and C++ on x86-64 Linux.
  *
  * Every function returns 0 if the call is carried out, else one of the causes below; then all that was lent to it
- * (ledger, out, change, counts, place, amounts, written, told) holds what it held before, but for the told of
+ * (ledger, out, change, counts, place, amounts, written, found, result) holds what it held before, but for the found of
  * clearing_entry, which is always written. Output past the bytes written is untouched. Nothing is kept between calls,
  * and nothing but what was lent is read or written. A call needs no heap. Stack: less than 8 KB for a call, a lookup,
  * clearing_entry and clearing_ledger_table, 32 KB for clearing_table (measured), 192 KB for clearing_notices (tested:
@@ -82,7 +82,7 @@ enum {
     CLEARING_DATE_NOT_AFTER_TODAY = 10,
     CLEARING_BAD_FILE = 11,
     CLEARING_NUMBERS_USED_UP = 12,
-    CLEARING_BAD_ENTRY = 13 /* of a journal; clearing_table and clearing_notices tell it in told[1] only */
+    CLEARING_BAD_ENTRY = 13 /* of a journal; clearing_table and clearing_notices give it in result[1] only */
 };
 
 /*
@@ -135,30 +135,30 @@ uint64_t clearing_ledger_table(const uint64_t *ledger, size_t ledger_len, uint8_
 
 /*
  * One entry of a journal, so that a program can stream one of any length: makes the call of the entry that begins the
- * bytes lent, before which `seen` entries came (0: it is the first). told is always written:
- *   told[0]  the bytes of the entry (3 and its body), after which the next begins; 0 if no whole good entry is there
- *   told[1]  1 if the bytes end before the entry does: lend more of the journal (at its end, it is cut short); else 0
- * Refused: 13 if told[0] is 0: the entry is cut short, or it is bad and stops the journal (an unknown tag, a wrong
+ * bytes lent, before which `seen` entries came (0: it is the first). found is always written:
+ *   found[0]  the bytes of the entry (3 and its body), after which the next begins; 0 if no whole good entry is there
+ *   found[1]  1 if the bytes end before the entry does: lend more of the journal (at its end, it is cut short); else 0
+ * Refused: 13 if found[0] is 0: the entry is cut short, or it is bad and stops the journal (an unknown tag, a wrong
  * length, tag 0 elsewhere than first or another first, seen at 1,000,000,000 or over, which the first three bytes show,
  * or a fresh that is refused). Else what the entry's call is refused for on this ledger and this output; a body whose
  * fields are not digits is 2. A journal's calls have CLEARING_FILE_BYTES of output, which is always enough; a refused
  * call is passed over. A good fresh reads no ledger, but asks for its length (2).
  */
 uint64_t clearing_entry(uint64_t *ledger, size_t ledger_len, const uint8_t *journal, size_t journal_len, uint64_t seen,
-                        uint8_t *out, size_t out_len, int64_t *change, uint64_t counts[4], uint64_t told[2]);
+                        uint8_t *out, size_t out_len, int64_t *change, uint64_t counts[4], uint64_t found[2]);
 
 /*
  * Whole journals (their bytes). A bad entry stops a journal, and what came before it counts: the call is carried out
- * (0) all the same. told: bytes written; 13 if a bad entry stopped it, it is empty or its fresh was refused, else 0.
+ * (0) all the same. result: bytes written; 13 if a bad entry stopped it, it is empty or its fresh was refused, else 0.
  */
 
-/* The posted table, which ends in `stopped,13` if told[1] is 13. Refused: 1 for out_len under CLEARING_TABLE_BYTES. */
-uint64_t clearing_table(const uint8_t *journal, size_t journal_len, uint8_t *out, size_t out_len, uint64_t told[2]);
+/* The posted table, which ends in `stopped,13` if result[1] is 13. Refused: 1 for out_len under CLEARING_TABLE_BYTES. */
+uint64_t clearing_table(const uint8_t *journal, size_t journal_len, uint8_t *out, size_t out_len, uint64_t result[2]);
 
 /* The notices of every call carried out, one after another. Refused: 1 for out_len under their length. An output of
    CLEARING_NOTICE_BYTES for each request and cancel and the length of each file in the journal is always long enough,
    and is written in one pass; for a shorter one the notices are measured first, which makes the calls twice. */
-uint64_t clearing_notices(const uint8_t *journal, size_t journal_len, uint8_t *out, size_t out_len, uint64_t told[2]);
+uint64_t clearing_notices(const uint8_t *journal, size_t journal_len, uint8_t *out, size_t out_len, uint64_t result[2]);
 
 #ifdef __cplusplus
 }

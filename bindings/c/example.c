@@ -109,43 +109,43 @@ static int try_calls(const uint8_t *file) {
 
 /* Streams a journal, lending 100 bytes more of it where an entry is cut short. */
 static int try_stream(const uint8_t *journal, size_t length) {
-    uint64_t seen = 0, told[2] = {9, 9};
+    uint64_t seen = 0, found[2] = {9, 9};
     size_t at = 0, lent = 0;
     memset(ledger, 0xff, sizeof ledger);
     while (at < length) {
         uint64_t answer = clearing_entry(ledger, CLEARING_WORDS, journal + at, lent - at, seen, out, sizeof out,
-                                         &change, counts, told);
-        if (answer == CLEARING_BAD_ENTRY && told[1] == 1 && lent < length) {
+                                         &change, counts, found);
+        if (answer == CLEARING_BAD_ENTRY && found[1] == 1 && lent < length) {
             lent = length - lent > 100 ? lent + 100 : length;
             continue;
         }
-        if (!expect("entry", answer, CLEARING_DONE) || !expect("bytes after it", told[1], 0)) {
+        if (!expect("entry", answer, CLEARING_DONE) || !expect("bytes after it", found[1], 0)) {
             return 0;
         }
-        at += told[0];
+        at += found[0];
         seen++;
     }
     return expect("entries", seen, 3) && expect("bytes of the ACF", counts[0], CLEARING_RECORD_BYTES)
         && expect("accepted", counts[1], 1) && expect("change", (uint64_t)change, 4250) && try_words()
         && expect("a second fresh",
-                  clearing_entry(ledger, CLEARING_WORDS, journal, length, seen, out, sizeof out, &change, counts, told),
+                  clearing_entry(ledger, CLEARING_WORDS, journal, length, seen, out, sizeof out, &change, counts, found),
                   CLEARING_BAD_ENTRY)
-        && expect("its bytes", told[0], 0) && expect("cut short", told[1], 0);
+        && expect("its bytes", found[0], 0) && expect("cut short", found[1], 0);
 }
 
 int main(void) {
     uint8_t file[CLEARING_NOTICE_BYTES], journal[1000];
-    uint64_t told[2] = {9, 9}, written = 9;
+    uint64_t result[2] = {9, 9}, written = 9;
     make_file(file);
     size_t length = make_journal(journal, file);
     if (!try_calls(file)
-        || !expect("notices", clearing_notices(journal, length, out, sizeof out, told), CLEARING_DONE)
-        || !expect("bytes of the notices", told[0], 3 * CLEARING_RECORD_BYTES)
-        || !expect("table", clearing_table(journal, length, out, sizeof out, told), CLEARING_DONE)
-        || !expect("told", told[1], 0)) {
+        || !expect("notices", clearing_notices(journal, length, out, sizeof out, result), CLEARING_DONE)
+        || !expect("bytes of the notices", result[0], 3 * CLEARING_RECORD_BYTES)
+        || !expect("table", clearing_table(journal, length, out, sizeof out, result), CLEARING_DONE)
+        || !expect("journal ended bad", result[1], 0)) {
         return 1;
     }
-    fwrite(out, 1, told[0], stdout);
+    fwrite(out, 1, result[0], stdout);
     if (!try_stream(journal, length)
         || !expect("ledger table", clearing_ledger_table(ledger, CLEARING_WORDS, out, sizeof out, &written),
                    CLEARING_DONE)) {

@@ -123,7 +123,7 @@ pub fn ledger_table(ledger: &[u64], out: &mut [u8], written: &mut u64) -> u64 {
     unsafe { raw::clearing_ledger_table(ledger.as_ptr(), ledger.len(), bytes, length, written) }
 }
 
-/// The entry that begins the bytes of a journal, before which so many came; told: its bytes, or 0 where no whole good
+/// The entry that begins the bytes of a journal, before which so many came; found: its bytes, or 0 where no whole good
 /// entry stands there, and then 1 if the bytes end before it does, else 0.
 pub fn entry(
     ledger: &mut [u64],
@@ -132,7 +132,7 @@ pub fn entry(
     out: &mut [u8],
     change: &mut i64,
     counts: &mut [u64; 4],
-    told: &mut [u64; 2],
+    found: &mut [u64; 2],
 ) -> u64 {
     // SAFETY: as for fresh.
     unsafe {
@@ -146,21 +146,21 @@ pub fn entry(
             out.len(),
             change,
             counts.as_mut_ptr(),
-            told.as_mut_ptr(),
+            found.as_mut_ptr(),
         )
     }
 }
 
-/// The posted table of a journal; told: bytes written, and 13 if it was stopped, else 0.
-pub fn table(journal: &[u8], out: &mut [u8], told: &mut [u64; 2]) -> u64 {
+/// The posted table of a journal; result: bytes written, and 13 if it was stopped, else 0.
+pub fn table(journal: &[u8], out: &mut [u8], result: &mut [u64; 2]) -> u64 {
     let (bytes, length) = (out.as_mut_ptr(), out.len());
     // SAFETY: as for fresh.
-    unsafe { raw::clearing_table(journal.as_ptr(), journal.len(), bytes, length, told.as_mut_ptr()) }
+    unsafe { raw::clearing_table(journal.as_ptr(), journal.len(), bytes, length, result.as_mut_ptr()) }
 }
 
-/// The notices of a journal; told as for the table.
-pub fn notices(journal: &[u8], out: &mut [u8], told: &mut [u64; 2]) -> u64 {
+/// The notices of a journal; the result as for the table.
+pub fn notices(journal: &[u8], out: &mut [u8], result: &mut [u64; 2]) -> u64 {
     let (bytes, length) = (out.as_mut_ptr(), out.len());
     // SAFETY: as for fresh.
-    unsafe { raw::clearing_notices(journal.as_ptr(), journal.len(), bytes, length, told.as_mut_ptr()) }
+    unsafe { raw::clearing_notices(journal.as_ptr(), journal.len(), bytes, length, result.as_mut_ptr()) }
 }

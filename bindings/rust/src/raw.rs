@@ -67,14 +67,14 @@ unsafe extern "C" {
         out_len: usize,
         change: *mut i64,
         counts: *mut u64,
-        told: *mut u64,
+        found: *mut u64,
     ) -> u64;
-    pub fn clearing_table(journal: *const u8, journal_len: usize, out: *mut u8, out_len: usize, told: *mut u64) -> u64;
+    pub fn clearing_table(journal: *const u8, journal_len: usize, out: *mut u8, out_len: usize, result: *mut u64) -> u64;
     pub fn clearing_notices(
         journal: *const u8,
         journal_len: usize,
         out: *mut u8,
         out_len: usize,
-        told: *mut u64,
+        result: *mut u64,
     ) -> u64;
 }

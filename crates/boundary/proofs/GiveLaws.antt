@@ -39,7 +39,7 @@ use Rattle.journal.proofs.Body as declared
 use Rattle.journal.proofs.MadeLaws.{Taken}
 use Rattle.engine.specs.InWords.{wordsLeft}
 use Rattle.entries.specs.parts.Stepping.{EntryCalledIn}
-use Rattle.boundary.specs.Boundary.{numberOf, changeLeft, countsLeft, Stores, Gives, freshIn, entryIn, Leaves, headCalled, headWritten, headTold}
+use Rattle.boundary.specs.Boundary.{numberOf, changeLeft, countsLeft, Stores, Gives, freshIn, entryIn, Leaves, headCalled, headWritten, headFound}
 
 -- ---- a call that is no fresh
 abbrev pub NoFresh : Body → Type 0
@@ -183,10 +183,10 @@ stores-done a r e x ks x₁ y =
 
 -- ---- the entry at the start of a journal
 module _ (room seen : ℕ) (src ws : List ℕ) (x : ℤ) (ks out : List ℕ) where
-  -- what is given, written and told of what stands there
+  -- what is given, written and found of what stands there
   abbrev pub Headed : Head → List ℕ → ℤ → List ℕ → List ℕ → List ℕ → ℕ → Type 0
   Headed h ws₁ x₁ ks₁ out₁ ts n =
-      Gives (headCalled room ws src h) ws x ks ws₁ x₁ ks₁ n × ((out₁ ≡ put out 0 (headWritten room ws src h)) × (ts ≡ headTold h))
+      Gives (headCalled room ws src h) ws x ks ws₁ x₁ ks₁ n × ((out₁ ≡ put out 0 (headWritten room ws src h)) × (ts ≡ headFound h))
 
   refused : Gives (record { ledger = ledgerOf ws; answer = Refused 13 }) ws x ks ws x ks 13
   refused = record { number = refl; words = refl; ledger = refl; change = refl; counts = refl }

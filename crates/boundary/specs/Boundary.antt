@@ -121,11 +121,11 @@ headWritten room ws src Cut = []
 headWritten room ws src Bad = []
 headWritten room ws src (Whole b n) = entryWritten room (ledgerOf ws) b (part src 3 (n - 3))
 
--- what is told: the bytes of the entry, 0 if no whole good one stands there; and 1 if it is cut short, else 0
-abbrev pub headTold : Head → List ℕ
-headTold Cut = 0 ∷ 1 ∷ []
-headTold Bad = 0 ∷ 0 ∷ []
-headTold (Whole b n) = n ∷ 0 ∷ []
+-- what was found: the bytes of the entry, 0 if no whole good one stands there; and 1 if it is cut short, else 0
+abbrev pub headFound : Head → List ℕ
+headFound Cut = 0 ∷ 1 ∷ []
+headFound Bad = 0 ∷ 0 ∷ []
+headFound (Whole b n) = n ∷ 0 ∷ []
 
 -- ---- the lookups
 abbrev pub placeNumber : Place → ℕ

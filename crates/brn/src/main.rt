@@ -12,5 +12,5 @@ fn main() {
         );
         return;
     }
-    ending::tell(Wanted::Notices);
+    ending::write_wanted(Wanted::Notices);
 }

@@ -17,19 +17,19 @@ reportNumber (report.Written n) = 0
 reportNumber report.TooSmall = 1
 
 -- the bytes written, and 13 if the journal ended bad (its table says `stopped,13`)
-abbrev pub toldLeft : List ℕ → Bool → Report → List ℕ
-toldLeft ts bad (report.Written n) = n ∷ endNumber bad ∷ []
-toldLeft ts bad report.TooSmall = ts
+abbrev pub resultLeft : List ℕ → Bool → Report → List ℕ
+resultLeft ts bad (report.Written n) = n ∷ endNumber bad ∷ []
+resultLeft ts bad report.TooSmall = ts
 
--- the number answered, the output and what is told of the table of the journal s, with the claim for its calls
+-- the number answered, the output and the result of the table of the journal s, with the claim for its calls
 pub record Tables (s out₀ ts out ts₁ : List ℕ) (n : ℕ) : Type 0 where
   pub number : n ≡ reportNumber (reportOf (length out₀) s)
-  pub told : ts₁ ≡ toldLeft ts (isBad s) (reportOf (length out₀) s)
+  pub result : ts₁ ≡ resultLeft ts (isBad s) (reportOf (length out₀) s)
   pub bytes : out ≡ put out₀ 0 (reported (length out₀) s)
   pub claimed : Claimed s
 
 -- and of its notices
 pub record Notices (s out₀ ts out ts₁ : List ℕ) (n : ℕ) : Type 0 where
   pub number : n ≡ reportNumber (noticesReport (length out₀) s)
-  pub told : ts₁ ≡ toldLeft ts (isBad s) (noticesReport (length out₀) s)
+  pub result : ts₁ ≡ resultLeft ts (isBad s) (noticesReport (length out₀) s)
   pub bytes : out ≡ put out₀ 0 (noticesWritten (length out₀) s)

@@ -1,6 +1,6 @@
 // The calls for C and Rust programs: numbers and lent slices only, the ledger lent as 2,436 words (crate words). include/clearing.h is the
 // header. Each answers 0 if it was carried out, else the number of its cause, and then every lent buffer holds what it held (but for what
-// clearing_entry tells of the entry).
+// clearing_entry found of the entry).
 pub mod journals;
 
 ghost use mathlib.Core.Path.{_≡_};
@@ -11,7 +11,7 @@ ghost use Rattle.causes.specs.Causes.{request, file, cancel, close};
 ghost use Rattle.calls.specs.Machine.{stepIn, called};
 ghost use Rattle.lookups.specs.Lookups.{amountsIn};
 ghost use Rattle.journal.specs.Entries.{headOf};
-ghost use Rattle.boundary.specs.Boundary.{startOf, identityFrom, requestOf, freshIn, Gives, headCalled, headWritten, headTold, Opens, amountsNumber, amountsLeft, Prints};
+ghost use Rattle.boundary.specs.Boundary.{startOf, identityFrom, requestOf, freshIn, Gives, headCalled, headWritten, headFound, Opens, amountsNumber, amountsLeft, Prints};
 ghost use Rattle.units.specs.Calendar.{dateOf};
 use causes::CodeField;
 use causes::Request;
@@ -192,7 +192,7 @@ pub extern "C" fn clearing_ledger_table(ledger: &[u64], out: &mut [u8], written:
     }
 }
 
-// The journal entry at the start of some bytes, before which so many entries came; told are its bytes, 0 where no whole good one stands there
+// The journal entry at the start of some bytes, before which so many entries came; found are its bytes, 0 where no whole good one stands there
 // (13), and 1 if it is cut short, else 0.
 #[no_mangle]
 pub extern "C" fn clearing_entry(
@@ -202,24 +202,24 @@ pub extern "C" fn clearing_entry(
     out: &mut [u8],
     change: &mut i64,
     counts: &mut [u64; 4],
-    told: &mut [u64; 2],
+    found: &mut [u64; 2],
 ) -> u64
     ensures { λ n. ⌜ Gives (headCalled (length (now (out .entry))) (now (ledger .entry)) (now (journal .entry)) (headOf seen (now (journal .entry)))) (now (ledger .entry)) (now (change .entry)) (now (counts .entry)) (now (ledger .exit)) (now (change .exit)) (now (counts .exit)) n ⌝ }
     ensures { λ _. ⌜ now (out .exit) ≡ put (now (out .entry)) 0 (headWritten (length (now (out .entry))) (now (ledger .entry)) (now (journal .entry)) (headOf seen (now (journal .entry)))) ⌝ }
-    ensures { λ _. ⌜ now (told .exit) ≡ headTold (headOf seen (now (journal .entry))) ⌝ }
+    ensures { λ _. ⌜ now (found .exit) ≡ headFound (headOf seen (now (journal .entry))) ⌝ }
 {
     let h = journal::head_at(journal, seen);
     match h {
         Head::Cut => {
-            *told = [0, 1];
+            *found = [0, 1];
             13
         }
         Head::Bad => {
-            *told = [0, 0];
+            *found = [0, 0];
             13
         }
         Head::Whole(body, n) => {
-            *told = [n as u64, 0];
+            *found = [n as u64, 0];
             boundary::call(ledger, out, change, counts, body, &journal[3..n])
         }
     }

@@ -34,10 +34,10 @@ module _ (writes : Bool) (room : ℕ) (ws out : List ℕ) (sure : soundLedger (l
 
 -- ---- what stands at the start of some bytes
 module _ (writes : Bool) (seen : ℕ) (src ws₀ out₀ : List ℕ) where
-  pub step-cut : headOf seen src ≡ Cut → SteppedIn writes 0 seen src ws₀ out₀ ws₀ out₀ (step.Left false)
+  pub step-cut : headOf seen src ≡ Cut → SteppedIn writes 0 seen src ws₀ out₀ ws₀ out₀ (step.NoEntry false)
   step-cut e = rw e (refl, refl, refl)
 
-  pub step-bad : headOf seen src ≡ Bad → SteppedIn writes 0 seen src ws₀ out₀ ws₀ out₀ (step.Left true)
+  pub step-bad : headOf seen src ≡ Bad → SteppedIn writes 0 seen src ws₀ out₀ ws₀ out₀ (step.NoEntry true)
   step-bad e = rw e (refl, refl, refl)
 
   pub step-made : (b : Body) (n : ℕ) → headOf seen src ≡ Whole b n → (ws out : List ℕ) (a : Answer) → EntryCalledIn writes 64200 0 b (take (n - 3) (drop 3 src)) ws₀ out₀ ws out a

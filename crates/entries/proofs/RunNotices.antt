@@ -150,7 +150,7 @@ module _ (src ws₀ : List ℕ) (seen₀ : ℕ) (writes : Bool) (out₀ ws out :
 
   module _ (ws′ out′ : List ℕ) (r : Stepped) (s : SteppedIn writes n seen (drop at src) ws out ws′ out′ r) where
     -- no whole entry stands there
-    pub ran-left : (bad : Bool) → (writes && ltb (length out - n) 64200) ≡ false → r ≡ step.Left bad → RanIn seen₀ writes src ws₀ out₀ ws′ out′ (ranTo at seen n false bad)
+    pub ran-left : (bad : Bool) → (writes && ltb (length out - n) 64200) ≡ false → r ≡ step.NoEntry bad → RanIn seen₀ writes src ws₀ out₀ ws′ out′ (ranTo at seen n false bad)
     ran-left bad f e =
         let x = stood-left writes n seen (drop at src) ws out ws′ out′ r s bad e in
         rw (x .1, x .2) (ends false bad f (left-none src at seen n bad (x .0)))

@@ -25,8 +25,8 @@ module _ (writes : Bool) (n seen : ℕ) (src ws₀ out₀ ws out : List ℕ) (r 
   stood-whole m a q = go (headOf seen src) refl x
     where
       go : (h : Head) → headOf seen src ≡ h → StepOn h writes n src ws₀ out₀ ws out r → Stood m a
-      go Cut e w = let p : step.Left false ≡ step.Made m a = sym (w .2) ∙ q in let z : _≡_ {A = ℕ} 0 1 = cc in absurd (omega arith)
-      go Bad e w = let p : step.Left true ≡ step.Made m a = sym (w .2) ∙ q in let z : _≡_ {A = ℕ} 0 1 = cc in absurd (omega arith)
+      go Cut e w = let p : step.NoEntry false ≡ step.Made m a = sym (w .2) ∙ q in let z : _≡_ {A = ℕ} 0 1 = cc in absurd (omega arith)
+      go Bad e w = let p : step.NoEntry true ≡ step.Made m a = sym (w .2) ∙ q in let z : _≡_ {A = ℕ} 0 1 = cc in absurd (omega arith)
       go (Whole b k) e w =
           let p : step.Made k (w .0) ≡ step.Made m a = sym (w .1) ∙ q in
           let z : k ≡ m = cc in
@@ -41,10 +41,10 @@ module _ (writes : Bool) (n seen : ℕ) (src ws₀ out₀ ws out : List ℕ) (r 
   abbrev pub Neither : Bool → Type 0
   Neither bad = (parse seen src ≡ record { entries = []; stopped = bad; rest = src }) × (ws ≡ ws₀) × (out ≡ out₀)
 
-  pub stood-left : (bad : Bool) → r ≡ step.Left bad → Neither bad
+  pub stood-left : (bad : Bool) → r ≡ step.NoEntry bad → Neither bad
   stood-left bad q = go (headOf seen src) refl x
     where
       go : (h : Head) → headOf seen src ≡ h → StepOn h writes n src ws₀ out₀ ws out r → Neither bad
-      go Cut e w = let p : step.Left false ≡ step.Left bad = sym (w .2) ∙ q in let z : false ≡ bad = cc in subst Neither z (parse-cut seen src e, w .0, w .1)
-      go Bad e w = let p : step.Left true ≡ step.Left bad = sym (w .2) ∙ q in let z : true ≡ bad = cc in subst Neither z (parse-bad seen src e, w .0, w .1)
-      go (Whole b k) e w = let p : step.Made k (w .0) ≡ step.Left bad = sym (w .1) ∙ q in let z : _≡_ {A = ℕ} 0 1 = cc in absurd (omega arith)
+      go Cut e w = let p : step.NoEntry false ≡ step.NoEntry bad = sym (w .2) ∙ q in let z : false ≡ bad = cc in subst Neither z (parse-cut seen src e, w .0, w .1)
+      go Bad e w = let p : step.NoEntry true ≡ step.NoEntry bad = sym (w .2) ∙ q in let z : true ≡ bad = cc in subst Neither z (parse-bad seen src e, w .0, w .1)
+      go (Whole b k) e w = let p : step.Made k (w .0) ≡ step.NoEntry bad = sym (w .1) ∙ q in let z : _≡_ {A = ℕ} 0 1 = cc in absurd (omega arith)

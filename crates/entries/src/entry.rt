@@ -15,7 +15,7 @@ use journal::Head;
 
 // What stands before a reader: no whole good entry, and whether a bad one; or one that was made, with how many bytes it has and what its call answers.
 pub enum Stepped {
-    Left(bool),
+    NoEntry(bool),
     Made(usize, Answer),
 }
 
@@ -50,8 +50,8 @@ pub fn step(ws: &mut [u64], out: &mut [u8], src: &[u8], seen: u64, writes: bool)
 {
     let h = journal::head_at(src, seen);
     match h {
-        Head::Cut => Stepped::Left(false),
-        Head::Bad => Stepped::Left(true),
+        Head::Cut => Stepped::NoEntry(false),
+        Head::Bad => Stepped::NoEntry(true),
         Head::Whole(body, n) => {
             let a = entry(ws, out, writes, records::FILE_SIZE, body, &src[3..n]);
             Stepped::Made(n, a)

@@ -79,7 +79,7 @@ pub fn run(ws: &mut [u64], out: &mut [u8], writes: bool, src: &[u8], seen: u64) 
         let to = place_for(writes, n);
         let r = entry::step(ws, &mut out[to..], &src[at..], k, writes);
         match r {
-            Stepped::Left(bad) => {
+            Stepped::NoEntry(bad) => {
                 return ran_to(at, k, n, false, bad);
             }
             Stepped::Made(m, a) => {

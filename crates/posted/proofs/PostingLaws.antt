@@ -55,7 +55,7 @@ module _ (ws buf out₀ out : List ℕ) (e : End) (o : Output) (x : e .failed �
         failed = f;
         bytes = s;
         descriptor = w .descriptor;
-        told = ap (take (o .length)) (w .bytes) ∙ front-put out₀ (tableBy e ws) (o .length) (w .size) ∙ t;
+        table = ap (take (o .length)) (w .bytes) ∙ front-put out₀ (tableBy e ws) (o .length) (w .size) ∙ t;
         size = w .size ∙ ap length t;
         within = w .within;
         claimed = claimed s;

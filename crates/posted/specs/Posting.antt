@@ -34,7 +34,7 @@ pub record Posts (out : List ℕ) (o : Output) : Type 0 where
   pub failed : Bool
   pub bytes : List ℕ
   pub descriptor : o .descriptor ≡ pos 1
-  pub told : take (o .length) out ≡ cond failed [] (postedOf bytes)
+  pub table : take (o .length) out ≡ cond failed [] (postedOf bytes)
   pub size : o .length ≡ length (cond failed [] (postedOf bytes))
   pub within : o .length ≤ length out
   pub claimed : Claimed bytes

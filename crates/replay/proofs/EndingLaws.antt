@@ -13,7 +13,7 @@ use Rattle.journal.specs.Journal.{endsBad}
 use Rattle.replay.specs.declared.Wanted.{Wanted}
 use Rattle.streams.specs.declared.pieces.End.{End}
 use Rattle.replay.specs.Reading.{Reads}
-use Rattle.replay.specs.Ending.{stopBy, StopLine, StopLineWritten, ToldSize}
+use Rattle.replay.specs.Ending.{stopBy, StopLine, StopLineWritten, StopLineSize}
 
 pub stop-line : (e : End) (bad : Bool) (n : ℕ) (before after : List ℕ) → bad ≡ endsBad (e .stopped) (e .left) (e .seen)
     → n ≡ 0 + length (stopLine (not (e .failed) && bad)) → after ≡ put before 0 (stopLine (not (e .failed) && bad))
@@ -29,24 +29,24 @@ stop-line e bad n before after b s q =
     }
 
 module _ (t : Wanted) (ws buf out₀ out : List ℕ) (e : End) (n : ℕ) (x : e .failed ≡ false → Reads t ws buf e) (w : StopLine e out₀ out n) where
-  told : take n out ≡ stopBy e
-  told = ap (take n) (w .bytes) ∙ front-put out₀ (stopBy e) n (w .size)
+  line : take n out ≡ stopBy e
+  line = ap (take n) (w .bytes) ∙ front-put out₀ (stopBy e) n (w .size)
 
   by-failed : (f : Bool) → e .failed ≡ f → take n out ≡ stopLine (not f && endsBad (e .stopped) (e .left) (e .seen))
-  by-failed f q = told ∙ ap (λ (b : Bool). stopLine (not b && endsBad (e .stopped) (e .left) (e .seen))) q
+  by-failed f q = line ∙ ap (λ (b : Bool). stopLine (not b && endsBad (e .stopped) (e .left) (e .seen))) q
 
   by : (f : Bool) → e .failed ≡ f → StopLineWritten out n
-  by true q = record { failed = true; bytes = []; told = by-failed true q; within = w .within }
+  by true q = record { failed = true; bytes = []; line = by-failed true q; within = w .within }
   by false q =
       record {
         failed = false;
         bytes = x q .bytes;
-        told = by-failed false q ∙ ap stopLine (x q .bad);
+        line = by-failed false q ∙ ap stopLine (x q .bad);
         within = w .within;
       }
 
-  pub all-told : StopLineWritten out n
-  all-told = by (e .failed) refl
+  pub line-written : StopLineWritten out n
+  line-written = by (e .failed) refl
 
-pub told-size : {out : List ℕ} {n : ℕ} → StopLineWritten out n → ToldSize n
-told-size {out} {n} t = record { failed = t .failed; bytes = t .bytes; size = sym (length-take-le n out (t .within)) ∙ ap length (t .told) }
+pub line-size : {out : List ℕ} {n : ℕ} → StopLineWritten out n → StopLineSize n
+line-size {out} {n} t = record { failed = t .failed; bytes = t .bytes; size = sym (length-take-le n out (t .within)) ∙ ap length (t .line) }

@@ -77,11 +77,11 @@ first-sound = fresh-sound (record { today = record { 0 = 19000101 }; tracking = 
 first-book : book firstLedger ≡ firstBook
 first-book = refl
 
-none-told : (t : Wanted) → 0 ≡ length (writtenOf t 0 firstBook [])
+none-written : (t : Wanted) → 0 ≡ length (writtenOf t 0 firstBook [])
 unfolding noticesOf traceLines
-none-told Nothing = refl
-none-told Notices = refl
-none-told Lines = refl
+none-written Nothing = refl
+none-written Notices = refl
+none-written Lines = refl
 
 pub reading-start : (t : Wanted) (ws buf : List ℕ) → layout.ledgerOf ws ≡ firstLedger → Reading t ws buf 0 0 0
 unfolding ledgerAfterEntries afterEntries noticesOf
@@ -95,7 +95,7 @@ reading-start t ws buf e =
       ledger = e;
       books = ap book e ∙ first-book;
       count = refl;
-      size = none-told t;
+      size = none-written t;
     }
 
 pub waits-start : (buf : List ℕ) → Waits 0 (take 0 buf) false
@@ -118,11 +118,11 @@ reading-kept t ws buf after seen have total x e n =
       size = x .size;
     }
 
-told-append : (t : Wanted) (k : Book) (es fs : List Entry)
+written-append : (t : Wanted) (k : Book) (es fs : List Entry)
     → length (writtenOf t 0 k (es ++ fs)) ≡ length (writtenOf t 0 k es) + length (writtenOf t (length es) (afterEntries k es) fs)
-told-append Nothing k es fs = refl
-told-append Notices k es fs = ap length (notices-append k es fs) ∙ length-append (noticesOf k es) (noticesOf (afterEntries k es) fs)
-told-append Lines k es fs =
+written-append Nothing k es fs = refl
+written-append Notices k es fs = ap length (notices-append k es fs) ∙ length-append (noticesOf k es) (noticesOf (afterEntries k es) fs)
+written-append Lines k es fs =
     let i : 1 + length es ≡ length es + 1 = omega arith in
     ap length (lines-append 1 k es fs)
     ∙ length-append (traceLines 1 k es) (traceLines (1 + length es) (afterEntries k es) fs)
@@ -148,7 +148,7 @@ module _ (t : Wanted) (ws buf : List ℕ) (seen have total : ℕ) (x : Reading t
 
   size-more : total + p .written ≡ length (writtenOf t 0 firstBook all)
   size-more =
-      let e = told-append t firstBook (x .done) (m .done) in
+      let e = written-append t firstBook (x .done) (m .done) in
       let w = m .written ∙ ap₂ (λ (i : ℕ) (k : Book). length (writtenOf t i k (m .done))) (x .count) (x .books) in
       omega (arith, e, x .size, w)
 

@@ -32,11 +32,11 @@ lastTo Lines = pos 1
 pub record StopLineWritten (out : List ℕ) (n : ℕ) : Type 0 where
   pub failed : Bool
   pub bytes : List ℕ
-  pub told : take n out ≡ stopLine (not failed && isBad bytes)
+  pub line : take n out ≡ stopLine (not failed && isBad bytes)
   pub within : n ≤ length out
 
 -- the bytes that are left to write are those of that line
-pub record ToldSize (n : ℕ) : Type 0 where
+pub record StopLineSize (n : ℕ) : Type 0 where
   pub failed : Bool
   pub bytes : List ℕ
   pub size : n ≡ length (stopLine (not failed && isBad bytes))

@@ -3,7 +3,7 @@ ghost use mathlib.Core.Path.{_≡_};
 ghost use Prim.Native.Nat.{_≤_};
 ghost use lib.ListN.{length};
 ghost use Rattle.words.specs.Layout.{ledgerSize};
-ghost use Rattle.replay.specs.Ending.{StopLine, lastTo, StopLineWritten, ToldSize};
+ghost use Rattle.replay.specs.Ending.{StopLine, lastTo, StopLineWritten, StopLineSize};
 ghost use Rattle.streams.specs.Ends.{pieceSize};
 ghost use Rattle.table.specs.Table.{stopSize};
 use crate::Wanted;
@@ -24,20 +24,20 @@ fn stop_line(out: &mut [u8], e: End) -> usize
 }
 
 // Reads standard input and writes what is asked for of its entries; what is left to write is the line in `out`, of so many bytes.
-fn tell_input(ws: &mut [u64], buf: &mut [u8], out: &mut [u8], tells: Wanted) -> usize
+fn read_input(ws: &mut [u64], buf: &mut [u8], out: &mut [u8], wanted: Wanted) -> usize
     requires { ⌜ (length (now ws) ≡ ledgerSize) × (length (now buf) ≡ pieceSize) × (length (now out) ≡ pieceSize) ⌝ }
     ensures { λ n. ⌜ StopLineWritten (now (out .exit)) n ⌝ }
 {
     run::start(ws);
-    let e = crate::read_all(ws, buf, out, tells);
+    let e = crate::read_all(ws, buf, out, wanted);
     stop_line(out, e)
 }
 
 // Where that line goes.
-fn last_to(tells: Wanted) -> i32
-    ensures { λ d. ⌜ d ≡ lastTo tells ⌝ }
+fn last_to(wanted: Wanted) -> i32
+    ensures { λ d. ⌜ d ≡ lastTo wanted ⌝ }
 {
-    match tells {
+    match wanted {
         Wanted::Nothing => STDOUT_FILENO,
         Wanted::Notices => STDERR_FILENO,
         Wanted::Lines => STDOUT_FILENO,
@@ -45,25 +45,25 @@ fn last_to(tells: Wanted) -> i32
 }
 
 // What is left to write once standard input is read, and where it goes.
-fn last_of_input(ws: &mut [u64], buf: &mut [u8], out: &mut [u8], tells: Wanted) -> Output
+fn last_of_input(ws: &mut [u64], buf: &mut [u8], out: &mut [u8], wanted: Wanted) -> Output
     requires { ⌜ (length (now ws) ≡ ledgerSize) × (length (now buf) ≡ pieceSize) × (length (now out) ≡ pieceSize) ⌝ }
-    ensures { λ o. ⌜ (o .descriptor ≡ lastTo tells) × StopLineWritten (now (out .exit)) (o .length) ⌝ }
+    ensures { λ o. ⌜ (o .descriptor ≡ lastTo wanted) × StopLineWritten (now (out .exit)) (o .length) ⌝ }
 {
-    let length = tell_input(ws, buf, out, tells);
+    let length = read_input(ws, buf, out, wanted);
     Output {
-        descriptor: last_to(tells),
+        descriptor: last_to(wanted),
         length,
     }
 }
 
 // Reads standard input and writes what is asked for of its entries, and the line behind; answers what was last to write.
-pub fn tell(tells: Wanted) -> Output
-    ensures { λ o. ⌜ (o .descriptor ≡ lastTo tells) × ToldSize (o .length) ⌝ }
+pub fn write_wanted(wanted: Wanted) -> Output
+    ensures { λ o. ⌜ (o .descriptor ≡ lastTo wanted) × StopLineSize (o .length) ⌝ }
 {
     let mut ws = [0u64; words::LEDGER_SIZE];
     let mut buf = [0u8; streams::PIECE_SIZE];
     let mut out = [0u8; streams::PIECE_SIZE];
-    let o = last_of_input(&mut ws, &mut buf, &mut out, tells);
+    let o = last_of_input(&mut ws, &mut buf, &mut out, wanted);
     output::send(o, &out);
     o
 }

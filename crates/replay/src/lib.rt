@@ -49,11 +49,11 @@ fn run_lines(ws: &mut [u64], out: &mut [u8], src: &[u8], seen: u64) -> Ran
 }
 
 // Makes the entries at the start of src and writes what is asked for of them.
-fn run_telling(ws: &mut [u64], out: &mut [u8], tells: Wanted, src: &[u8], seen: u64) -> Ran
+fn run_wanted(ws: &mut [u64], out: &mut [u8], wanted: Wanted, src: &[u8], seen: u64) -> Ran
     requires { ⌜ soundLedger (ledgerOf (now ws)) ≡ true ⌝ }
-    ensures { λ r. ⌜ PieceRuns seen tells (now (src .entry)) (now (ws .entry)) (now (out .entry)) (now (ws .exit)) (now (out .exit)) r ⌝ }
+    ensures { λ r. ⌜ PieceRuns seen wanted (now (src .entry)) (now (ws .entry)) (now (out .entry)) (now (ws .exit)) (now (out .exit)) r ⌝ }
 {
-    match tells {
+    match wanted {
         Wanted::Nothing => {
             let r = run::run(ws, out, false, src, seen);
             run::ran_to(r.used, r.seen, 0, r.full, r.stopped)
@@ -64,11 +64,18 @@ fn run_telling(ws: &mut [u64], out: &mut [u8], tells: Wanted, src: &[u8], seen: 
 }
 
 // Makes the entries of the first n bytes and keeps the bytes that are left at the start.
-fn make(ws: &mut [u64], buf: &mut [u8], out: &mut [u8], tells: Wanted, n: usize, seen: u64) -> Piece
+fn make(
+    ws: &mut [u64],
+    buf: &mut [u8],
+    out: &mut [u8],
+    wanted: Wanted,
+    n: usize,
+    seen: u64,
+) -> Piece
     requires { ⌜ (soundLedger (ledgerOf (now ws)) ≡ true) × (n ≤ length (now buf)) ⌝ }
-    ensures { λ p. ⌜ PieceLeaves seen tells n (now (ws .entry)) (now (buf .entry)) (now (out .entry)) (now (ws .exit)) (now (buf .exit)) (now (out .exit)) p ⌝ }
+    ensures { λ p. ⌜ PieceLeaves seen wanted n (now (ws .entry)) (now (buf .entry)) (now (out .entry)) (now (ws .exit)) (now (buf .exit)) (now (out .exit)) p ⌝ }
 {
-    let r = run_telling(ws, out, tells, &buf[..n], seen);
+    let r = run_wanted(ws, out, wanted, &buf[..n], seen);
     let left = journal::keep(buf, r.used, n);
     Piece {
         seen: r.seen,
@@ -80,9 +87,9 @@ fn make(ws: &mut [u64], buf: &mut [u8], out: &mut [u8], tells: Wanted, n: usize,
 }
 
 // Reads standard input in pieces and makes its entries. A billion entries have fewer bytes than there are turns.
-pub fn read_all(ws: &mut [u64], buf: &mut [u8], out: &mut [u8], tells: Wanted) -> End
+pub fn read_all(ws: &mut [u64], buf: &mut [u8], out: &mut [u8], wanted: Wanted) -> End
     requires { ⌜ (ledgerOf (now ws) ≡ firstLedger) × (length (now buf) ≡ pieceSize) × (length (now out) ≤ pieceSize) ⌝ }
-    ensures { λ e. ⌜ (e .failed ≡ false → Reads tells (now (ws .exit)) (now (buf .exit)) e) ⌝ }
+    ensures { λ e. ⌜ (e .failed ≡ false → Reads wanted (now (ws .exit)) (now (buf .exit)) e) ⌝ }
 {
     let mut seen = 0;
     let mut left = 0;
@@ -95,7 +102,7 @@ pub fn read_all(ws: &mut [u64], buf: &mut [u8], out: &mut [u8], tells: Wanted) -
         let Filled::Bytes(n) = f else {
             return pieces::end_of_input(f, seen, left, total);
         };
-        let p = make(ws, buf, out, tells, n, seen);
+        let p = make(ws, buf, out, wanted, n, seen);
         total += p.written;
         let is_written = output::send(pieces::output_of(p), out);
         if !is_written | p.stopped {

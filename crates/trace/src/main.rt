@@ -12,5 +12,5 @@ fn main() {
         );
         return;
     }
-    ending::tell(Wanted::Lines);
+    ending::write_wanted(Wanted::Lines);
 }

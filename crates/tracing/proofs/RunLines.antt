@@ -61,7 +61,7 @@ module _ (seen : ℕ) (src ws₀ out₀ ws out : List ℕ) (at k n : ℕ) (w : T
     turn : SteppedIn true 0 k (drop at src) ws sent ws′ sent′ r
     turn = subst (λ (s : List ℕ). SteppedIn true 0 k s ws sent ws′ sent′ r) (rest src at) y
 
-    pub traces-left : (bad : Bool) → r ≡ step.Left bad → 8652 ≤ length out - n → TracesIn seen src ws₀ out₀ ws′ out (ranTo at k n false bad)
+    pub traces-left : (bad : Bool) → r ≡ step.NoEntry bad → 8652 ≤ length out - n → TracesIn seen src ws₀ out₀ ws′ out (ranTo at k n false bad)
     traces-left bad q f = let x = stood-left true 0 k (drop at src) ws sent ws′ sent′ r turn bad q in rw (x .1) (ended bad f (x .0))
 
     module _ (m : ℕ) (a : Answer) (q : r ≡ step.Made m a) where

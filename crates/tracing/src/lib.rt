@@ -60,7 +60,7 @@ pub fn run(ws: &mut [u64], sent: &mut [u8], out: &mut [u8], src: &[u8], seen: u6
         let rest = &src[used..];
         let r = entries::entry::step(ws, sent, rest, k, true);
         match r {
-            Stepped::Left(bad) => {
+            Stepped::NoEntry(bad) => {
                 return entries::run::ran_to(used, k, n, false, bad);
             }
             Stepped::Made(m, a) => {

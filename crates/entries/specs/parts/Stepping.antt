@@ -27,8 +27,8 @@ pub record EntryCalledIn (writes : Bool) (room at : ℕ) (b : Body) (s ws₀ out
 
 -- what stands at the start of src, made: where no whole entry does, words and output are as they were
 abbrev pub StepOn : Head → Bool → ℕ → List ℕ → List ℕ → List ℕ → List ℕ → List ℕ → Stepped → Type 0
-StepOn Cut writes at src ws₀ out₀ ws out r = (ws ≡ ws₀) × (out ≡ out₀) × (r ≡ step.Left false)
-StepOn Bad writes at src ws₀ out₀ ws out r = (ws ≡ ws₀) × (out ≡ out₀) × (r ≡ step.Left true)
+StepOn Cut writes at src ws₀ out₀ ws out r = (ws ≡ ws₀) × (out ≡ out₀) × (r ≡ step.NoEntry false)
+StepOn Bad writes at src ws₀ out₀ ws out r = (ws ≡ ws₀) × (out ≡ out₀) × (r ≡ step.NoEntry true)
 StepOn (Whole b n) writes at src ws₀ out₀ ws out r =
     (a : Answer) × (r ≡ step.Made n a) × EntryCalledIn writes fileSize at b (part src 3 (n - 3)) ws₀ out₀ ws out a
 

@@ -51,7 +51,7 @@ enum-known-f c = search needs
 
 -- the bytes held stay
 held : (c : tie.After-more Inv-loop μ-loop)
-    → Reading (c .before .before .before .before .before .before .before .args .tells) (c .before .before .before .loop .ws) (c .more .last .0) (c .before .before .before .loop .seen) (c .before .before .before .loop .left) (c .before .before .before .loop .total)
+    → Reading (c .before .before .before .before .before .before .before .args .wanted) (c .before .before .before .loop .ws) (c .more .last .0) (c .before .before .before .loop .seen) (c .before .before .before .loop .left) (c .before .before .before .loop .total)
 held c = reading-kept _ _ _ _ _ _ _ (c .before .before .before .loop .inv .reads) (c .more .ensures .stay) (c .more .kept .0)
 
 -- the buffer holds no fewer bytes than before
@@ -63,7 +63,7 @@ module _ (c : tie.After-make Inv-loop μ-loop) where
   abbrev at-more : tie.After-more Inv-loop μ-loop
   at-more = c .before .before .before .before .before .before .before .before .before
 
-  came : Reading (at-more .before .before .before .before .before .before .before .args .tells) (c .make .last .0) (c .make .last .1 .0) (c .make .result .seen) (c .make .result .left) (at-more .before .before .before .loop .total + c .make .result .written)
+  came : Reading (at-more .before .before .before .before .before .before .before .args .wanted) (c .make .last .0) (c .make .last .1 .0) (c .make .result .seen) (c .make .result .left) (at-more .before .before .before .loop .total + c .make .result .written)
   came = reading-more _ _ _ _ _ _ (held at-more) _ (fits (c .before .before .before .before .before) .0) _ _ _ _ _ (c .make .ensures)
 
   room-kept : length (c .make .last .1 .0) ≡ 262144

@@ -7,14 +7,14 @@ use Rattle.clearing_c.proofs.journals.clearing_table.Tie as tie
 post-table-requires : tie.Need-post-table-requires
 post-table-requires c κs = search needs
 
-tell-requires : tie.Need-tell-requires
-tell-requires c κs = search needs
+store-result-requires : tie.Need-store-result-requires
+store-result-requires c κs = search needs
 
 same-length : tie.Need-same-length
 same-length c = search needs
 
 returns : tie.Need-returns
-returns c = tables _ _ _ _ _ _ _ (c .tell .ensures .0) (c .tell .ensures .1) (c .before .before .before .before .post-table .ensures)
+returns c = tables _ _ _ _ _ _ _ (c .store-result .ensures .0) (c .store-result .ensures .1) (c .before .before .before .before .post-table .ensures)
 
 pub clearing-table-spec : {M : Type 1} → statement M
-clearing-table-spec = tie.close (tie.spec post-table-requires tell-requires same-length returns)
+clearing-table-spec = tie.close (tie.spec post-table-requires store-result-requires same-length returns)

@@ -1,9 +1,9 @@
--- `replay::ending::tell` meets its contract: the buffers have the lengths that the reading asks for.
+-- `replay::ending::write_wanted` meets its contract: the buffers have the lengths that the reading asks for.
 use mathlib.Core.Path.{refl}
 use borrow.Author.Needs.{needs}
-use Rattle.replay.proofs.EndingLaws.{told-size}
-use Rattle.replay.proofs.ending.tell.Statement.{statement}
-use Rattle.replay.proofs.ending.tell.Tie as tie
+use Rattle.replay.proofs.EndingLaws.{line-size}
+use Rattle.replay.proofs.ending.write_wanted.Statement.{statement}
+use Rattle.replay.proofs.ending.write_wanted.Tie as tie
 
 slice-aggregate-last-of-input : tie.Need-slice-aggregate-last-of-input
 slice-aggregate-last-of-input c = search needs
@@ -24,10 +24,10 @@ send-requires : tie.Need-send-requires
 send-requires c κs = search needs
 
 returns : tie.Need-returns
-returns c = let last = c .before .before .before .before .before .last-of-input .ensures in (last .0, told-size (last .1))
+returns c = let last = c .before .before .before .before .before .last-of-input .ensures in (last .0, line-size (last .1))
 
-pub tell-spec : {M : Type 1} → statement M
-tell-spec =
+pub write-wanted-spec : {M : Type 1} → statement M
+write-wanted-spec =
     tie.close
     (tie.spec
     slice-aggregate-last-of-input

@@ -1,8 +1,8 @@
--- `replay::ending::tell_input` meets its contract: the line at the end of the reading is that of the bytes that came.
-use Rattle.replay.proofs.EndingLaws.{all-told}
+-- `replay::ending::read_input` meets its contract: the line at the end of the reading is that of the bytes that came.
+use Rattle.replay.proofs.EndingLaws.{line-written}
 use borrow.Author.Needs.{needs}
-use Rattle.replay.proofs.ending.tell_input.Statement.{statement}
-use Rattle.replay.proofs.ending.tell_input.Tie as tie
+use Rattle.replay.proofs.ending.read_input.Statement.{statement}
+use Rattle.replay.proofs.ending.read_input.Tie as tie
 
 start-requires : tie.Need-start-requires
 start-requires c κs = search needs
@@ -26,10 +26,10 @@ returns : tie.Need-returns
 returns c =
     let at-before = c .before .before .before .before .before .before .before .before .before in
     let read = at-before .before in
-    all-told _ _ _ _ _ _ _ (read .read-all .ensures) (c .before .before .stop-line .ensures)
+    line-written _ _ _ _ _ _ _ (read .read-all .ensures) (c .before .before .stop-line .ensures)
 
-pub tell-input-spec : {M : Type 1} → statement M
-tell-input-spec =
+pub read-input-spec : {M : Type 1} → statement M
+read-input-spec =
     tie.close
     (tie.spec
     start-requires

@@ -1,8 +1,8 @@
--- `replay::run_telling` meets its contract: what is asked for is what the run writes.
+-- `replay::run_wanted` meets its contract: what is asked for is what the run writes.
 use Rattle.replay.proofs.PieceLaws.{ran-nothing, ran-notices}
 use borrow.Author.Needs.{needs}
-use Rattle.replay.proofs.run_telling.Statement.{statement}
-use Rattle.replay.proofs.run_telling.Tie as tie
+use Rattle.replay.proofs.run_wanted.Statement.{statement}
+use Rattle.replay.proofs.run_wanted.Tie as tie
 
 enum-told : tie.Need-enum-told
 enum-told c = search needs
@@ -52,8 +52,8 @@ same-length-6 c = search needs
 returns-3 : tie.Need-returns-3
 returns-3 c = rw (c .before .before .before .before .before .before .before .enum-told3 .given .1) (c .before .before .before .before .run-lines .ensures)
 
-pub run-telling-spec : {M : Type 1} → statement M
-run-telling-spec =
+pub run-wanted-spec : {M : Type 1} → statement M
+run-wanted-spec =
     tie.close
     (tie.spec
     enum-told

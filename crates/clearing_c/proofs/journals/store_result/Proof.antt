@@ -1,8 +1,8 @@
--- `clearing_c::journals::tell` meets its contract.
+-- `clearing_c::journals::store_result` meets its contract.
 use mathlib.Core.Path.{refl}
 use borrow.Author.Needs.{needs}
-use Rattle.clearing_c.proofs.journals.tell.Statement.{statement}
-use Rattle.clearing_c.proofs.journals.tell.Tie as tie
+use Rattle.clearing_c.proofs.journals.store_result.Statement.{statement}
+use Rattle.clearing_c.proofs.journals.store_result.Tie as tie
 
 enum-told : tie.Need-enum-told
 enum-told c = search needs
@@ -19,5 +19,5 @@ returns-2 c = rw (c .before .before .report .given .1, c .if1 .taken) (refl, ref
 returns-3 : tie.Need-returns-3
 returns-3 c = rw (c .before .before .report .given .1, c .if1 .left) (refl, refl)
 
-pub tell-spec : {M : Type 1} → statement M
-tell-spec = tie.close (tie.spec enum-told enum-known-report returns returns-2 returns-3)
+pub store-result-spec : {M : Type 1} → statement M
+store-result-spec = tie.close (tie.spec enum-told enum-known-report returns returns-2 returns-3)
