@@ -40,7 +40,7 @@ use Rattle.clearing.proofs.Argument.{Arg, typed-at}
 use Rattle.clearing.proofs.Lent.{Lent, Outcome, Row, Held, tyOf, vals, whole-of}
 use Rattle.clearing.proofs.LentSteps.{gives}
 use Rattle.clearing.proofs.LentLocal.{val}
-use Rattle.clearing.proofs.OutCalls.{lends-on}
+use Rattle.clearing.proofs.OutCalls.{lent-on, lends-on}
 use Rattle.clearing.proofs.LentFileCalls.{Lent-file, calls-file}
 use Rattle.clearing.proofs.LentLookups.{Lent-look, calls-look}
 
@@ -57,10 +57,7 @@ fn-answer E answer τ ρ c₁ c₂ = record {
       ∷ local (tyOf E) memorySlot
       ∷ local answer valueLocal
       ∷ local (tyRef erased mut (pointee (Row E .written))) valueLocal
-      ∷ local (tyRef erased mut (tyInt w8)) valueLocal
-      ∷ local (sliceTy (tyRef erased mut (tyInt w8))) valueLocal
-      ∷ local (tyRef erased imm (pointee (Row E .written))) valueLocal
-      ∷ [];
+      ∷ lent-on (local (tyRef erased imm (pointee (Row E .written))) valueLocal ∷ []);
   body = seq (assign (place 5 []) (rvOpd (copy (place 1 []))))
       (seq (assign (place 7 []) (addrOf (place 5 [])))
       (lends-on 4 8 9

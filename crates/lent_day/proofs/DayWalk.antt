@@ -40,7 +40,7 @@ use Rattle.clearing.proofs.Lent.{Lent, Outcome, Row, Held, tyOf, vals, whole-of
 use Rattle.clearing.proofs.LentSteps.{gives}
 use Rattle.clearing.proofs.LentLocal.{val}
 use Rattle.clearing.proofs.LentCalls.{Lent-day, calls-day}
-use Rattle.clearing.proofs.OutCalls.{lends-on}
+use Rattle.clearing.proofs.OutCalls.{lent-on, lends-on}
 use Rattle.clearing.proofs.LentBillCalls.{Lent-bill, calls-bill}
 
 abbrev pub fn-three : (E : Lent) → Ty → Ty → Ty → Ty → Name → Name → Name → Fn
@@ -58,10 +58,7 @@ fn-three E answer τ₁ τ₂ τ₃ c₁ c₂ c₃ = record {
       ∷ local answer valueLocal
       ∷ local (tyRef erased mut (pointee (Row E .written))) valueLocal
       ∷ local (tyRef erased mut (pointee (Row E .written))) valueLocal
-      ∷ local (tyRef erased mut (tyInt w8)) valueLocal
-      ∷ local (sliceTy (tyRef erased mut (tyInt w8))) valueLocal
-      ∷ local (tyRef erased mut (pointee (Row E .written))) valueLocal
-      ∷ [];
+      ∷ lent-on (local (tyRef erased mut (pointee (Row E .written))) valueLocal ∷ []);
   body = seq (assign (place 6 []) (rvOpd (copy (place 1 []))))
       (seq (assign (place 8 []) (addrOf (place 6 [])))
       (seq (call c₁ (copy (place 8 []) ∷ copy (place 2 []) ∷ []) (place 7 []))
