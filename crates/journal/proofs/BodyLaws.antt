@@ -1,8 +1,8 @@
 -- What a field of a body that was read says of its bytes, and the length that goes with a tag. Assumes nothing.
 use Prim.Native.Nat.{ℕ, _+_, _-_, _≤_}
-use mathlib.Core.Path.{_≡_, ap, _∙_}
+use mathlib.Core.Path.{_≡_, sym, ap, _∙_}
 use mathlib.Core.Logic.{_≢_}
-use mathlib.Core.Bool.{true, false, cond, false≢true}
+use mathlib.Core.Bool.{true, false, cond, _&&_, false≢true}
 use mathlib.Core.List.{List}
 use native.Mathlib.Omega.{arith}
 use native.Mathlib.Nat.{add-zero}
@@ -14,17 +14,35 @@ use Rattle.fields.proofs.BoolLaws.{cases}
 use Rattle.fields.specs.Digits.{number, numeric}
 use Rattle.fields.specs.Put.{part}
 use Rattle.fields.specs.Field.{fieldOf}
-use Rattle.fields.specs.declared.Field.the-variants.{Number}
-use Rattle.fields.proofs.HoldLaws.{field-is}
+use Rattle.fields.specs.declared.Field.{Field}
+use Rattle.fields.specs.declared.Field.the-variants as field
+use Rattle.fields.proofs.HoldLaws.{field-isnt}
+use Rattle.ledger.specs.declared.Identity.{Identity}
+use Rattle.journal.specs.declared.IdentityField.{IdentityField}
+use Rattle.journal.specs.declared.IdentityField.the-variants.{Numeric, NotNumeric}
+use Rattle.journal.specs.parts.Fields.{identityFieldOf}
 use Rattle.journal.specs.Entries.{goodLength}
 
--- the w bytes of s from index at on are digits, and stand for n
-pub record Holds (s : List ℕ) (at w n : ℕ) : Type 0 where
-  pub digits : numeric (part s at w) ≡ true
-  pub number : n ≡ number (part s at w)
+-- ---- what was read of a field says of its bytes
+-- it was read as not numeric
+pub field-refused : (xs : List ℕ) {f : Field} → f ≡ fieldOf xs → f ≡ field.NotNumeric → numeric xs ≡ false
+field-refused xs e told = field-isnt xs (sym e ∙ told)
 
-pub holds : (s : List ℕ) (at w n : ℕ) → fieldOf (part s at w) ≡ Number n → Holds s at w n
-holds s at w n e = record { digits = field-is _ _ e .0; number = field-is _ _ e .1 }
+-- an account and a key were read as an identity, or as not numeric
+module _ (xs ys : List ℕ) where
+  pub identity-is : (id : Identity) → identityFieldOf xs ys ≡ Numeric id → ((numeric xs && numeric ys) ≡ true) × (id ≡ record { account = number xs; key = number ys })
+  unfolding identityFieldOf
+  identity-is id e =
+      cases (numeric xs && numeric ys)
+      (λ t. let h = rw t at e in (t, cc))
+      (λ t. let h = rw t at e in let z : _≡_ {A = ℕ} 0 1 = cc in absurd (omega arith))
+
+  pub identity-refused : {f : IdentityField} → f ≡ identityFieldOf xs ys → f ≡ NotNumeric → (numeric xs && numeric ys) ≡ false
+  unfolding identityFieldOf
+  identity-refused e told =
+      cases (numeric xs && numeric ys)
+      (λ t. let h = rw t at (sym e ∙ told) in let z : _≡_ {A = ℕ} 0 1 = cc in absurd (omega arith))
+      (λ t. t)
 
 -- the byte at a position
 pub byte-at : (s : List ℕ) (at : ℕ) → getD (part s at 1) 0 0 ≡ getD s at 0

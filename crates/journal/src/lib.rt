@@ -6,12 +6,14 @@ ghost use Prim.Native.Nat.{_+_, _-_, _*_, _≤_, _<_};
 ghost use lib.ListN.{length, getD};
 ghost use Rattle.fields.specs.Put.{part, put};
 ghost use Rattle.journal.specs.Journal.{endsBad};
+ghost use Rattle.journal.specs.parts.Fields.{identityFieldOf};
 ghost use Rattle.journal.specs.Entries.{codeFieldIn, freshBody, requestBody, cancelBody, closeBody, bodyOf, goodLength, inTurn, wholeOf, headBy, headOf, frameOf};
 use causes::CodeField;
 use causes::Request;
 use causes::Start;
 use fields::Field;
 use ledger::Identity;
+use records::layout;
 use rules::Check;
 use units::Ccf;
 use units::Date;
@@ -40,6 +42,27 @@ pub enum Head {
 pub enum Frame {
     Nothing,
     Sized(u8, usize),
+}
+
+// What an account and the key behind it hold: the identity, where both hold digits only.
+enum IdentityField {
+    Numeric(Identity),
+    NotNumeric,
+}
+
+// Reads the account from index `at` on, and the key behind it.
+fn read_identity(s: &[u8], at: usize) -> IdentityField
+    requires { ⌜ at + 16 ≤ length (now s) ⌝ }
+    ensures { λ r. ⌜ r ≡ identityFieldOf (part (now (s .entry)) at 12) (part (now (s .entry)) (at + 12) 4) ⌝ }
+{
+    let Field::Number(account) = fields::read_field(s, at, layout::ACCOUNT_WIDTH) else {
+        return IdentityField::NotNumeric;
+    };
+    let Field::Number(key) = fields::read_field(s, at + layout::ACCOUNT_WIDTH, layout::KEY_WIDTH)
+    else {
+        return IdentityField::NotNumeric;
+    };
+    IdentityField::Numeric(Identity { account, key })
 }
 
 // The body of a fresh: today, Tracking, Confirmation.
@@ -82,10 +105,7 @@ fn request_body(s: &[u8]) -> Body
     requires { ⌜ 56 ≤ length (now s) ⌝ }
     ensures { λ r. ⌜ r ≡ requestBody (now (s .entry)) ⌝ }
 {
-    let Field::Number(account) = fields::read_field(s, 5, 12) else {
-        return Body::Unread;
-    };
-    let Field::Number(key) = fields::read_field(s, 17, 4) else {
+    let IdentityField::Numeric(identity) = read_identity(s, 5) else {
         return Body::Unread;
     };
     let Field::Number(billing) = fields::read_field(s, 22, 8) else {
@@ -102,7 +122,7 @@ fn request_body(s: &[u8]) -> Body
     };
     Body::Request(Request {
         code: code_at(s),
-        identity: Identity { account, key },
+        identity,
         product: s[21],
         billing: Date(billing),
         from: Date(from),
@@ -116,13 +136,10 @@ fn cancel_body(s: &[u8]) -> Body
     requires { ⌜ 16 ≤ length (now s) ⌝ }
     ensures { λ r. ⌜ r ≡ cancelBody (now (s .entry)) ⌝ }
 {
-    let Field::Number(account) = fields::read_field(s, 0, 12) else {
+    let IdentityField::Numeric(identity) = read_identity(s, 0) else {
         return Body::Unread;
     };
-    let Field::Number(key) = fields::read_field(s, 12, 4) else {
-        return Body::Unread;
-    };
-    Body::Cancel(Identity { account, key })
+    Body::Cancel(identity)
 }
 
 // The body of a close: the new today.

@@ -1,7 +1,7 @@
 -- `journal::frame_at` meets its contract.
 use Prim.Native.Nat.{ℕ, _+_, _<_}
-use mathlib.Core.Path.{_≡_, refl, _∙_}
-use mathlib.Core.Bool.{Bool, true, false, _&&_}
+use mathlib.Core.Path.{_≡_, _∙_}
+use mathlib.Core.Bool.{false, _&&_, and-false}
 use mathlib.Core.List.{List}
 use native.Mathlib.Omega.{arith}
 use lib.Dec.{leb}
@@ -16,10 +16,6 @@ use Rattle.journal.proofs.frame_at.Tie as tie
 -- the test, by the definition
 test-is : (c : tie.After-good-length) → let s = c .before .before .before .before .before .args .s .now in (goodLength (tagIn s) (lengthIn s) && leb (lengthIn s + 3) (length s)) ≡ (c .good-length .result && leb (c .before .before .length-at .result + 3) (length s))
 test-is c = rw (c .good-length .ensures, c .before .before .length-at .ensures .0)
-
-and-false : (a : Bool) → (a && false) ≡ false
-and-false true = refl
-and-false false = refl
 
 too-few : (s : List ℕ) → length s < 3 → (goodLength (tagIn s) (lengthIn s) && leb (lengthIn s + 3) (length s)) ≡ false
 too-few s h = rw (lt-leb (lengthIn s + 3) (length s) (omega arith)) (and-false (goodLength (tagIn s) (lengthIn s)))

@@ -1,21 +1,30 @@
 -- `journal::fresh_body` meets its contract: each field is digits or the body is not read.
 use borrow.Author.Needs.{needs}
-use mathlib.Core.Path.{sym, _∙_}
-use Rattle.fields.proofs.HoldLaws.{field-isnt}
+use Prim.Native.Nat.{ℕ}
+use mathlib.Core.Path.{_≡_}
+use mathlib.Core.Bool.{and-false}
+use mathlib.Core.List.{List}
+use Rattle.fields.specs.Put.{part}
+use Rattle.fields.specs.Field.{fieldOf}
+use Rattle.fields.specs.declared.Field.the-variants.{Number}
+use Rattle.fields.proofs.HoldLaws.{field-is}
+use Rattle.causes.specs.declared.Start.{Start}
+use Rattle.journal.specs.declared.Body.the-variants.{Fresh}
 use Rattle.journal.specs.Entries.{freshBody}
-use Rattle.journal.proofs.BodyLaws.{Holds, holds}
+use Rattle.journal.proofs.BodyLaws.{field-refused}
 use Rattle.journal.proofs.fresh_body.Statement.{statement}
 use Rattle.journal.proofs.fresh_body.Tie as tie
 
--- what the fields hold
-today-is : (c : tie.After-today) → Holds (c .before .before .before .before .args .s .now) 0 8 (c .today .given .0 .0)
-today-is c = holds _ 0 8 _ (sym (c .before .before .read-field .ensures) ∙ c .today .given .1)
-
-tracking-is : (c : tie.After-tracking) → Holds (c .before .before .before .before .before .before .before .before .args .s .now) 8 9 (c .tracking .given .0 .0)
-tracking-is c = holds _ 8 9 _ (sym (c .before .before .read-field2 .ensures) ∙ c .tracking .given .1)
-
-confirmation-is : (c : tie.After-confirmation) → Holds (c .before .before .before .before .before .before .before .before .before .before .before .before .args .s .now) 17 9 (c .confirmation .given .0 .0)
-confirmation-is c = holds _ 17 9 _ (sym (c .before .before .read-field3 .ensures) ∙ c .confirmation .given .1)
+-- the body where its fields hold numbers
+fresh-of : (s : List ℕ) (r : Start)
+    → fieldOf (part s 0 8) ≡ Number (r .today .0) → fieldOf (part s 8 9) ≡ Number (r .tracking) → fieldOf (part s 17 9) ≡ Number (r .confirmation)
+    → Fresh r ≡ freshBody s
+unfolding freshBody
+fresh-of s r today tracking confirmation =
+    let a = field-is _ _ today in
+    let b = field-is _ _ tracking in
+    let c = field-is _ _ confirmation in
+    rw (a .0, ← a .1, b .0, ← b .1, c .0, ← c .1)
 
 read-field-requires : tie.Need-read-field-requires
 read-field-requires c κs = search needs
@@ -28,7 +37,7 @@ enum-told c = search needs
 
 returns : tie.Need-returns
 unfolding freshBody
-returns c = rw (field-isnt _ (sym (c .before .before .read-field .ensures) ∙ c .enum-told .given .1))
+returns c = rw (field-refused _ (c .before .before .read-field .ensures) (c .enum-told .given .1))
 
 read-field-requires-2 : tie.Need-read-field-requires-2
 read-field-requires-2 c κs = search needs
@@ -41,7 +50,7 @@ enum-told-2 c = search needs
 
 returns-2 : tie.Need-returns-2
 unfolding freshBody
-returns-2 c = rw (today-is (c .before .before .before .before) .digits, field-isnt _ (sym (c .before .before .read-field2 .ensures) ∙ c .enum-told2 .given .1))
+returns-2 c = rw (field-refused _ (c .before .before .read-field2 .ensures) (c .enum-told2 .given .1), and-false)
 
 read-field-requires-3 : tie.Need-read-field-requires-3
 read-field-requires-3 c κs = search needs
@@ -54,13 +63,10 @@ enum-told-3 c = search needs
 
 returns-3 : tie.Need-returns-3
 unfolding freshBody
-returns-3 c = rw (today-is (c .before .before .before .before .before .before .before .before) .digits, tracking-is (c .before .before .before .before) .digits, field-isnt _ (sym (c .before .before .read-field3 .ensures) ∙ c .enum-told3 .given .1))
+returns-3 c = rw (field-refused _ (c .before .before .read-field3 .ensures) (c .enum-told3 .given .1), and-false)
 
 returns-4 : tie.Need-returns-4
-unfolding freshBody
-returns-4 c =
-    let at-before = c .before .before .before .before .before .before .before .before in
-    rw (today-is (at-before .before) .digits, today-is (at-before .before) .number, tracking-is (c .before .before .before .before .before) .digits, tracking-is (c .before .before .before .before .before) .number, confirmation-is (c .before) .digits, confirmation-is (c .before) .number)
+returns-4 c = fresh-of _ _ (cc) (cc) (cc)
 
 pub fresh-body-spec : {M : Type 1} → statement M
 fresh-body-spec =

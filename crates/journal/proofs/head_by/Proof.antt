@@ -10,7 +10,10 @@ use Rattle.journal.proofs.head_by.Statement.{statement}
 use Rattle.journal.proofs.head_by.Tie as tie
 
 -- the test, by the definition
-test-is : (c : tie.After-good-length) → (ltb (c .before .before .before .args .seen) 1000000000 && inTurn (c .before .before .before .args .seen) (c .before .before .before .args .tag) && goodLength (c .before .before .before .args .tag) (c .before .before .before .args .n)) ≡ (ltb (c .before .before .before .args .seen) 1000000000 && c .before .in-turn .result && c .good-length .result)
+test-is : (c : tie.After-good-length)
+    → let a = c .before .before .before .args in
+    (ltb (a .seen) 1000000000 && inTurn (a .seen) (a .tag) && goodLength (a .tag) (a .n))
+    ≡ (ltb (a .seen) 1000000000 && c .before .in-turn .result && c .good-length .result)
 test-is c = rw (c .before .in-turn .ensures, c .good-length .ensures)
 
 in-turn-requires : tie.Need-in-turn-requires

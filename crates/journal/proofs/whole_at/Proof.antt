@@ -45,11 +45,11 @@ close-body-requires c κs =
 
 returns : tie.Need-returns
 unfolding bodyOf
-returns c = rw (c .before .before .match .keys1, c .fresh-head .ensures, c .before .fresh-body .ensures, lent-part (c .before .before .before .before .before .args .s .now) (c .before .before .before .before .before .args .n))
+returns c = rw (c .before .before .match .keys1, c .fresh-head .ensures, c .before .fresh-body .ensures, lent-part)
 
 returns-2 : tie.Need-returns-2
 unfolding bodyOf
-returns-2 c = rw (c .before .match .keys2, c .request-body .ensures, lent-part (c .before .before .before .before .args .s .now) (c .before .before .before .before .args .n))
+returns-2 c = rw (c .before .match .keys2, c .request-body .ensures, lent-part)
 
 returns-3 : tie.Need-returns-3
 unfolding bodyOf
@@ -57,13 +57,13 @@ returns-3 c = rw (c .match .keys3)
 
 returns-4 : tie.Need-returns-4
 unfolding bodyOf
-returns-4 c = rw (c .before .match .keys4, c .cancel-body .ensures, lent-part (c .before .before .before .before .args .s .now) (c .before .before .before .before .args .n))
+returns-4 c = rw (c .before .match .keys4, c .cancel-body .ensures, lent-part)
 
 returns-5 : tie.Need-returns-5
 unfolding bodyOf
 returns-5 c =
     let r = c .before .match .rest in
-    rw (ne-eqb _ _ (r .0 .0 .0 .1), ne-eqb _ _ (r .0 .0 .1), ne-eqb _ _ (r .0 .1), ne-eqb _ _ (r .1), c .close-body .ensures, lent-part (c .before .before .before .before .args .s .now) (c .before .before .before .before .args .n))
+    rw (ne-eqb _ _ (r .0 .0 .0 .1), ne-eqb _ _ (r .0 .0 .1), ne-eqb _ _ (r .0 .1), ne-eqb _ _ (r .1), c .close-body .ensures, lent-part)
 
 pub whole-at-spec : {M : Type 1} → statement M
 whole-at-spec =
