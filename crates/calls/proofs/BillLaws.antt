@@ -25,7 +25,6 @@ use Rattle.rules.proofs.ListLaws.{sum-append}
 use Rattle.ledger.proofs.SoundLaws.{TermsFacts, terms-facts, bill-terms, bill-small, book-facts, ledger-book, ledger-count}
 use Rattle.rules.specs.declared.Check.{Check}
 use Rattle.rules.specs.declared.Check.the-variants.{Clear, Stop}
-use Rattle.verdict.specs.declared.Sought.{Sought}
 use Rattle.verdict.specs.declared.Sought.the-variants as sought
 use Rattle.rules.specs.Rules.{first}
 use Rattle.verdict.specs.Lines.{isNothing}
@@ -37,15 +36,14 @@ use Rattle.causes.specs.declared.Request.{Request}
 use Rattle.causes.specs.declared.BillCall.{BillCall}
 use Rattle.causes.specs.declared.BillCall.the-variants as billCall
 use Rattle.causes.specs.declared.Decision.{Decision}
-use Rattle.causes.specs.Causes.{Call, request, cancel, requestCauses, cancelCauses, causes}
+use Rattle.causes.specs.Causes.{request, cancel, causes}
 use Rattle.causes.specs.Requests.{latestOf, newBill}
 use Rattle.causes.specs.parts.Decisions.{SoundAt, callOf, identityOf, causesBy, updateBy, decidedBy, ChangeFits, changeBy, noticeBy}
 use Rattle.causes.proofs.CauseLaws.{Asks, asks, Cancels, cancels}
-use Rattle.calls.specs.declared.Answer.the-variants.{Refused}
-use Rattle.calls.specs.Machine.{billOf, requested, numbered, next, nextWritten, nextVerdicts, nextClosed, total, outcome, answerBy, causeIn, stepIn, called}
+use Rattle.calls.specs.Machine.{billOf, numbered, next, nextWritten, nextVerdicts, nextClosed, total, outcome, answerBy, causeIn}
 use Rattle.calls.specs.parts.Answers.{noticed}
 use Rattle.calls.proofs.PlaceOfLaws.{first-of, spot, spot-none}
-use Rattle.calls.proofs.CallLaws.{Carried, Stopped, carried, stopped, cause-sound, written-clear}
+use Rattle.calls.proofs.CallLaws.{Carried, Stopped, carried, stopped, cause-sound}
 
 -- ---- where a bill is
 -- all that is known of a bill by its place in the struct

@@ -26,7 +26,7 @@ use denote.RattleType.{owns}
 use denote.Laws.{Is}
 use denote.Builtin.{u8}
 use denote.Ref.{RefT, MutRef, now, ptr-vals, mut-tells}
-use denote.Slice.{sliceTy, sliceVal, ShrSlice, shr-slice-tells, shr-slice-copy, MutSlice, Room, finally, slice-vals, mut-slice-tells}
+use denote.Slice.{sliceTy, sliceVal, ShrSlice, shr-slice-tells, shr-slice-copy, MutSlice, Room, slice-vals, mut-slice-tells}
 use denote.Signature.{plain, mutRefTo, mutSliceOf, shrSliceOf}
 use denote.Steps.{owned, nothing}
 use denote.Struct.Laws as LL

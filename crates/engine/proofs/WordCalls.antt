@@ -1,5 +1,5 @@
 -- A call on the words, from what its parts answered. Assumes nothing.
-use Prim.Native.Nat.{ℕ, _+_, _≤_}
+use Prim.Native.Nat.{ℕ}
 use mathlib.Core.Path.{_≡_, sym, ap, _∙_, subst}
 use mathlib.Core.Bool.{Bool, true, false}
 use mathlib.Core.List.{List, []}
@@ -37,7 +37,7 @@ use Rattle.causes.specs.parts.Decisions.{SoundAt, identityOf, causesBy, decided
 use Rattle.calls.specs.declared.Answer.{Answer}
 use Rattle.calls.specs.declared.Answer.the-variants.{Refused}
 use Rattle.calls.specs.declared.Called.{Called}
-use Rattle.calls.specs.Machine.{called, stepIn, causeIn}
+use Rattle.calls.specs.Machine.{called, causeIn}
 use Rattle.calls.specs.Days.{quietAnswer}
 use Rattle.calls.proofs.CallLaws.{Stopped, Carried, cause-sound, called-stop}
 use Rattle.calls.proofs.BillLaws.{Decided, sound-here, decided}

@@ -1,5 +1,4 @@
 -- `groups::turn` meets its contract.
-use native.Mathlib.Omega.{arith}
 use Rattle.group.proofs.GroupWalk.{turn-calm, turn-on}
 use borrow.Author.Needs.{needs}
 use Rattle.groups.proofs.turn.Statement.{statement}

@@ -1,6 +1,4 @@
 -- `engine::file_groups::turn` meets its contract.
-use mathlib.Core.Path.{refl, sym, ap, _∙_}
-use native.Mathlib.Omega.{arith}
 use Rattle.ledger.specs.parts.Places.{headerOf}
 use Rattle.words.specs.Layout.{ledgerOf}
 use Rattle.file.specs.parts.Walk.{groupAt}
