@@ -39,7 +39,7 @@ use denote.Triple.Walked.{Stays, stay-ref, stay-none, walkOf, goes-none, goes-re
 use denote.Exit.{yes}
 use Rattle.clearing.proofs.Argument.{Arg}
 use Rattle.clearing.proofs.Lent.{Lent, Outcome, Row, Held, tyOf}
-use Rattle.clearing.proofs.CoreCalls.{core-ends, core-says, Core, to-core, goes-core, said}
+use Rattle.clearing.proofs.CoreCalls.{lent-args, lent-vals, core-ends, core-says, Core, to-core, goes-core, said}
 use Rattle.clearing.proofs.LentSteps.{opens-lent, closes-lent, gives}
 
 abbrev pub fn-day : (E : Lent) → Outcome E → Ty → Name → Fn
@@ -90,35 +90,29 @@ module _ (E : Lent) (Y : Outcome E) (P : RattleType) (X : Arg P) (f : Held E →
 
     module _ (W : Given 𝓤 H A) (c : Clauses 𝓤 (lent-ends E Y P)) (follows : Follows c) where
       module _ (κ : Lft) (q : Share) (b o : ℕ) (γ : GName) (h : Held E) (n : P .Denot) (isn : Is P n (X .val n ∷ [])) where
-        abbrev x : RefT (Held E) × (P .Denot × Unit {0})
-        x = (record { ptr = (b, o); name = γ; now = h }, (n, tt))
-
-        abbrev at : List Val × (List Val × Unit {0})
-        at = (vptr b o ∷ [], (X .val n ∷ [], tt))
-
-        abbrev Post : c (κ, tt) x .ghost → Val → SProp 𝓤
-        Post g = walkOf 𝓤 H A (lent-ends E Y P) stayed c .post (((κ, tt), (q, tt), tt, x, at), g)
+        abbrev Post : c (κ, tt) (lent-args E P b o γ h n) .ghost → Val → SProp 𝓤
+        Post g = walkOf 𝓤 H A (lent-ends E Y P) stayed c .post (((κ, tt), (q, tt), tt, (lent-args E P b o γ h n), (lent-vals P X b o n)), g)
 
         abbrev passed : Core-day .Ghost
         passed = to-core E P (Y .S) Says 𝓤 H A X h n
 
-        exits : (g : c (κ, tt) x .ghost) (r : Y .S .Denot) (u : Val) → r ≡ f h n → Is (Y .R) (Y .answer r) (u ∷ [])
+        exits : (g : c (κ, tt) (lent-args E P b o γ h n) .ghost) (r : Y .S .Denot) (u : Val) → r ≡ f h n → Is (Y .R) (Y .answer r) (u ∷ [])
             → ent 𝓤 (⋆ 𝓤 H A (‵ (fobs γ (Row E .coded .code (Y .ledger r))) ∷ ‵ (fbor κ (Body (mem (Row E)) b o γ)) ∷ ‵ (flft κ q) ∷ [])) (Post g u)
         exits g r u e is =
             qed W (‵ (fobs γ (Row E .coded .code (Y .ledger r))) ∷ ‵ (fbor κ (Body (mem (Row E)) b o γ)) ∷ ‵ (flft κ q) ∷ []) ∵
             suffices ! _
-            (ends-at 𝓤 H A (lent-ends E Y P) stayed c W (((κ, tt), (q, tt), tt, x, at), g) u (Y .answer r)
+            (ends-at 𝓤 H A (lent-ends E Y P) stayed c W (((κ, tt), (q, tt), tt, (lent-args E P b o γ h n), (lent-vals P X b o n)), g) u (Y .answer r)
             (Y .ledger r, (X .last n, tt)) (tt, (tt, tt))) $
-            gives ! (follows (κ, tt) x g r e) $ nothing ! $ move ! (3 ∷ 0 ∷ []) $ join ! $ frame ! $
+            gives ! (follows (κ, tt) (lent-args E P b o γ h n) g r e) $ nothing ! $ move ! (3 ∷ 0 ∷ []) $ join ! $ frame ! $
             feqI ! (List Val) (vptr b o ∷ []) (vptr b o ∷ []) refl $ fjoin3 ! $
             nothing ! $ owned ! P (Is P) (X .makes 𝓤 H A W) n _ isn $ fjoin ! $ move ! (1 ∷ 0 ∷ []) $ fjoin ! $
             owned ! (Y .R) (Is (Y .R)) (Y .reply .makes 𝓤 H A W) (Y .answer r) _ is $ move ! (1 ∷ 0 ∷ []) $ done !
 
         module _ (core : Name) (C : Calls 𝓤 H) (Λ : Loops 𝓤 H) (fm : FmC 𝓤 H (W .laws) C) (known : Triple 𝓤 (C core) Core-day) where
-          walk : (g : c (κ, tt) x .ghost) → ent 𝓤 (onEntry 𝓤 H A (lent-ends E Y P .signature) (κ, tt) (q, tt) x at)
+          walk : (g : c (κ, tt) (lent-args E P b o γ h n) .ghost) → ent 𝓤 (onEntry 𝓤 H A (lent-ends E Y P .signature) (κ, tt) (q, tt) (lent-args E P b o γ h n) (lent-vals P X b o n))
               (WpFn 𝓤 H C Λ (fn-day E Y (X .ty) core) (vptr b o ∷ X .val n ∷ []) (Post g))
           walk g =
-              qed W ((‵ (flft κ q) ⊛ ‵ ftrue) ∷ ‵ (owns (MutRef (named 0) κ (Row E) ∷ P ∷ []) x at) ∷ []) ∵ split ! $ move ! (2 ∷ []) $ fsplit ! $ fsplit3 ! $
+              qed W ((‵ (flft κ q) ⊛ ‵ ftrue) ∷ ‵ (owns (MutRef (named 0) κ (Row E) ∷ P ∷ []) (lent-args E P b o γ h n) (lent-vals P X b o n)) ∷ []) ∵ split ! $ move ! (2 ∷ []) $ fsplit ! $ fsplit3 ! $
               drop ! $ move ! (0 ∷ 1 ∷ 3 ∷ []) $
               -- [obs; the borrow; the token; …]
               enter ! C Λ (fn-day E Y (X .ty) core) (vptr b o ∷ X .val n ∷ []) _ $

@@ -37,7 +37,7 @@ use denote.Triple.Walked.{Stays, stay-none-ref, stay-none, walkOf, goes-none, go
 use denote.Exit.{yes}
 use Rattle.clearing.proofs.Argument.{Arg, typed-at}
 use Rattle.clearing.proofs.Lent.{Lent, Row, Held, tyOf, vals}
-use Rattle.clearing.proofs.CoreCalls.{core-ends, core-says, Core, to-core, goes-core, said}
+use Rattle.clearing.proofs.CoreCalls.{lent-args, lent-vals, core-ends, core-says, Core, to-core, goes-core, said}
 use Rattle.clearing.proofs.LentSteps.{gives}
 
 abbrev pub fn-look : Lent → Ty → Ty → Name → Fn
@@ -81,33 +81,27 @@ module _ (E : Lent) (P : RattleType) (X : Arg P) (R : RattleType) (Y : Arg R) (S
 
     module _ (W : Given 𝓤 H A) (c : Clauses 𝓤 (lent-ends E P R)) (follows : Follows c) where
       module _ (κ : Lft) (q : Share) (b o : ℕ) (γ : GName) (h : Held E) (n : P .Denot) (isn : Is P n (X .val n ∷ [])) where
-        abbrev x : RefT (Held E) × (P .Denot × Unit {0})
-        x = (record { ptr = (b, o); name = γ; now = h }, (n, tt))
-
-        abbrev at : List Val × (List Val × Unit {0})
-        at = (vptr b o ∷ [], (X .val n ∷ [], tt))
-
-        abbrev Post : c (κ, tt) x .ghost → Val → SProp 𝓤
-        Post g = walkOf 𝓤 H A (lent-ends E P R) stayed c .post (((κ, tt), (q, tt), tt, x, at), g)
+        abbrev Post : c (κ, tt) (lent-args E P b o γ h n) .ghost → Val → SProp 𝓤
+        Post g = walkOf 𝓤 H A (lent-ends E P R) stayed c .post (((κ, tt), (q, tt), tt, (lent-args E P b o γ h n), (lent-vals P X b o n)), g)
 
         abbrev passed : Core-look .Ghost
         passed = to-core E P R Says 𝓤 H A X h n
 
-        exits : (g : c (κ, tt) x .ghost) (r : R .Denot) (u : Val) → Says h n r → Is R r (u ∷ [])
+        exits : (g : c (κ, tt) (lent-args E P b o γ h n) .ghost) (r : R .Denot) (u : Val) → Says h n r → Is R r (u ∷ [])
             → ent 𝓤 (⋆ 𝓤 H A (‵ (flft κ q) ∷ ‵ (fres γ (Row E .coded .code h)) ∷ ‵ (fshr-bor κ (λ s. partAt (Row E) s h b o)) ∷ [])) (Post g u)
         exits g r u e is =
             qed W (‵ (flft κ q) ∷ ‵ (fres γ (Row E .coded .code h)) ∷ ‵ (fshr-bor κ (λ s. partAt (Row E) s h b o)) ∷ []) ∵
-            suffices ! _ (ends-at 𝓤 H A (lent-ends E P R) stayed c W (((κ, tt), (q, tt), tt, x, at), g) u r (tt, (X .last n, tt)) (tt, (tt, tt))) $
-            gives ! (follows (κ, tt) x g r e) $ nothing ! $ move ! (1 ∷ 0 ∷ []) $ join ! $ frame ! $
+            suffices ! _ (ends-at 𝓤 H A (lent-ends E P R) stayed c W (((κ, tt), (q, tt), tt, (lent-args E P b o γ h n), (lent-vals P X b o n)), g) u r (tt, (X .last n, tt)) (tt, (tt, tt))) $
+            gives ! (follows (κ, tt) (lent-args E P b o γ h n) g r e) $ nothing ! $ move ! (1 ∷ 0 ∷ []) $ join ! $ frame ! $
             feqI ! (List Val) (vptr b o ∷ []) (vptr b o ∷ []) refl $ fjoin3 ! $
             nothing ! $ owned ! P (Is P) (X .makes 𝓤 H A W) n _ isn $ fjoin ! $ move ! (1 ∷ 0 ∷ []) $ fjoin ! $ frame ! $
             owned ! R (Is R) (Y .makes 𝓤 H A W) r _ is $ done !
 
         module _ (core : Name) (C : Calls 𝓤 H) (Λ : Loops 𝓤 H) (fm : FmC 𝓤 H (W .laws) C) (known : Triple 𝓤 (C core) Core-look) where
-          walk : (g : c (κ, tt) x .ghost) → ent 𝓤 (onEntry 𝓤 H A (lent-ends E P R .signature) (κ, tt) (q, tt) x at)
+          walk : (g : c (κ, tt) (lent-args E P b o γ h n) .ghost) → ent 𝓤 (onEntry 𝓤 H A (lent-ends E P R .signature) (κ, tt) (q, tt) (lent-args E P b o γ h n) (lent-vals P X b o n))
               (WpFn 𝓤 H C Λ (fn-look E (X .ty) (Y .ty) core) (vptr b o ∷ X .val n ∷ []) (Post g))
           walk g =
-              qed W ((‵ (flft κ q) ⊛ ‵ ftrue) ∷ ‵ (owns (ShrRef (named 0) κ (Row E) ∷ P ∷ []) x at) ∷ []) ∵ enter ! C Λ (fn-look E (X .ty) (Y .ty) core)
+              qed W ((‵ (flft κ q) ⊛ ‵ ftrue) ∷ ‵ (owns (ShrRef (named 0) κ (Row E) ∷ P ∷ []) (lent-args E P b o γ h n) (lent-vals P X b o n)) ∷ []) ∵ enter ! C Λ (fn-look E (X .ty) (Y .ty) core)
               (vptr b o ∷ X .val n ∷ []) _ $
               alloc1 ! (λ l₀. alloc1 ! (λ l₁. alloc1 ! (λ l₂. alloc1 ! (λ l₃. alloc0 ! $ params1 ! $ pass1 ! (init ! 4 refl (tt, tt)) $
               pass1 ! (init ! 2 refl (X .typed 𝓤 H A W n isn)) $ pass0 ! $

@@ -55,7 +55,7 @@ use Rattle.units.proofs.Date.Laws as D′
 use Rattle.ledger.specs.declared.Bill.{Bill}
 use Rattle.ledger.specs.Bills.{blankBill}
 use Rattle.ledger.proofs.LentBills.{after-test}
-use Rattle.ledger.proofs.ByWalk.{by-walk}
+use Rattle.ledger.proofs.ByWalk.{by-walk, turn-ends}
 use Rattle.ledger.proofs.BillAtLaws.{BillAt, lent, lent-val, Lent, to-at, goes-at, Told, said-at, bill-at-met}
 use Rattle.ledger.proofs.Bill as B
 use Rattle.ledger.proofs.Bill.Laws as B′
@@ -210,17 +210,13 @@ module _ {M : Type 1} (𝓤 : URA M) (H : Heap 𝓤) (A : Atoms 𝓤) (W : Given
         ∷ ‵ (fat fullShare D′.mir l₄ 0 d) ∷ ‵ (fdies D′.mir l₄) ∷ ‵ (fat fullShare word l₃ 0 (vint w64 p)) ∷ ‵ (fdies word l₃) ∷ ‵ (fat fullShare bytes l₂ 0 (out (length os))) ∷ ‵ (fdies bytes l₂)
         ∷ ‵ (fat fullShare slice l₁ 0 s) ∷ ‵ (fdies slice l₁) ∷ ‵ (froom word l₀ 0) ∷ ‵ (fdies word l₀) ∷ (‵ (flft κ q) ⊛ ‵ ftrue) ∷ ‵ Own ∷ ‵ (Out-own (cur (i .0)) (length os)) ∷ ‵ (flft κ′ q′) ∷ []
 
-    -- a turn's postcondition: it ends nearer to n, or the loop is left and the rest of the body runs
-    abbrev TurnResult : Upto → Out → SProp 𝓤
-    TurnResult i = afterTurn 𝓤 H (Below 𝓤 H A Nearer At i) (afterBlock 𝓤 H (afterSeq 𝓤 H (Wp 𝓤 H C Λ En mir.t-4 (atReturn 𝓤 H En Post)) (atReturn 𝓤 H En Post)))
-
-    turns : (i : Upto) → Sq W (At i) (runs C Λ En mir.turn-1 (anyQ (TurnResult i)))
+    turns : (i : Upto) → Sq W (At i) (runs C Λ En mir.turn-1 (anyQ (turn-ends 𝓤 H C Λ En mir.t-4 Post (Below 𝓤 H A Nearer At i))))
     unfolding afterTurn
     turns i =
         assigns ! (of-opd ! (load ! (from ! (fld ! refl (stop !))) (look-in ! 22 (sub ! 1 refl (whole !))))) (from ! (stop !)) (init ! 10 refl (tt, record { fits = room .0 })) $
         assigns ! (bin ! (load ! (from ! (stop !)) (look ! 12 refl)) (load ! (from ! (stop !)) (look ! 10 refl)) tt) (from ! (stop !)) (init ! 8 refl (tt, tt)) $
         first ! $ branches ! (load ! (from ! (stop !)) (look ! 8 refl))
-        (λ less. skips ! $ exec ! C Λ En (after-test mir.turn-1) (anyQ (TurnResult i)) $
+        (λ less. skips ! $ exec ! C Λ En (after-test mir.turn-1) (anyQ (turn-ends 𝓤 H C Λ En mir.t-4 Post (Below 𝓤 H A Nearer At i))) $
         assigns ! (addr ! (from ! (fld ! refl (hop ! (look-in ! 20 (sub ! 0 refl (whole !))) (stop !))))) (from ! (stop !)) (init ! 4 refl (tt, tt)) $
         assigns ! (agg ! (and-then ! (load ! (from ! (stop !)) (look ! 4 refl)) (and-then ! (load ! (from ! (fld ! refl (stop !))) (look-in ! 20 (sub ! 1 refl (whole !)))) (no-more !)))) (from ! (stop !)) (init ! 2 refl (tt, (tt, (record { fits = room′ .0 }, tt)))) $
         rewrite ! 2 (λ (m : ℕ). ‵ (fat fullShare (sliceTy again-ref) l₁₁ 0 (out m))) (sym (len (i .0))) refl $

@@ -55,7 +55,7 @@ use Rattle.ledger.specs.Books.{billCharge, smallCharge, totalOf}
 use Rattle.rules.proofs.ListLaws.{sum-more, sum-first}
 use Rattle.ledger.proofs.BookLaws.{total-small}
 use Rattle.ledger.proofs.LentBills.{after-test}
-use Rattle.ledger.proofs.ByWalk.{by-walk}
+use Rattle.ledger.proofs.ByWalk.{by-walk, turn-ends}
 use Rattle.ledger.proofs.BillAtLaws.{BillAt, lent, lent-val, Lent, to-at, goes-at, Told, said-at, bill-at-met}
 use Rattle.ledger.proofs.Bill as B
 use Rattle.ledger.proofs.Bill.Laws as B′
@@ -161,17 +161,13 @@ module _ {M : Type 1} (𝓤 : URA M) (H : Heap 𝓤) (A : Atoms 𝓤) (W : Given
     At c = ‵ (froom B′.mir l₆ 0) ∷ ‵ (fdies B′.mir l₆) ∷ ‵ (froom tyBool l₅ 0) ∷ ‵ (fdies tyBool l₅) ∷ ‵ (froom word l₄ 0) ∷ ‵ (fdies word l₄) ∷ ‵ (fat fullShare word l₃ 0 (vint w64 (c .i))) ∷ ‵ (fdies word l₃)
         ∷ ‵ (fat fullShare U′.mir l₂ 0 (c .val)) ∷ ‵ (fdies U′.mir l₂) ∷ ‵ (fat fullShare slice l₁ 0 s) ∷ ‵ (fdies slice l₁) ∷ ‵ (froom U′.mir l₀ 0) ∷ ‵ (fdies U′.mir l₀) ∷ (‵ (flft κ q) ⊛ ‵ ftrue) ∷ ‵ Own ∷ []
 
-    -- a turn's postcondition: it ends nearer to n, or the loop is left and the rest of the body runs
-    abbrev TurnResult : Far ys → Out → SProp 𝓤
-    TurnResult c = afterTurn 𝓤 H (Below 𝓤 H A Nearer At c) (afterBlock 𝓤 H (afterSeq 𝓤 H (Wp 𝓤 H C Λ En mir.t-4 (atReturn 𝓤 H En Post)) (atReturn 𝓤 H En Post)))
-
-    turns : (c : Far ys) → Sq W (At c) (runs C Λ En mir.turn-1 (anyQ (TurnResult c)))
+    turns : (c : Far ys) → Sq W (At c) (runs C Λ En mir.turn-1 (anyQ (turn-ends 𝓤 H C Λ En mir.t-4 Post (Below 𝓤 H A Nearer At c))))
     unfolding afterTurn
     turns c =
         assigns ! (of-opd ! (load ! (from ! (fld ! refl (stop !))) (look-in ! 10 (sub ! 1 refl (whole !))))) (from ! (stop !)) (init ! 4 refl (tt, record { fits = room .0 })) $
         assigns ! (bin ! (load ! (from ! (stop !)) (look ! 6 refl)) (load ! (from ! (stop !)) (look ! 4 refl)) tt) (from ! (stop !)) (init ! 2 refl (tt, tt)) $
         first ! $ branches ! (load ! (from ! (stop !)) (look ! 2 refl))
-        (λ less. skips ! $ exec ! C Λ En (after-test mir.turn-1) (anyQ (TurnResult c)) $
+        (λ less. skips ! $ exec ! C Λ En (after-test mir.turn-1) (anyQ (turn-ends 𝓤 H C Λ En mir.t-4 Post (Below 𝓤 H A Nearer At c))) $
         move ! (15 ∷ []) $ use1 W (‵ Own ⊛ ‵ Own) (shr-slice-copy 𝓤 H A W (named 0) κ B.the-row .twice y (s ∷ [])) $ split ! $
         move ! (16 ∷ 0 ∷ []) $ use2 W (raw (BillAt 𝓤 H A mem run .pre (to-at κ b o γ ys 𝓤 H A mem run q (c .i)))) (goes-at κ b o γ ys 𝓤 H A mem run q (c .i) W room (ltb→lt (c .i) n less)) $
         -- [what `bill_at` asks; what the slice owns; _6; …; _5; …; _4; …; _3; …; _2; …; _1; …; room for _0; …]
