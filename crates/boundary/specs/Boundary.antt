@@ -4,7 +4,7 @@ use mathlib.Core.Path.{_≡_}
 use mathlib.Core.Bool.{false, cond}
 use mathlib.Core.List.{List, [], _∷_}
 use lib.Dec.{eqb}
-use lib.ListN.{length, getD}
+use lib.ListN.{length}
 use lib.IntN.{ℤ}
 use Rattle.fields.specs.Put.{put, part}
 use Rattle.units.specs.Calendar.{dateOf}
@@ -12,8 +12,8 @@ use Rattle.ledger.specs.declared.Identity.{Identity}
 use Rattle.ledger.specs.declared.Ledger.{Ledger}
 use Rattle.words.specs.Layout.{ledgerOf, ledgerSize}
 use Rattle.causes.specs.declared.Start.{Start}
-use Rattle.causes.specs.declared.CodeField.{CodeField}
 use Rattle.causes.specs.declared.Request.{Request}
+use Rattle.causes.specs.Causes.{codeField}
 use Rattle.calls.specs.declared.Called.{Called}
 use Rattle.calls.specs.declared.Answer.{Answer}
 use Rattle.calls.specs.declared.Answer.the-variants as answer
@@ -40,10 +40,6 @@ startOf today tracking confirmation = record { today = dateOf today; tracking = 
 
 abbrev pub identityFrom : ℕ → ℕ → Identity
 identityFrom account key = record { account = account; key = key }
-
--- five bytes that may hold a rate code
-abbrev pub codeField : List ℕ → CodeField
-codeField xs = record { first = getD xs 0 0; second = getD xs 1 0; third = getD xs 2 0; tens = getD xs 3 0; ones = getD xs 4 0 }
 
 abbrev pub requestOf : List ℕ → Identity → ℕ → ℕ → ℕ → ℕ → ℕ → Request
 requestOf code id product billing from consumption scheduled =

@@ -3,7 +3,7 @@ use Prim.Native.Nat.{ℕ, _+_}
 use mathlib.Core.Bool.{Bool, not, _&&_, _||_}
 use mathlib.Core.List.{List, [], _∷_, _++_}
 use lib.Dec.{eqb, leb, ltb}
-use lib.ListN.{length}
+use lib.ListN.{length, getD}
 use Rattle.fields.specs.Digits.{fits}
 use Rattle.fields.specs.Put.{sameList}
 use Rattle.units.specs.declared.Date.{Date}
@@ -45,6 +45,10 @@ goodIdentity id = fits 12 (id .account) && fits 4 (id .key)
 
 abbrev pub isProduct : ℕ → Bool
 isProduct x = eqb x (productByte product.BillReady) || eqb x (productByte product.Prepay)
+
+-- the field that the first five bytes of a list are
+abbrev pub codeField : List ℕ → CodeField
+codeField xs = record { first = getD xs 0 0; second = getD xs 1 0; third = getD xs 2 0; tens = getD xs 3 0; ones = getD xs 4 0 }
 
 -- the five bytes of a rate code's field
 abbrev pub fiveOf : CodeField → List ℕ

@@ -2,6 +2,10 @@
 // Who holds the ledger finds the bill and stores what is left: calls by value, engine in words.
 pub mod checks;
 
+ghost use mathlib.Core.Path.{_≡_};
+ghost use Prim.Native.Nat.{_≤_};
+ghost use lib.ListN.{length};
+ghost use Rattle.causes.specs.Causes.{codeField};
 use ledger::Identity;
 use ledger::Update;
 use rules::Check;
@@ -22,6 +26,20 @@ pub struct CodeField {
     pub third: u8,
     pub tens: u8,
     pub ones: u8,
+}
+
+// The field that the first five bytes of s are.
+pub fn code_field(s: &[u8]) -> CodeField
+    requires { ⌜ 5 ≤ length (now s) ⌝ }
+    ensures { λ r. ⌜ r ≡ codeField (now (s .entry)) ⌝ }
+{
+    CodeField {
+        first: s[0],
+        second: s[1],
+        third: s[2],
+        tens: s[3],
+        ones: s[4],
+    }
 }
 
 // What a request takes: the rate code in five bytes, the product as B or P.

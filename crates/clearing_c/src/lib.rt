@@ -13,7 +13,6 @@ ghost use Rattle.lookups.specs.Lookups.{amountsIn};
 ghost use Rattle.journal.specs.Entries.{headOf};
 ghost use Rattle.boundary.specs.Boundary.{startOf, identityFrom, requestOf, freshIn, Gives, headCalled, headWritten, headFound, Opens, amountsNumber, amountsLeft, Prints};
 ghost use Rattle.units.specs.Calendar.{dateOf};
-use causes::CodeField;
 use causes::Request;
 use causes::Start;
 use journal::Body;
@@ -87,13 +86,7 @@ pub extern "C" fn clearing_request(
     ensures { λ _. ⌜ now (out .exit) ≡ put (now (out .entry)) 0 (stepIn (ledgerOf (now (ledger .entry))) (request (requestOf (now (code .entry)) (identityFrom account key) product billing from consumption scheduled) (length (now (out .entry)))) .written) ⌝ }
 {
     let r = Request {
-        code: CodeField {
-            first: code[0],
-            second: code[1],
-            third: code[2],
-            tens: code[3],
-            ones: code[4],
-        },
+        code: causes::code_field(code),
         identity: Identity { account, key },
         product,
         billing: Date(billing),

@@ -1,5 +1,5 @@
 -- What a field of a body that was read says of its bytes, and the length that goes with a tag. Assumes nothing.
-use Prim.Native.Nat.{ℕ, _+_, _-_, _≤_}
+use Prim.Native.Nat.{ℕ, _+_, _-_, _<_, _≤_}
 use mathlib.Core.Path.{_≡_, sym, ap, _∙_}
 use mathlib.Core.Logic.{_≢_}
 use mathlib.Core.Bool.{true, false, cond, _&&_, false≢true}
@@ -18,6 +18,7 @@ use Rattle.fields.specs.declared.Field.{Field}
 use Rattle.fields.specs.declared.Field.the-variants as field
 use Rattle.fields.proofs.HoldLaws.{field-isnt}
 use Rattle.ledger.specs.declared.Identity.{Identity}
+use Rattle.causes.specs.Causes.{codeField}
 use Rattle.journal.specs.declared.IdentityField.{IdentityField}
 use Rattle.journal.specs.declared.IdentityField.the-variants.{Numeric, NotNumeric}
 use Rattle.journal.specs.parts.Fields.{identityFieldOf}
@@ -43,6 +44,15 @@ module _ (xs ys : List ℕ) where
       cases (numeric xs && numeric ys)
       (λ t. let h = rw t at (sym e ∙ told) in let z : _≡_ {A = ℕ} 0 1 = cc in absurd (omega arith))
       (λ t. t)
+
+-- the rate code's field, in the first five bytes
+first-five : (s : List ℕ) (k : ℕ) → k < 5 → getD (part s 0 5) k 0 ≡ getD s k 0
+unfolding part
+first-five s k h = getD-take 5 (drop 0 s) k 0 h ∙ getD-drop 0 s k 0 ∙ ap (λ (i : ℕ). getD s i 0) (omega arith)
+
+pub code-in : (s : List ℕ) → codeField (part s 0 5) ≡ codeField s
+code-in s =
+    rw (first-five s 0 (omega arith), first-five s 1 (omega arith), first-five s 2 (omega arith), first-five s 3 (omega arith), first-five s 4 (omega arith))
 
 -- the byte at a position
 pub byte-at : (s : List ℕ) (at : ℕ) → getD (part s at 1) 0 0 ≡ getD s at 0

@@ -10,9 +10,8 @@ use Rattle.units.specs.declared.Date.{Date}
 use Rattle.rules.specs.declared.Check.{Check}
 use Rattle.rules.specs.declared.Check.the-variants.{Clear, Stop}
 use Rattle.rules.specs.Rules.{first}
-use Rattle.causes.specs.declared.CodeField.{CodeField}
 use Rattle.causes.specs.declared.Request.{Request}
-use Rattle.causes.specs.Causes.{freshCauses}
+use Rattle.causes.specs.Causes.{codeField, freshCauses}
 use Rattle.journal.specs.declared.Body.{Body}
 use Rattle.journal.specs.declared.Body.the-variants as body
 use Rattle.journal.specs.declared.Head.{Head}
@@ -44,15 +43,12 @@ freshBody s =
     body.Unread
 
 -- "1 request (code 5, account 12, key 4, B or P, Billing 8, From 8, consumption 10, Scheduled 8)"
-abbrev pub codeFieldIn : List ℕ → CodeField
-codeFieldIn s = record { first = byteIn s 1; second = byteIn s 2; third = byteIn s 3; tens = byteIn s 4; ones = byteIn s 5 }
-
 unfoldable pub requestBody : List ℕ → Body
 requestBody s =
     cond (digitsIn s 6 17 && digitsIn s 18 21 && digitsIn s 23 30 && digitsIn s 31 38 && digitsIn s 39 48 && digitsIn s 49 56)
     (body.Request
     (record {
-      code = codeFieldIn s;
+      code = codeField (positions s 1 5);
       identity = record { account = numberIn s 6 17; key = numberIn s 18 21 };
       product = byteIn s 22;
       billing = dateIn s 23 30;
@@ -100,7 +96,7 @@ goodLength tag n =
 abbrev pub inTurn : ℕ → ℕ → Bool
 inTurn seen tag = cond (eqb seen 0) (eqb tag 0) (not (eqb tag 0))
 
--- "An empty journal or refused fresh counts as a bad entry": a fresh that is isClear
+-- "An empty journal or refused fresh counts as a bad entry": a fresh against which there is no cause
 abbrev isClear : Check → Bool
 isClear Clear = true
 isClear (Stop n) = false

@@ -7,8 +7,7 @@ ghost use lib.ListN.{length, getD};
 ghost use Rattle.fields.specs.Put.{part, put};
 ghost use Rattle.journal.specs.Journal.{endsBad};
 ghost use Rattle.journal.specs.parts.Fields.{identityFieldOf};
-ghost use Rattle.journal.specs.Entries.{codeFieldIn, freshBody, requestBody, cancelBody, closeBody, bodyOf, goodLength, inTurn, wholeOf, headBy, headOf, frameOf};
-use causes::CodeField;
+ghost use Rattle.journal.specs.Entries.{freshBody, requestBody, cancelBody, closeBody, bodyOf, goodLength, inTurn, wholeOf, headBy, headOf, frameOf};
 use causes::Request;
 use causes::Start;
 use fields::Field;
@@ -86,20 +85,6 @@ fn fresh_body(s: &[u8]) -> Body
     })
 }
 
-// The rate code's field of a request, as it stands.
-fn code_at(s: &[u8]) -> CodeField
-    requires { ⌜ 5 ≤ length (now s) ⌝ }
-    ensures { λ r. ⌜ r ≡ codeFieldIn (now (s .entry)) ⌝ }
-{
-    CodeField {
-        first: s[0],
-        second: s[1],
-        third: s[2],
-        tens: s[3],
-        ones: s[4],
-    }
-}
-
 // The body of a request: code, account, key, B or P, Billing, From, consumption, Scheduled.
 fn request_body(s: &[u8]) -> Body
     requires { ⌜ 56 ≤ length (now s) ⌝ }
@@ -121,7 +106,7 @@ fn request_body(s: &[u8]) -> Body
         return Body::Unread;
     };
     Body::Request(Request {
-        code: code_at(s),
+        code: causes::code_field(s),
         identity,
         product: s[21],
         billing: Date(billing),

@@ -7,7 +7,6 @@ ghost use Rattle.causes.specs.Causes.{request, file, close};
 ghost use Rattle.calls.specs.Machine.{stepIn, called, ran};
 ghost use Rattle.calls.specs.Days.{freshCalled};
 ghost use Rattle.lookups.specs.Lookups.{amountsIn};
-use causes::CodeField;
 use causes::Request;
 use causes::Start;
 use ledger::Identity;
@@ -80,13 +79,7 @@ fn main() {
         key: 7,
     };
     let q = Request {
-        code: CodeField {
-            first: b'Z',
-            second: b'Z',
-            third: b'C',
-            tens: b'4',
-            ones: b'0',
-        },
+        code: causes::code_field(b"ZZC40"),
         identity: id,
         product: b'B',
         billing: Date(20171113),

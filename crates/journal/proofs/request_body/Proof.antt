@@ -10,17 +10,18 @@ use Rattle.fields.specs.Field.{fieldOf}
 use Rattle.fields.specs.declared.Field.the-variants.{Number}
 use Rattle.fields.proofs.HoldLaws.{field-is}
 use Rattle.causes.specs.declared.Request.{Request}
+use Rattle.causes.specs.Causes.{codeField}
 use Rattle.journal.specs.declared.Body.the-variants as body
 use Rattle.journal.specs.declared.IdentityField.the-variants.{Numeric}
 use Rattle.journal.specs.parts.Fields.{identityFieldOf}
-use Rattle.journal.specs.Entries.{codeFieldIn, requestBody}
-use Rattle.journal.proofs.BodyLaws.{field-refused, identity-is, identity-refused, byte-at}
+use Rattle.journal.specs.Entries.{requestBody}
+use Rattle.journal.proofs.BodyLaws.{field-refused, identity-is, identity-refused, code-in, byte-at}
 use Rattle.journal.proofs.request_body.Statement.{statement}
 use Rattle.journal.proofs.request_body.Tie as tie
 
 -- the body where its fields hold numbers
 request-of : (s : List ℕ) (r : Request)
-    → r .code ≡ codeFieldIn s
+    → r .code ≡ codeField s
     → identityFieldOf (part s 5 12) (part s 17 4) ≡ Numeric (r .identity)
     → r .product ≡ getD s 21 0
     → fieldOf (part s 22 8) ≡ Number (r .billing .0)
@@ -35,7 +36,7 @@ request-of s r code identity product billing from consumption scheduled =
     let c = field-is _ _ from in
     let d = field-is _ _ consumption in
     let e = field-is _ _ scheduled in
-    rw (← code, a .0, ← a .1, byte-at s 21, ← product, b .0, ← b .1, c .0, ← c .1, d .0, ← d .1, e .0, ← e .1)
+    rw (code-in s, ← code, a .0, ← a .1, byte-at s 21, ← product, b .0, ← b .1, c .0, ← c .1, d .0, ← d .1, e .0, ← e .1)
 
 read-identity-requires : tie.Need-read-identity-requires
 read-identity-requires c κs = search needs
@@ -102,8 +103,8 @@ returns-5 : tie.Need-returns-5
 unfolding requestBody
 returns-5 c = rw (field-refused _ (c .before .before .read-field4 .ensures) (c .enum-told5 .given .1), and-false)
 
-code-at-requires : tie.Need-code-at-requires
-code-at-requires c κs = search needs
+code-field-requires : tie.Need-code-field-requires
+code-field-requires c κs = search needs
 
 shared-slice-read-t14 : tie.Need-shared-slice-read-t14
 shared-slice-read-t14 c = search needs
@@ -135,6 +136,6 @@ request-body-spec =
     enum-known-scheduled
     enum-told-5
     returns-5
-    code-at-requires
+    code-field-requires
     shared-slice-read-t14
     returns-6)
