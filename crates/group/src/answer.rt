@@ -17,6 +17,20 @@ use notices::rej::Rej;
 use records::RECORD_SIZE;
 use verdict::Verdict;
 
+// What the ACF to a group says, where b is the bill at its place.
+fn acf_of(b: Bill, h: LedgerHeader) -> Acf
+    ensures { λ a. ⌜ a ≡ record { terms = b .terms; tracking = h .tracking; today = h .today; confirmation = h .confirmation } ⌝ }
+{
+    let terms = b.terms;
+    let today = h.today;
+    Acf {
+        terms,
+        tracking: h.tracking,
+        today,
+        confirmation: h.confirmation,
+    }
+}
+
 // Writes the ACF for the header that is record i.
 fn write_acf(out: &mut [u8], at: usize, s: &[u8], i: usize, a: Acf)
     requires { ⌜ (i * recordSize + recordSize ≤ length (now s)) × (at + recordSize ≤ length (now out)) ⌝ }
@@ -47,15 +61,7 @@ pub fn answer(
     match v {
         Verdict::Accepted(_) => {
             if writes {
-                let terms = b.terms;
-                let tracking = h.tracking;
-                let a = Acf {
-                    terms,
-                    tracking,
-                    today,
-                    confirmation,
-                };
-                write_acf(out, at, s, g.header, a);
+                write_acf(out, at, s, g.header, acf_of(b, h));
                 return RECORD_SIZE;
             }
             RECORD_SIZE

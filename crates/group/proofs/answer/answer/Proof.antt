@@ -11,6 +11,9 @@ use Rattle.group.proofs.answer.answer.Tie as tie
 enum-told : tie.Need-enum-told
 enum-told c = search needs
 
+acf-of-requires : tie.Need-acf-of-requires
+acf-of-requires c κs = search needs
+
 write-acf-requires : tie.Need-write-acf-requires
 write-acf-requires c κs =
     let start = c .before .before .before .before .before .before .before .before in
@@ -27,7 +30,7 @@ returns c =
     let a = start .args in
     let told = c .before .before .before .before .before .before .enum-told .given .1 in
     let z = sized-acf (a .v) (a .h) (a .b) (a .s .now) (a .g .header) (a .g .records) (start .pre .0 .0) (start .pre .0 .1) _ told in
-    (rw (c .before .before .before .before .before .if1 .taken, told, header-is (a .s .now) (a .g .header) (a .g .records)) (c .before .before .write-acf .ensures), z .0, z .1)
+    (rw (c .before .before .before .before .before .if1 .taken, told, header-is (a .s .now) (a .g .header) (a .g .records)) (rw (c .before .before .before .acf-of .ensures) at (c .before .before .write-acf .ensures)), z .0, z .1)
 
 enum-known-v : tie.Need-enum-known-v
 enum-known-v c = search needs
@@ -90,6 +93,7 @@ answer-spec =
     tie.close
     (tie.spec
     enum-told
+    acf-of-requires
     write-acf-requires
     same-length
     returns
