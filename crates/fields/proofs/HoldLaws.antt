@@ -1,6 +1,6 @@
 -- What a field that was read says of its bytes, and laws of `holds`. Assumes nothing.
 use mathlib.Core.Path.{_≡_, refl, sym, ap, ap₂, _∙_, subst}
-use mathlib.Core.Bool.{Bool, true, false, cond, not}
+use mathlib.Core.Bool.{Bool, true, false, cond}
 use mathlib.Core.List.{List}
 use Prim.Native.Nat.{ℕ, _+_, _≤_, _<_, _^_}
 use native.Mathlib.Omega.{arith}
@@ -9,7 +9,7 @@ use lib.Dec.{eqb}
 use borrow.Author.Tests.{eqb-true, eqb-false}
 use Rattle.fields.specs.Digits.{digits, number, numeric}
 use Rattle.fields.specs.Put.{part, sameList, holds}
-use Rattle.fields.specs.Field.{fieldOf, bad, value}
+use Rattle.fields.specs.Field.{fieldOf, value}
 use Rattle.fields.specs.declared.Field.the-variants.{Number, NotNumeric}
 use Rattle.fields.proofs.BoolLaws.{cases}
 use Rattle.fields.proofs.PutLaws.{length-part, part-whole}
@@ -32,11 +32,6 @@ field-isnt xs e = go (numeric xs) refl e
     go : (b : Bool) → numeric xs ≡ b → cond b (Number (number xs)) NotNumeric ≡ NotNumeric → numeric xs ≡ false
     go true h k = let z : _≡_ {A = ℕ} 0 1 = cc in absurd (omega arith)
     go false h k = h
-
--- a list is numeric where its field is not bad
-pub not-bad : (xs : List ℕ) → not (bad (fieldOf xs)) ≡ numeric xs
-unfolding fieldOf
-not-bad xs = cases (numeric xs) (λ e. rw e) (λ e. rw e)
 
 -- a part that is compared with a list of its length
 pub holds-part : (xs ys : List ℕ) (i n : ℕ) → length ys ≡ n → sameList (part xs i n) ys ≡ holds xs i ys

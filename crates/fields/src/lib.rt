@@ -1,11 +1,10 @@
 // Fixed-width fields in lent bytes: digits for every width, parts of a slice, writes into a lent output.
 ghost use mathlib.Core.Path.{_≡_};
-ghost use mathlib.Core.Bool.{not};
 ghost use Prim.Native.Nat.{_+_, _≤_};
 ghost use lib.ListN.{length};
-ghost use Rattle.fields.specs.Digits.{digits, isDigit};
+ghost use Rattle.fields.specs.Digits.{digits, isDigit, numeric};
 ghost use Rattle.fields.specs.Put.{put, part, filled, sameList, holds};
-ghost use Rattle.fields.specs.Field.{fieldOf, bad, value};
+ghost use Rattle.fields.specs.Field.{fieldOf, value};
 
 // Writes the `width` lowest digits of n into out from index `at` on.
 pub fn put_digits(out: &mut [u8], at: usize, width: usize, n: u64)
@@ -93,16 +92,6 @@ pub enum Field {
 }
 
 impl Field {
-    // Whether it holds a number.
-    pub fn is_number(self) -> bool
-        ensures { λ r. ⌜ r ≡ not (bad self) ⌝ }
-    {
-        match self {
-            Field::Number(_) => true,
-            Field::NotNumeric => false,
-        }
-    }
-
     // Its number, 0 where it is not numeric.
     pub fn value(self) -> u64
         ensures { λ r. ⌜ r ≡ value self ⌝ }
@@ -141,6 +130,17 @@ pub fn read_field(s: &[u8], at: usize, width: usize) -> Field
     ensures { λ r. ⌜ r ≡ fieldOf (part (now (s .entry)) at width) ⌝ }
 {
     read_digits(&s[at..at + width])
+}
+
+// Whether the `width` bytes of s from index `at` on are digits only.
+pub fn is_numeric(s: &[u8], at: usize, width: usize) -> bool
+    requires { ⌜ (at + width ≤ length (now s)) × (width ≤ 19) ⌝ }
+    ensures { λ r. ⌜ r ≡ numeric (part (now (s .entry)) at width) ⌝ }
+{
+    let Field::Number(_) = read_field(s, at, width) else {
+        return false;
+    };
+    true
 }
 
 // Whether n bytes of a from index i on are those of b from index j on.

@@ -146,8 +146,8 @@ fn unfit_pair(h: &[u8], d: &[u8]) -> bool
         | !records::has_company_34(h)
         | !fields::same_part(h, layout::COMPANY, d, layout::COMPANY, layout::TYPE)
         | !fields::same_part(h, layout::NOTICE, d, layout::NOTICE, layout::NOTICE_WIDTH)
-        | !records::account(h).is_number()
-        | !records::key(d).is_number()
+        | !fields::is_numeric(h, layout::ACCOUNT, layout::ACCOUNT_WIDTH)
+        | !fields::is_numeric(d, layout::KEY, layout::KEY_WIDTH)
 }
 
 // Lines 1 and 2 for a header and its only detail.
