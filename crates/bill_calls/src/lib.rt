@@ -3,7 +3,7 @@ ghost use mathlib.Core.Path.{_≡_};
 ghost use lib.ListN.{length};
 ghost use Rattle.fields.specs.Put.{put};
 ghost use Rattle.causes.specs.Causes.{request, cancel};
-ghost use Rattle.causes.specs.parts.Decisions.{callOf};
+ghost use Rattle.causes.specs.parts.Decisions.{asCall};
 ghost use Rattle.calls.specs.declared.Answer.the-variants.{Refused};
 ghost use Rattle.calls.specs.Machine.{stepIn, called};
 use calls::Answer;
@@ -29,12 +29,12 @@ fn refused(l: Ledger, n: u64) -> Called
 
 // A request or a cancel: its bill found, the call decided, and what that leaves stored.
 fn bill_call(l: Ledger, out: &mut [u8], c: BillCall) -> Called
-    ensures { λ a. ⌜ (a ≡ called l (callOf c (length (now (out .entry))))) × (now (out .exit) ≡ put (now (out .entry)) 0 (stepIn l (callOf c (length (now (out .entry)))) .written)) ⌝ }
+    ensures { λ a. ⌜ (a ≡ called l (asCall c (length (now (out .entry))))) × (now (out .exit) ≡ put (now (out .entry)) 0 (stepIn l (asCall c (length (now (out .entry)))) .written)) ⌝ }
 {
     if !sound_ledger::sound(l) {
         return refused(l, 2);
     }
-    let s = groups::read_for(l, requests::identity_of(c));
+    let s = groups::read_for(l, requests::call_identity(c));
     let h = s.header;
     let f = s.found;
     let b = s.bill;

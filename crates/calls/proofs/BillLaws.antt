@@ -38,7 +38,7 @@ use Rattle.causes.specs.declared.BillCall.the-variants as billCall
 use Rattle.causes.specs.declared.Decision.{Decision}
 use Rattle.causes.specs.Causes.{request, cancel, causes}
 use Rattle.causes.specs.Requests.{latestOf, newBill}
-use Rattle.causes.specs.parts.Decisions.{SoundAt, callOf, identityOf, causesBy, updateBy, decidedBy, ChangeFits, changeBy, noticeBy}
+use Rattle.causes.specs.parts.Decisions.{SoundAt, asCall, callIdentity, causesBy, updateBy, decidedBy, ChangeFits, changeBy, noticeBy}
 use Rattle.causes.proofs.CauseLaws.{Asks, asks, Cancels, cancels}
 use Rattle.calls.specs.Machine.{billOf, numbered, next, nextWritten, nextVerdicts, nextClosed, total, outcome, answerBy, causeIn}
 use Rattle.calls.specs.parts.Answers.{noticed}
@@ -136,10 +136,10 @@ cancel-answer k id room = rw (change-cancel k id room, length-cxl)
 
 -- what is known of a request or a cancel, c, that d decides: b stands at its place p
 pub record Decided (l : Ledger) (c : BillCall) (room : ℕ) (h : LedgerHeader) (f : Found) (p : ℕ) (b : Bill) (d : Decision) : Type 0 where
-  pub stops : (n : ℕ) → d .check ≡ Stop n → Stopped l (callOf c room) n
+  pub stops : (n : ℕ) → d .check ≡ Stop n → Stopped l (asCall c room) n
   pub wide : d .check ≡ Clear → 642 ≤ room
   pub fits : d .check ≡ Clear → ChangeFits c b
-  pub done : d .check ≡ Clear → Carried l (callOf c room) (updated l p (d .update)) (noticed (changeBy c b)) (noticeBy c h f b (d .update .bill))
+  pub done : d .check ≡ Clear → Carried l (asCall c room) (updated l p (d .update)) (noticed (changeBy c b)) (noticeBy c h f b (d .update .bill))
 
 -- ---- a call on a struct that is known to be sound: b stands at the place p, of what a search found
 module _ (l : Ledger) (long : length (l .bills) ≡ 128) (sure : soundLedger l ≡ true) (f : Found) (p : ℕ) (pe : p ≡ placeFor f (l .count)) where
@@ -159,8 +159,8 @@ module _ (l : Ledger) (long : length (l .bills) ≡ 128) (sure : soundLedger l �
 
   module _ (room : ℕ) where
     -- the causes by the header and the bill are those of the book
-    causes-are : (c : BillCall) → f ≡ placeOf (identityOf c) (live l)
-        → first (causes (view (book l)) (callOf c room)) ≡ first (causesBy c room (headerOf l) f (billAt l p))
+    causes-are : (c : BillCall) → f ≡ placeOf (callIdentity c) (live l)
+        → first (causes (view (book l)) (asCall c room)) ≡ first (causesBy c room (headerOf l) f (billAt l p))
     unfolding causes
     causes-are (billCall.Request r) fe = rw (held-length l long sure, ← sought-is l few (r .identity) f p fe pe)
     causes-are (billCall.Cancel id) fe = rw (← sought-is l few id f p fe pe)
@@ -169,9 +169,9 @@ module _ (l : Ledger) (long : length (l .bills) ≡ 128) (sure : soundLedger l �
     record Carries (c : BillCall) : Type 0 where
       wide : 642 ≤ room
       fits : ChangeFits c (billAt l p)
-      left : updated l p (updateBy c (headerOf l) f (billAt l p)) ≡ stored l (next (book l) (callOf c room))
-      answer : noticed (changeBy c (billAt l p)) ≡ answerBy (outcome (book l) (callOf c room) Clear) Clear
-      bytes : noticeBy c (headerOf l) f (billAt l p) (updateBy c (headerOf l) f (billAt l p) .bill) ≡ nextWritten (book l) (callOf c room)
+      left : updated l p (updateBy c (headerOf l) f (billAt l p)) ≡ stored l (next (book l) (asCall c room))
+      answer : noticed (changeBy c (billAt l p)) ≡ answerBy (outcome (book l) (asCall c room) Clear) Clear
+      bytes : noticeBy c (headerOf l) f (billAt l p) (updateBy c (headerOf l) f (billAt l p) .bill) ≡ nextWritten (book l) (asCall c room)
 
     -- a request
     module _ (r : Request) (fe : f ≡ placeOf (r .identity) (live l)) (e : first (causesBy (billCall.Request r) room (headerOf l) f (billAt l p)) ≡ Clear) where
@@ -223,12 +223,12 @@ module _ (l : Ledger) (long : length (l .bills) ≡ 128) (sure : soundLedger l �
             bytes = rw same;
           }
 
-    carries : (c : BillCall) → f ≡ placeOf (identityOf c) (live l) → first (causesBy c room (headerOf l) f (billAt l p)) ≡ Clear → Carries c
+    carries : (c : BillCall) → f ≡ placeOf (callIdentity c) (live l) → first (causesBy c room (headerOf l) f (billAt l p)) ≡ Clear → Carries c
     carries (billCall.Request r) fe e = requests r fe e (placed l (r .identity))
     carries (billCall.Cancel id) fe e = cancelled id fe e (placed l id)
 
     -- a request or a cancel
-    module _ (c : BillCall) (fe : f ≡ placeOf (identityOf c) (live l)) (h : LedgerHeader) (he : h ≡ headerOf l) (b : Bill) (be : b ≡ billAt l p) (d : Decision)
+    module _ (c : BillCall) (fe : f ≡ placeOf (callIdentity c) (live l)) (h : LedgerHeader) (he : h ≡ headerOf l) (b : Bill) (be : b ≡ billAt l p) (d : Decision)
         (de : d ≡ decidedBy (first (causesBy c room h f b)) c h f b) where
       abbrev now : Check
       now = first (causesBy c room (headerOf l) f (billAt l p))
@@ -244,8 +244,8 @@ module _ (l : Ledger) (long : length (l .bills) ≡ 128) (sure : soundLedger l �
       check-now = ap (λ (z : Decision). z .check) decision-now ∙ check-by now
 
       -- what the check decides is the cause
-      cause-now : causeIn l (callOf c room) ≡ d .check
-      cause-now = cause-sound l (callOf c room) sure ∙ causes-are c fe ∙ sym check-now
+      cause-now : causeIn l (asCall c room) ≡ d .check
+      cause-now = cause-sound l (asCall c room) sure ∙ causes-are c fe ∙ sym check-now
 
       clear-now : d .check ≡ Clear → d ≡ decidedBy Clear c (headerOf l) f (billAt l p)
       clear-now e = decision-now ∙ ap (λ (k : Check). decidedBy k c (headerOf l) f (billAt l p)) (sym check-now ∙ e)
@@ -256,12 +256,12 @@ module _ (l : Ledger) (long : length (l .bills) ≡ 128) (sure : soundLedger l �
       pub decided : Decided l c room h f p b d
       decided =
           record {
-            stops = λ n e. stopped l (callOf c room) n (cause-now ∙ e);
+            stops = λ n e. stopped l (asCall c room) n (cause-now ∙ e);
             wide = λ e. known e .wide;
             fits = λ e. rw be (known e .fits);
             done =
                 λ e.
-                carried l (callOf c room) (cause-now ∙ e) _ _ _
+                carried l (asCall c room) (cause-now ∙ e) _ _ _
                 (ap (λ (z : Decision). updated l p (z .update)) (clear-now e) ∙ known e .left)
                 (ap (λ (x : Bill). noticed (changeBy c x)) be ∙ known e .answer)
                 (ap₂ (λ (t : LedgerHeader) (x : Bill). noticeBy c t f x (d .update .bill)) he be

@@ -4,7 +4,7 @@ ghost use Prim.Native.Nat.{_≤_};
 ghost use Rattle.rules.specs.Rules.{first};
 ghost use Rattle.causes.specs.Requests.{latestOf, newBill};
 ghost use Rattle.ledger.specs.Bills.{productOf};
-ghost use Rattle.causes.specs.parts.Decisions.{SoundAt, CanRenew, requestedBy, grown, usedBy, identityOf, causesBy, decidedBy, ChangeFits, changeBy};
+ghost use Rattle.causes.specs.parts.Decisions.{SoundAt, CanRenew, requestedBy, grown, usedBy, callIdentity, causesBy, decidedBy, ChangeFits, changeBy};
 ghost use Rattle.ledger.specs.Limits.{ledgerPlaces, usedUp};
 use causes::BillCall;
 use causes::Decision;
@@ -94,8 +94,8 @@ fn use_numbers(h: LedgerHeader, n: usize) -> LedgerHeader
 }
 
 // Whose bill a request or a cancel is about.
-pub fn identity_of(c: BillCall) -> Identity
-    ensures { λ r. ⌜ r ≡ identityOf c ⌝ }
+pub fn call_identity(c: BillCall) -> Identity
+    ensures { λ r. ⌜ r ≡ callIdentity c ⌝ }
 {
     match c {
         BillCall::Request(r) => r.identity,

@@ -33,7 +33,7 @@ use Rattle.causes.specs.Causes.{Call, close, closeCauses, causes}
 use Rattle.causes.specs.Requests.{closes}
 use Rattle.causes.specs.declared.BillCall.{BillCall}
 use Rattle.causes.specs.declared.Decision.{Decision}
-use Rattle.causes.specs.parts.Decisions.{SoundAt, identityOf, causesBy, decidedBy}
+use Rattle.causes.specs.parts.Decisions.{SoundAt, callIdentity, causesBy, decidedBy}
 use Rattle.calls.specs.declared.Answer.{Answer}
 use Rattle.calls.specs.declared.Answer.the-variants.{Refused}
 use Rattle.calls.specs.declared.Called.{Called}
@@ -81,20 +81,20 @@ module _ (ws : List ℕ) (id : Identity) (h : LedgerHeader) (he : h ≡ headerOf
   place-is p pe = pe ∙ ap (λ (t : LedgerHeader). placeFor f (t .count)) he
 
 -- ---- a request or a cancel, by what the search for its bill found
-module _ (ws : List ℕ) (sure : soundLedger (ledgerOf ws) ≡ true) (c : BillCall) (id : Identity) (ie : id ≡ identityOf c) (h : LedgerHeader)
+module _ (ws : List ℕ) (sure : soundLedger (ledgerOf ws) ≡ true) (c : BillCall) (id : Identity) (ie : id ≡ callIdentity c) (h : LedgerHeader)
     (he : h ≡ headerOf (ledgerOf ws)) (f : Found) (fe : f ≡ find (ofId id) 0 (take (h .count) (ledgerOf ws .bills))) (p : ℕ)
     (pe : p ≡ placeFor f (h .count)) (b : Bill) (be : b ≡ billAt (ledgerOf ws) p) where
   long : length (ledgerOf ws .bills) ≡ 128
   long = places-of ws (sound-holds ws sure)
 
-  finds : f ≡ placeOf (identityOf c) (live (ledgerOf ws))
+  finds : f ≡ placeOf (callIdentity c) (live (ledgerOf ws))
   finds = found-is ws id h he f fe ∙ ap (λ (x : Identity). placeOf x (live (ledgerOf ws))) ie
 
   stands : p ≡ placeFor f (ledgerOf ws .count)
   stands = place-is ws id h he f fe p pe
 
   pub sound-in : SoundAt f b
-  sound-in = subst (SoundAt f) (sym be) (sound-here (ledgerOf ws) long sure f p stands (identityOf c) finds)
+  sound-in = subst (SoundAt f) (sym be) (sound-here (ledgerOf ws) long sure f p stands (callIdentity c) finds)
 
   pub decided-in : (room : ℕ) (d : Decision) → d ≡ decidedBy (first (causesBy c room h f b)) c h f b → Decided (ledgerOf ws) c room h f p b d
   decided-in room d de = decided (ledgerOf ws) long sure f p stands room c finds h he b be d de

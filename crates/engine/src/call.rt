@@ -8,7 +8,7 @@ ghost use Rattle.ledger.specs.Sound.{soundLedger};
 ghost use Rattle.words.specs.Layout.{holdsLedger, ledgerOf, ledgerSize};
 ghost use Rattle.causes.specs.Causes.{request, cancel, close, file};
 ghost use Rattle.causes.specs.Requests.{closes};
-ghost use Rattle.causes.specs.parts.Decisions.{callOf};
+ghost use Rattle.causes.specs.parts.Decisions.{asCall};
 ghost use Rattle.calls.specs.Machine.{called};
 ghost use Rattle.calls.specs.Days.{freshCalled};
 ghost use Rattle.engine.specs.InWords.{wordsLeft};
@@ -31,11 +31,11 @@ use units::Date;
 // A request or a cancel: its bill found, the call decided, and what that leaves stored.
 fn bill_call_in(ws: &mut [u64], out: &mut [u8], writes: bool, room: usize, c: BillCall) -> Answer
     requires { ⌜ (soundLedger (ledgerOf (now ws)) ≡ true) × (writes ≡ true → room ≤ length (now out)) ⌝ }
-    ensures { λ a. ⌜ CalledIn writes (callOf c room) (now (ws .entry)) (now (out .entry)) (now (ws .exit)) (now (out .exit)) a ⌝ }
+    ensures { λ a. ⌜ CalledIn writes (asCall c room) (now (ws .entry)) (now (out .entry)) (now (ws .exit)) (now (out .exit)) a ⌝ }
 {
     let h = place::header(ws);
     let count = h.count;
-    let f = place::find(ws, count, requests::identity_of(c));
+    let f = place::find(ws, count, requests::call_identity(c));
     let p = ledger::books::bill_place(f, count);
     let b = place::bill_at(ws, p);
     let d = requests::decide(c, room, h, f, b);

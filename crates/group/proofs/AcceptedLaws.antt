@@ -23,15 +23,15 @@ use Rattle.records.specs.Layout.{noticeIn, sequenceIn, detailChargeIn, isRsp, i
 use Rattle.file.specs.File.{Group, detailOf, asksId, line1, line2}
 use Rattle.rules.specs.declared.Check.{Check}
 use Rattle.rules.specs.declared.Check.the-variants.{Clear, Stop}
-use Rattle.verdict.specs.declared.Kind.{Kind}
-use Rattle.verdict.specs.declared.Kind.the-variants.{Supplement}
+use Rattle.verdict.specs.declared.Notification.{Notification}
+use Rattle.verdict.specs.declared.Notification.the-variants.{Supplement}
 use Rattle.verdict.specs.declared.Sought.{Sought}
 use Rattle.verdict.specs.declared.Sought.the-variants as sought
 use Rattle.verdict.specs.declared.Verdict.{Verdict}
 use Rattle.verdict.specs.declared.Verdict.the-variants.{Accepted, Rejected}
 use Rattle.rules.specs.Rules.{Rule, rule, first}
 use Rattle.verdict.specs.Lines.{termsOf, line4, line5, line6, line7, lines8to10, sentConsumption, sentCharge, amountsOf, settle}
-use Rattle.group.specs.Groups.{sought, kindOf, linesBy, linesOn, verdictOn, verdictBy}
+use Rattle.group.specs.Groups.{sought, notificationOf, linesBy, linesOn, verdictOn, verdictBy}
 use Rattle.group.specs.parts.Turns.{soughtBy, inWidths, InWidthsAt, CanPost, cameBy, wentBy}
 
 -- ---- no verdict accepts where there is no bill
@@ -84,7 +84,7 @@ charge-small true d = lt-ltb _ _ (small-value (detailChargeIn d) 13 (length-part
 charge-small false d = lt-ltb _ _ (small-value (detailChargeIn d) 13 (length-part-le d 66 13))
 
 -- the lines of a group, with the product's mark written out
-abbrev pub listFor : Bool → Bool → Bool → Kind → Date → List ℕ → List ℕ → Sought → Bool → List Rule
+abbrev pub listFor : Bool → Bool → Bool → Notification → Date → List ℕ → List ℕ → Sought → Bool → List Rule
 listFor l1 l2 t k today h d b prepay =
     rule l1 17
     ∷ rule l2 19
@@ -114,8 +114,8 @@ module _ (t : Bool) (k : Book) (g : Group) (b : Bill) (amounts : Posted) (v : ve
   pub room : asksId g ≡ true → b .terms .sequence ≡ 999 → ⊥
   unfolding linesBy
   room e =
-      let r : kindOf g ≡ Supplement = rw (sup-not-rsp (g .header) e) in
-      let c = subst (λ (m : Kind). first (listFor (line1 g) (line2 g) t m (k .today) (g .header) (detailOf g) (sought (view k) g) (isPrepay (termsOf (sought (view k) g) .product))) ≡ Clear) r (clears .0) in
+      let r : notificationOf g ≡ Supplement = rw (sup-not-rsp (g .header) e) in
+      let c = subst (λ (m : Notification). first (listFor (line1 g) (line2 g) t m (k .today) (g .header) (detailOf g) (sought (view k) g) (isPrepay (termsOf (sought (view k) g) .product))) ≡ Clear) r (clears .0) in
       let x = sup-room (line1 g) (line2 g) t (k .today) (g .header) (detailOf g) (sought (view k) g) _ c in
       eqb-false (b .terms .sequence) 999 (rw y at x)
 

@@ -14,7 +14,7 @@ use Rattle.file.proofs.FormLaws.{one-detail, one-within}
 use Rattle.verdict.specs.declared.Sought.{Sought}
 use Rattle.verdict.specs.declared.Verdict.the-variants.{Rejected}
 use Rattle.verdict.specs.Lines.{verdictOf}
-use Rattle.group.specs.Groups.{identityOf, kindOf, verdictOn, verdictBy}
+use Rattle.group.specs.Groups.{identityOf, notificationOf, verdictOn, verdictBy}
 use Rattle.group.specs.parts.Turns.{identityAt}
 
 -- ---- each return of the code is a line of the list
@@ -32,7 +32,7 @@ module _ (duplicate : Bool) (today : Date) (b : Sought) (g : Group) where
   verdict-line3 e f d = rw (e, f, d)
 
   pub verdict-rest : line1 g ≡ false → line2 g ≡ false → duplicate ≡ false
-      → verdictOf (kindOf g) today (g .header) (detailOf g) b ≡ verdictOn duplicate today b g
+      → verdictOf (notificationOf g) today (g .header) (detailOf g) b ≡ verdictOn duplicate today b g
   unfolding verdictOn verdictOf
   verdict-rest e f d = rw (e, f, d)
 

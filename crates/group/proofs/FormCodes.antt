@@ -14,7 +14,7 @@ use Rattle.rules.specs.declared.Check.the-variants.{Stop}
 use Rattle.verdict.specs.declared.Verdict.the-variants.{Rejected}
 use Rattle.rules.specs.Rules.{Rule, rule, first}
 use Rattle.verdict.specs.Lines.{termsOf, lines4to10, amountsOf, settle}
-use Rattle.group.specs.Groups.{sought, kindOf, verdictOn, verdictBy}
+use Rattle.group.specs.Groups.{sought, notificationOf, verdictOn, verdictBy}
 use Rattle.group.specs.Forms.{formCode, FormCoded}
 
 -- the form that two conditions and a code give
@@ -42,7 +42,7 @@ form-coded g =
       rejected =
           λ duplicate v n e.
           code-first (line1 g) (line2 g) (isRsp (g .header)) n
-          (rule duplicate 14 ∷ lines4to10 (kindOf g) (v .today) (g .header) (detailOf g) (sought v g))
+          (rule duplicate 14 ∷ lines4to10 (notificationOf g) (v .today) (g .header) (detailOf g) (sought v g))
           (amountsOf (isPrepay (termsOf (sought v g) .product)) (detailOf g))
           e;
     }

@@ -19,7 +19,7 @@ use Rattle.verdict.specs.declared.Verdict.the-variants.{Accepted, Rejected}
 use Rattle.records.specs.Tiers.{tierConsumptions, tierCharges}
 use Rattle.verdict.specs.Lines.{verdictOf}
 use Rattle.verdict.proofs.LinesRead.{Agree, reads-rsp, reads-sup}
-use Rattle.group.specs.Groups.{identityOf, kindOf, sought, soughtIn, verdictOn, verdictBy, verdict, settled, verdictHere, taken, verdicts}
+use Rattle.group.specs.Groups.{identityOf, notificationOf, sought, soughtIn, verdictOn, verdictBy, verdict, settled, verdictHere, taken, verdicts}
 use Rattle.group.specs.Reads.{SameHeader, SameDetail, SameGroup, Pairwise, NoLineReads}
 use Rattle.group.proofs.DecideLaws.{verdict-line1, verdict-line2, verdict-line3, verdict-rest}
 
@@ -72,7 +72,7 @@ same-line3 (o ∷ os) (o′ ∷ os′) g g′ a p = rw (same-alike g g′ o o′
 
 -- ---- the verdict
 module _ (t : Bool) (today : Date) (b : Sought) (g g′ : Group) (a : SameRead g g′) where
-  same-rest : verdictOf (kindOf g) today (g .header) (detailOf g) b ≡ verdictOf (kindOf g′) today (g′ .header) (detailOf g′) b
+  same-rest : verdictOf (notificationOf g) today (g .header) (detailOf g) b ≡ verdictOf (notificationOf g′) today (g′ .header) (detailOf g′) b
   same-rest =
       cases (isRsp (g .header))
       (λ r. rw (← same-rsp g g′ a, r) (reads-rsp today b (g .header) (g′ .header) (detailOf g) (detailOf g′) (a .rest) (a .tracking r)))

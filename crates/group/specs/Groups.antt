@@ -11,8 +11,8 @@ use Rattle.ledger.specs.Bills.{isOf, isPrepay, posting}
 use Rattle.ledger.specs.Books.{Book, View, view, ofId}
 use Rattle.records.specs.Layout.{accountIn, keyIn, isRsp}
 use Rattle.file.specs.File.{Group, detailOf, asksId, line1, line2, line3}
-use Rattle.verdict.specs.declared.Kind.{Kind}
-use Rattle.verdict.specs.declared.Kind.the-variants.{Response, Supplement}
+use Rattle.verdict.specs.declared.Notification.{Notification}
+use Rattle.verdict.specs.declared.Notification.the-variants.{Response, Supplement}
 use Rattle.verdict.specs.declared.Sought.{Sought}
 use Rattle.verdict.specs.declared.Sought.the-variants.{Bill, Nothing}
 use Rattle.verdict.specs.declared.Verdict.{Verdict}
@@ -35,8 +35,8 @@ abbrev pub sought : View → Group → Sought
 sought v g = soughtIn (identityOf g) (v .bills)
 
 -- ---- its verdict
-abbrev pub kindOf : Group → Kind
-kindOf g = cond (isRsp (g .header)) Response Supplement
+abbrev pub notificationOf : Group → Notification
+notificationOf g = cond (isRsp (g .header)) Response Supplement
 
 -- lines 1 to 10 in their order: duplicate says what line 3 asks, and b is the bill that the group names
 abbrev pub linesOn : Bool → Date → Sought → Group → List Rule
@@ -44,7 +44,7 @@ linesOn duplicate today b g =
     rule (line1 g) 17
     ∷ rule (line2 g) 19
     ∷ rule duplicate 14
-    ∷ lines4to10 (kindOf g) today (g .header) (detailOf g) b
+    ∷ lines4to10 (notificationOf g) today (g .header) (detailOf g) b
 
 unfoldable pub linesBy : Bool → View → Group → List Rule
 linesBy duplicate v g = linesOn duplicate (v .today) (sought v g) g

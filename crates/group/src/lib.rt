@@ -20,7 +20,7 @@ use records::FILE_RECORDS;
 use records::RECORD_SIZE;
 use rules::Found;
 use units::Date;
-use verdict::Kind;
+use verdict::Notification;
 use verdict::Sought;
 use verdict::Verdict;
 
@@ -79,15 +79,15 @@ pub fn verdict_at(s: &[u8], i: usize, n: usize, duplicate: bool, b: Sought, toda
     ensures { λ r. ⌜ r ≡ verdictOn duplicate today b (groupAt (now (s .entry)) i n) ⌝ }
 {
     let form = file::form_at(s, i, n);
-    let kind = match form {
+    let notification = match form {
         Form::Broken => {
             return Verdict::Rejected(17);
         }
         Form::Unknown => {
             return Verdict::Rejected(19);
         }
-        Form::Response => Kind::Response,
-        Form::Supplement => Kind::Supplement,
+        Form::Response => Notification::Response,
+        Form::Supplement => Notification::Supplement,
     };
     if duplicate {
         return Verdict::Rejected(14);
@@ -95,7 +95,7 @@ pub fn verdict_at(s: &[u8], i: usize, n: usize, duplicate: bool, b: Sought, toda
     let a = i * RECORD_SIZE;
     let m = (i + 1) * RECORD_SIZE;
     let e = m + RECORD_SIZE;
-    verdict::verdict_of(&s[a..m], &s[m..e], kind, b, today)
+    verdict::verdict_of(&s[a..m], &s[m..e], notification, b, today)
 }
 
 // The headers of groups that get BR14. (Most entries of a journal are no file: they are not searched.)

@@ -21,21 +21,21 @@ use Rattle.ledger.proofs.SoundLaws.{terms-facts, facts-terms, moved-facts, bill
 use Rattle.records.specs.Layout.{appliedIn, owedIn}
 use Rattle.file.specs.File.{Group, detailOf, asksId, line1, line2}
 use Rattle.rules.specs.declared.Check.the-variants.{Clear}
-use Rattle.verdict.specs.declared.Kind.{Kind}
-use Rattle.verdict.specs.declared.Kind.the-variants.{Response, Supplement}
+use Rattle.verdict.specs.declared.Notification.{Notification}
+use Rattle.verdict.specs.declared.Notification.the-variants.{Response, Supplement}
 use Rattle.verdict.specs.declared.Sought.{Sought}
 use Rattle.verdict.specs.declared.Sought.the-variants as sought
 use Rattle.verdict.specs.declared.Verdict.the-variants.{Accepted}
 use Rattle.rules.specs.Rules.{first}
 use Rattle.verdict.specs.Lines.{termsOf, line4, line5, line6, line7, line8, line9, line10, sentCharge, amountsOf}
-use Rattle.group.specs.Groups.{kindOf, sought, linesBy, verdictBy}
+use Rattle.group.specs.Groups.{notificationOf, sought, linesBy, verdictBy}
 use Rattle.group.proofs.AcceptedLaws.{listFor, clear-off, accepted-clear, room}
 
 open-alive : (today : Date) (t : Terms) → not (isOpen today t) ≡ false → t .cancelled ≡ false
 open-alive today t e = not-true (t .cancelled) (and-left (not (t .cancelled)) (leb (today .0) (t .latest .scheduled .0)) (not-false (isOpen today t) e))
 
 -- no group is accepted for a cancelled bill
-pub alive : (l1 l2 t : Bool) (k : Kind) (today : Date) (h d : List ℕ) (b : Sought) (prepay : Bool)
+pub alive : (l1 l2 t : Bool) (k : Notification) (today : Date) (h d : List ℕ) (b : Sought) (prepay : Bool)
     → first (listFor l1 l2 t k today h d b prepay) ≡ Clear → termsOf b .cancelled ≡ false
 unfolding line4 line5 line6
 alive l1 l2 t Response today h d b prepay e =
@@ -43,7 +43,7 @@ alive l1 l2 t Response today h d b prepay e =
 alive l1 l2 t Supplement today h d b prepay e = clear-off (listFor l1 l2 t Supplement today h d b prepay) e .1 .1 .1 .1 .1 .0
 
 -- Prepay: applied plus owed is the charge
-paid : (l1 l2 t : Bool) (k : Kind) (today : Date) (h d : List ℕ) (b : Sought)
+paid : (l1 l2 t : Bool) (k : Notification) (today : Date) (h d : List ℕ) (b : Sought)
     → first (listFor l1 l2 t k today h d b true) ≡ Clear
     → eqb (value (fieldOf (appliedIn d)) + value (fieldOf (owedIn d))) (sentCharge d) ≡ true
 unfolding line4 line5 line6 line7 line8 line9 line10
@@ -85,17 +85,17 @@ module _ (t : Bool) (k : Book) (g : Group) (b : Bill) (amounts : Posted) (v : ve
   abbrev prepaid : Bool
   prepaid = isPrepay (termsOf named .product)
 
-  clear-at : first (listFor (line1 g) (line2 g) t (kindOf g) (k .today) (g .header) (detailOf g) named prepaid) ≡ Clear
+  clear-at : first (listFor (line1 g) (line2 g) t (notificationOf g) (k .today) (g .header) (detailOf g) named prepaid) ≡ Clear
   unfolding linesBy
   clear-at = accepted-clear t (view k) g amounts v .0
 
   uncancelled : after .cancelled ≡ false
-  uncancelled = rw y at (alive (line1 g) (line2 g) t (kindOf g) (k .today) (g .header) (detailOf g) named prepaid clear-at)
+  uncancelled = rw y at (alive (line1 g) (line2 g) t (notificationOf g) (k .today) (g .header) (detailOf g) named prepaid clear-at)
 
   settled-sum : prepaid ≡ true → eqb (value (fieldOf (appliedIn (detailOf g))) + value (fieldOf (owedIn (detailOf g)))) (sentCharge (detailOf g)) ≡ true
   settled-sum e =
-      paid (line1 g) (line2 g) t (kindOf g) (k .today) (g .header) (detailOf g) named
-      (subst (λ (x : Bool). first (listFor (line1 g) (line2 g) t (kindOf g) (k .today) (g .header) (detailOf g) named x) ≡ Clear) e clear-at)
+      paid (line1 g) (line2 g) t (notificationOf g) (k .today) (g .header) (detailOf g) named
+      (subst (λ (x : Bool). first (listFor (line1 g) (line2 g) t (notificationOf g) (k .today) (g .header) (detailOf g) named x) ≡ Clear) e clear-at)
 
   product-is : isPrepay (after .product) ≡ prepaid
   product-is = sym (ap (λ (x : Sought). isPrepay (termsOf x .product)) y)

@@ -134,7 +134,7 @@ module _ (g : Group) (a : Acf) (ys : List ℕ) (f : Formed g) where
   sup-assigns : asksId g ≡ true → a .tracking < 10 ^ 9 → assignedIn (acf (g .header) a ++ ys) ≡ a .tracking ∷ assignedIn ys
   unfolding assignedIn kept
   sup-assigns e t =
-      ap (map idIn) (kept-in assigns (acf (g .header) a) ys (length-acf (g .header) whole a) (acf-sup-assigns (g .header) a whole (f .kind) (rw e)))
+      ap (map idIn) (kept-in assigns (acf (g .header) a) ys (length-acf (g .header) whole a) (acf-sup-assigns (g .header) a whole (f .recordType) (rw e)))
       ∙ rw (acf-tracking (g .header) a whole, e, number-digits 9 (a .tracking) t)
 
   rsp-assigns : asksId g ≡ false → isDate (a .terms .latest .scheduled .0) ≡ true → assignedIn (acf (g .header) a ++ ys) ≡ assignedIn ys
@@ -142,7 +142,7 @@ module _ (g : Group) (a : Acf) (ys : List ℕ) (f : Formed g) where
   rsp-assigns e d =
       ap (map idIn)
       (kept-out assigns (acf (g .header) a) ys (length-acf (g .header) whole a)
-      (acf-rsp-not (g .header) a whole (f .kind) (rw e (date-some _ d)) (rw e (date-fits _ d))))
+      (acf-rsp-not (g .header) a whole (f .recordType) (rw e (date-some _ d)) (rw e (date-fits _ d))))
 
 pub answer-assigns : (v : View) (g : Group) (c : Verdict) (ys : List ℕ) → Formed g
     → (isAccepted c ≡ true → isDate (termsOf (sought v g) .latest .scheduled .0) ≡ true) → v .tracking + cond (asksId g) 1 0 ≤ 1000000000

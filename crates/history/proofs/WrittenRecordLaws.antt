@@ -50,7 +50,7 @@ whole-records s = whole-from s 0 (length s / 321) (omega arith)
 -- a group whose records have 321 bytes, the first a header
 pub record Formed (g : Group) : Type 0 where
   pub header : length (g .header) ≡ 321
-  pub kind : isHeader (g .header) ≡ true
+  pub recordType : isHeader (g .header) ≡ true
   pub details : All Whole (g .details)
 
 all-take : (n : ℕ) (rs : List (List ℕ)) → All Whole rs → All Whole (take n rs)
@@ -63,7 +63,7 @@ unfolding groups
 formed-groups [] a = tt
 formed-groups (r ∷ rs) a =
     cases (isHeader r)
-    (λ e. rw e (record { header = a .0; kind = e; details = all-take (leading rs) rs (a .1) }, formed-groups rs (a .1)))
+    (λ e. rw e (record { header = a .0; recordType = e; details = all-take (leading rs) rs (a .1) }, formed-groups rs (a .1)))
     (λ e. rw e (formed-groups rs (a .1)))
 
 pub formed-file : (s : List ℕ) → All Formed (fileGroups s)

@@ -43,16 +43,16 @@ spaces-at r a h k e =
 
 -- ---- a record: positions 1 to 41, and then the fields of rest, whose widths are ws
 abbrev pub alikeThen : List ℕ → List ℕ → List ℕ → List ℕ → List ℕ → Date → List (List ℕ) → List (List ℕ)
-alikeThen code number id kind name today rest = code ∷ number ∷ id ∷ kind ∷ name ∷ digits 8 (today .0) ∷ rest
+alikeThen code number id recordType name today rest = code ∷ number ∷ id ∷ recordType ∷ name ∷ digits 8 (today .0) ∷ rest
 
 abbrev pub widthsThen : List ℕ → List ℕ
 widthsThen ws = 2 ∷ 5 ∷ 12 ∷ 9 ∷ 2 ∷ 3 ∷ 8 ∷ ws
 
-module _ (firm code number id kind name : List ℕ) (today : Date) (rest : List (List ℕ)) (ws : List ℕ)
-    (wide : Widths (firm ∷ alikeThen code number id kind name today rest) (widthsThen ws)) where
-  pub alike-at : AlikeAt firm code number id kind name today (chain firm (alikeThen code number id kind name today rest))
+module _ (firm code number id recordType name : List ℕ) (today : Date) (rest : List (List ℕ)) (ws : List ℕ)
+    (wide : Widths (firm ∷ alikeThen code number id recordType name today rest) (widthsThen ws)) where
+  pub alike-at : AlikeAt firm code number id recordType name today (chain firm (alikeThen code number id recordType name today rest))
   alike-at =
-      let field = field-at firm (alikeThen code number id kind name today rest) (widthsThen ws) wide in
+      let field = field-at firm (alikeThen code number id recordType name today rest) (widthsThen ws) wide in
       record {
         company = field 0 (omega arith);
         rateCode = field 1 (omega arith);
@@ -64,9 +64,9 @@ module _ (firm code number id kind name : List ℕ) (today : Date) (rest : List 
       }
 
 -- a record of our own
-module _ (l : Alike) (kind name : List ℕ) (two : length kind ≡ 2) (three : length name ≡ 3) (rest : List (List ℕ)) (ws : List ℕ) (wide : Widths rest ws) where
+module _ (l : Alike) (recordType name : List ℕ) (two : length recordType ≡ 2) (three : length name ≡ 3) (rest : List (List ℕ)) (ws : List ℕ) (wide : Widths rest ws) where
   abbrev ownThen : List (List ℕ)
-  ownThen = alikeThen (codeBytes (l .code)) (digits 12 (l .account)) (digits 9 (l .tracking)) kind name (l .today) rest
+  ownThen = alikeThen (codeBytes (l .code)) (digits 12 (l .account)) (digits 9 (l .tracking)) recordType name (l .today) rest
 
   own-wide : Widths (text "34" ∷ ownThen) (widthsThen ws)
   own-wide = (refl, (refl, (length-digits 12 _, (length-digits 9 _, (two, (three, (length-digits 8 _, wide)))))))
@@ -74,8 +74,8 @@ module _ (l : Alike) (kind name : List ℕ) (two : length kind ≡ 2) (three : l
   own-field : (k : ℕ) → k < length (widthsThen ws) → part (chain (text "34") ownThen) (start (widthsThen ws) k) (getD (widthsThen ws) k 0) ≡ getD (text "34" ∷ ownThen) k []
   own-field k h = field-at (text "34") ownThen (widthsThen ws) own-wide k h
 
-  own-at : OwnAt l kind name (chain (text "34") ownThen)
-  own-at = alike-at (text "34") _ _ _ kind name (l .today) rest ws own-wide
+  own-at : OwnAt l recordType name (chain (text "34") ownThen)
+  own-at = alike-at (text "34") _ _ _ recordType name (l .today) rest ws own-wide
 
 module _ (l : Alike) (name : List ℕ) (three : length name ≡ 3) (number date : ℕ) where
   abbrev headerRest : List (List ℕ)

@@ -37,8 +37,8 @@ alikeFields l type notice =
     ++ digits 8 (l .today .0)
 
 -- those of a record about a bill with these terms, under this Tracking ID
-abbrev pub alikeOf : Terms → ℕ → Date → Alike
-alikeOf t id day = record { code = t .code; account = t .identity .account; tracking = id; today = day }
+abbrev pub alikeFor : Terms → ℕ → Date → Alike
+alikeFor t id day = record { code = t .code; account = t .identity .account; tracking = id; today = day }
 
 -- a header: Confirmation Number, Scheduled Date, "Record Count 01, spaces from 61"
 unfoldable pub header : Alike → List ℕ → ℕ → ℕ → List ℕ
@@ -51,7 +51,7 @@ detailToKey l notice key = alikeFields l (text "02") notice ++ digits 4 key
 
 -- ---- BIL
 abbrev pub bilAlike : Bil → Alike
-bilAlike b = alikeOf (b .bill .terms) (b .bill .terms .latest .tracking) (b .today)
+bilAlike b = alikeFor (b .bill .terms) (b .bill .terms .latest .tracking) (b .today)
 
 unfoldable pub bilHeader : Bil → List ℕ
 bilHeader b = header (bilAlike b) (text "BIL") (b .confirmation) (b .bill .terms .latest .scheduled .0)
@@ -90,7 +90,7 @@ bil b = bilHeader b ++ bilDetail b
 
 -- ---- CXL: "header with Scheduled Date 00000000, Record Count 01; detail to position 45; all else spaces"
 abbrev pub cxlAlike : Cxl → Alike
-cxlAlike x = alikeOf (x .terms) (x .tracking) (x .today)
+cxlAlike x = alikeFor (x .terms) (x .tracking) (x .today)
 
 unfoldable pub cxlHeader : Cxl → List ℕ
 cxlHeader x = header (cxlAlike x) (text "CXL") (x .confirmation) 0

@@ -21,18 +21,18 @@ use Rattle.notices.specs.Answers.{acfTracking, acfScheduled, acfBalance,
 
 -- ---- what the records of all four notices share
 -- "1-41 alike": what Company, rate code, account, Tracking ID, type and Notification Code hold; "Transmission Date is today"
-pub record AlikeAt (firm code number id kind name : List ℕ) (today : Date) (r : List ℕ) : Type 0 where
+pub record AlikeAt (firm code number id recordType name : List ℕ) (today : Date) (r : List ℕ) : Type 0 where
   pub company : companyIn r ≡ firm
   pub rateCode : rateCodeIn r ≡ code
   pub account : accountIn r ≡ number
   pub tracking : trackingIn r ≡ id
-  pub type : typeIn r ≡ kind
+  pub type : typeIn r ≡ recordType
   pub notice : noticeIn r ≡ name
   pub transmission : transmissionIn r ≡ digits 8 (today .0)
 
 -- of our own records
 abbrev pub OwnAt : Alike → List ℕ → List ℕ → List ℕ → Type 0
-OwnAt l kind name r = AlikeAt (text "34") (codeBytes (l .code)) (digits 12 (l .account)) (digits 9 (l .tracking)) kind name (l .today) r
+OwnAt l recordType name r = AlikeAt (text "34") (codeBytes (l .code)) (digits 12 (l .account)) (digits 9 (l .tracking)) recordType name (l .today) r
 
 -- of the sender's record s "with Notification Code, Transmission Date .. replaced", and this Tracking ID
 abbrev pub SentAt : List ℕ → List ℕ → List ℕ → Date → List ℕ → Type 0

@@ -42,7 +42,7 @@ fn put_to_tiers(out: &mut [u8], at: usize, b: Bil)
     let latest = terms.latest;
     let ccf = latest.consumption;
     let today = b.today;
-    let alike = crate::alike_of(terms, latest.tracking, today);
+    let alike = crate::alike_for(terms, latest.tracking, today);
     crate::put_detail_to_key(out, at, alike, b"BIL", terms.identity.key);
     fields::put_digits(
         out,
@@ -98,7 +98,7 @@ pub fn write(out: &mut [u8], at: usize, b: Bil)
     let terms = b.bill.terms;
     let latest = terms.latest;
     let today = b.today;
-    let alike = crate::alike_of(terms, latest.tracking, today);
+    let alike = crate::alike_for(terms, latest.tracking, today);
     let scheduled = latest.scheduled;
     crate::put_header(out, at, alike, b"BIL", b.confirmation, scheduled.0);
     put_detail(out, at + records::RECORD_SIZE, b);

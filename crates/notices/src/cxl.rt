@@ -24,7 +24,7 @@ pub fn write(out: &mut [u8], at: usize, x: Cxl)
 {
     let terms = x.terms;
     let today = x.today;
-    let alike = crate::alike_of(terms, x.tracking, today);
+    let alike = crate::alike_for(terms, x.tracking, today);
     let detail = at + records::RECORD_SIZE;
     crate::put_header(out, at, alike, b"CXL", x.confirmation, 0);
     crate::put_detail_to_key(out, detail, alike, b"CXL", x.terms.identity.key);

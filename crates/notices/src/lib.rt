@@ -11,7 +11,7 @@ ghost use lib.ListN.{length};
 ghost use Rattle.fields.specs.Digits.{digits};
 ghost use Rattle.fields.specs.Put.{put};
 ghost use Rattle.records.specs.Limits.{recordSize};
-ghost use Rattle.notices.specs.Notices.{spacesFrom, alikeOf, alikeFields, header, detailToKey};
+ghost use Rattle.notices.specs.Notices.{spacesFrom, alikeFor, alikeFields, header, detailToKey};
 use ledger::RateCode;
 use ledger::Terms;
 use records::layout;
@@ -26,8 +26,8 @@ pub struct Alike {
 }
 
 // Those of a record about a bill with these terms, under this Tracking ID.
-fn alike_of(t: Terms, tracking: u64, today: Date) -> Alike
-    ensures { λ r. ⌜ r ≡ alikeOf t tracking today ⌝ }
+fn alike_for(t: Terms, tracking: u64, today: Date) -> Alike
+    ensures { λ r. ⌜ r ≡ alikeFor t tracking today ⌝ }
 {
     let code = t.code;
     Alike {
@@ -48,10 +48,10 @@ pub fn put_end(out: &mut [u8], at: usize, from: usize)
 }
 
 // Writes positions 1 to 41 of a record.
-pub fn put_alike(out: &mut [u8], at: usize, l: Alike, kind: &[u8], notice: &[u8])
+pub fn put_alike(out: &mut [u8], at: usize, l: Alike, record_type: &[u8], notice: &[u8])
     requires { ⌜ at + 41 ≤ length (now out) ⌝ }
-    requires { ⌜ (length (now kind) ≡ 2) × (length (now notice) ≡ 3) ⌝ }
-    ensures { λ _. ⌜ now (out .exit) ≡ put (now (out .entry)) at (alikeFields l (now (kind .entry)) (now (notice .entry))) ⌝ }
+    requires { ⌜ (length (now record_type) ≡ 2) × (length (now notice) ≡ 3) ⌝ }
+    ensures { λ _. ⌜ now (out .exit) ≡ put (now (out .entry)) at (alikeFields l (now (record_type .entry)) (now (notice .entry))) ⌝ }
 {
     fields::put_bytes(out, at, b"34");
     ledger::bills::put_code(out, at + layout::RATE_CODE, l.code);
@@ -62,7 +62,7 @@ pub fn put_alike(out: &mut [u8], at: usize, l: Alike, kind: &[u8], notice: &[u8]
         layout::TRACKING_WIDTH,
         l.tracking,
     );
-    fields::put_bytes(out, at + layout::TYPE, kind);
+    fields::put_bytes(out, at + layout::TYPE, record_type);
     fields::put_bytes(out, at + layout::NOTICE, notice);
     fields::put_digits(
         out,

@@ -5,7 +5,7 @@ use mathlib.Core.Path.{_≡_}
 use mathlib.Core.List.{List}
 use Rattle.units.specs.declared.Date.{Date}
 use Rattle.records.specs.Layout.{rateCodeIn, trackingIn, balanceIn, sequenceIn, consumptionIn, detailChargeIn, tierRateIn, appliedIn, owedIn}
-use Rattle.verdict.specs.declared.Kind.the-variants.{Response, Supplement}
+use Rattle.verdict.specs.declared.Notification.the-variants.{Response, Supplement}
 use Rattle.verdict.specs.declared.Sought.{Sought}
 use Rattle.records.specs.Tiers.{tierConsumptions, tierCharges}
 use Rattle.verdict.specs.Lines.{line5, line6, line7, line8, line9, line10, amountsOf, verdictOf}

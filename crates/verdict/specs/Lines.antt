@@ -18,8 +18,8 @@ use Rattle.records.specs.Layout.{rateCodeIn, trackingIn, balanceIn, sequenceIn,
 use Rattle.records.specs.declared.Tiers.{Tiers}
 use Rattle.records.specs.declared.Tiers.the-variants as tiers
 use Rattle.records.specs.Tiers.{tierConsumptions, tierCharges}
-use Rattle.verdict.specs.declared.Kind.{Kind}
-use Rattle.verdict.specs.declared.Kind.the-variants.{Response, Supplement}
+use Rattle.verdict.specs.declared.Notification.{Notification}
+use Rattle.verdict.specs.declared.Notification.the-variants.{Response, Supplement}
 use Rattle.verdict.specs.declared.Sought.{Sought}
 use Rattle.verdict.specs.declared.Sought.the-variants.{Bill, Nothing}
 use Rattle.rules.specs.declared.Check.{Check}
@@ -52,7 +52,7 @@ line5 h t = rule (not (sameList (rateCodeIn h) (codeBytes (t .code)))) 7 ∷ []
 
 -- "6. RSP: BR09 if not open; BR01 if the Tracking ID isn't the latest request's; BR05 if the sequence isn't the bill's. SUP: BR09 if cancelled (H);
 -- BR11 if open; BR05 if the sequence isn't 000 or the bill's is 999 (H)."
-unfoldable pub line6 : Kind → Date → List ℕ → List ℕ → Terms → List Rule
+unfoldable pub line6 : Notification → Date → List ℕ → List ℕ → Terms → List Rule
 line6 Response today h d t =
     rule (not (isOpen today t)) 9
     ∷ rule (not (sameList (trackingIn h) (digits 9 (t .latest .tracking)))) 1
@@ -116,10 +116,10 @@ lines8to10 prepay h d consumption charge = line8 prepay h d ++ (line9 d consumpt
 abbrev pub lines7to10 : List ℕ → List ℕ → Terms → List Rule
 lines7to10 h d t = line7 d t ++ lines8to10 (isPrepay (t .product)) h d (sentConsumption d) (sentCharge d)
 
-abbrev pub lines5to10 : Kind → Date → List ℕ → List ℕ → Terms → List Rule
+abbrev pub lines5to10 : Notification → Date → List ℕ → List ℕ → Terms → List Rule
 lines5to10 k today h d t = line5 h t ++ (line6 k today h d t ++ lines7to10 h d t)
 
-abbrev pub lines4to10 : Kind → Date → List ℕ → List ℕ → Sought → List Rule
+abbrev pub lines4to10 : Notification → Date → List ℕ → List ℕ → Sought → List Rule
 lines4to10 k today h d b = line4 b ++ lines5to10 k today h d (termsOf b)
 
 -- ---- the verdict
@@ -135,5 +135,5 @@ abbrev pub settle : Check → Posted → Verdict
 settle Clear amounts = Accepted amounts
 settle (Stop n) amounts = Rejected n
 
-unfoldable pub verdictOf : Kind → Date → List ℕ → List ℕ → Sought → Verdict
+unfoldable pub verdictOf : Notification → Date → List ℕ → List ℕ → Sought → Verdict
 verdictOf k today h d b = settle (first (lines4to10 k today h d b)) (amountsOf (isPrepay (termsOf b .product)) d)

@@ -22,7 +22,7 @@ use units::Date;
 use units::Rate;
 
 // The Notification Code of a group that passes lines 1 and 2.
-pub enum Kind {
+pub enum Notification {
     Response,
     Supplement,
 }
@@ -57,7 +57,7 @@ fn has_code(h: &[u8], c: RateCode) -> bool
 // Line 6 for RSP.
 fn line_6_response(h: &[u8], d: &[u8], t: Terms, today: Date) -> Check
     requires { ⌜ (recordSize ≤ length (now h)) × (recordSize ≤ length (now d)) ⌝ }
-    ensures { λ r. ⌜ r ≡ first (line6 Kind.Response today (now (h .entry)) (now (d .entry)) t) ⌝ }
+    ensures { λ r. ⌜ r ≡ first (line6 Notification.Response today (now (h .entry)) (now (d .entry)) t) ⌝ }
 {
     if !t.is_open(today) {
         return Check::Stop(9);
@@ -74,7 +74,7 @@ fn line_6_response(h: &[u8], d: &[u8], t: Terms, today: Date) -> Check
 // Line 6 for SUP.
 fn line_6_supplement(h: &[u8], d: &[u8], t: Terms, today: Date) -> Check
     requires { ⌜ (recordSize ≤ length (now h)) × (recordSize ≤ length (now d)) ⌝ }
-    ensures { λ r. ⌜ r ≡ first (line6 Kind.Supplement today (now (h .entry)) (now (d .entry)) t) ⌝ }
+    ensures { λ r. ⌜ r ≡ first (line6 Notification.Supplement today (now (h .entry)) (now (d .entry)) t) ⌝ }
 {
     let cancelled = t.cancelled;
     if cancelled {
@@ -94,13 +94,13 @@ fn line_6_supplement(h: &[u8], d: &[u8], t: Terms, today: Date) -> Check
 }
 
 // Line 6: from the Notification Code to its check lines.
-fn line_6(h: &[u8], d: &[u8], kind: Kind, t: Terms, today: Date) -> Check
+fn line_6(h: &[u8], d: &[u8], notification: Notification, t: Terms, today: Date) -> Check
     requires { ⌜ (recordSize ≤ length (now h)) × (recordSize ≤ length (now d)) ⌝ }
-    ensures { λ r. ⌜ r ≡ first (line6 kind today (now (h .entry)) (now (d .entry)) t) ⌝ }
+    ensures { λ r. ⌜ r ≡ first (line6 notification today (now (h .entry)) (now (d .entry)) t) ⌝ }
 {
-    match kind {
-        Kind::Response => line_6_response(h, d, t, today),
-        Kind::Supplement => line_6_supplement(h, d, t, today),
+    match notification {
+        Notification::Response => line_6_response(h, d, t, today),
+        Notification::Supplement => line_6_supplement(h, d, t, today),
     }
 }
 
@@ -205,15 +205,15 @@ fn amounts(h: &[u8], d: &[u8], t: Terms) -> Verdict
 }
 
 // Lines 5 to 10.
-fn known(h: &[u8], d: &[u8], kind: Kind, t: Terms, today: Date) -> Verdict
+fn known(h: &[u8], d: &[u8], notification: Notification, t: Terms, today: Date) -> Verdict
     requires { ⌜ (recordSize ≤ length (now h)) × (recordSize ≤ length (now d)) ⌝ }
-    ensures { λ r. ⌜ r ≡ settle (first (lines5to10 kind today (now (h .entry)) (now (d .entry)) t)) (amountsOf (isPrepay (t .product)) (now (d .entry))) ⌝ }
+    ensures { λ r. ⌜ r ≡ settle (first (lines5to10 notification today (now (h .entry)) (now (d .entry)) t)) (amountsOf (isPrepay (t .product)) (now (d .entry))) ⌝ }
 {
     let code = t.code;
     if !has_code(h, code) {
         return Verdict::Rejected(7);
     }
-    let check = line_6(h, d, kind, t, today);
+    let check = line_6(h, d, notification, t, today);
     match check {
         Check::Stop(n) => Verdict::Rejected(n),
         Check::Clear => amounts(h, d, t),
@@ -221,12 +221,12 @@ fn known(h: &[u8], d: &[u8], kind: Kind, t: Terms, today: Date) -> Verdict
 }
 
 // Lines 4 to 10.
-pub fn verdict_of(h: &[u8], d: &[u8], kind: Kind, b: Sought, today: Date) -> Verdict
+pub fn verdict_of(h: &[u8], d: &[u8], notification: Notification, b: Sought, today: Date) -> Verdict
     requires { ⌜ (recordSize ≤ length (now h)) × (recordSize ≤ length (now d)) ⌝ }
-    ensures { λ r. ⌜ r ≡ verdictOf kind today (now (h .entry)) (now (d .entry)) b ⌝ }
+    ensures { λ r. ⌜ r ≡ verdictOf notification today (now (h .entry)) (now (d .entry)) b ⌝ }
 {
     let Sought::Bill(t) = b else {
         return Verdict::Rejected(16);
     };
-    known(h, d, kind, t, today)
+    known(h, d, notification, t, today)
 }

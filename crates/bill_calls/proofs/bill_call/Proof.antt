@@ -11,7 +11,7 @@ use Rattle.ledger.specs.Books.{live, placeOf}
 use Rattle.ledger.specs.Sound.{soundLedger}
 use Rattle.ledger.proofs.BookLaws.{places}
 use Rattle.group.proofs.ReadyLaws.{sound-ready}
-use Rattle.causes.specs.parts.Decisions.{identityOf}
+use Rattle.causes.specs.parts.Decisions.{callIdentity}
 use Rattle.calls.proofs.CallLaws.{cause-unsound, stopped, stopped-called, carried-called}
 use Rattle.calls.proofs.BillLaws.{Decided, sound-here, decided}
 use Rattle.bill_calls.proofs.bill_call.Statement.{statement}
@@ -29,8 +29,8 @@ returns c =
     let unsound = sym (c .before .before .sound .ensures) ∙ not-true _ (c .before .if1 .taken) in
     rw (c .refused .ensures) (stopped-called (stopped l _ 2 (cause-unsound l _ unsound)) _)
 
-identity-of-requires : tie.Need-identity-of-requires
-identity-of-requires c κs = search needs
+call-identity-requires : tie.Need-call-identity-requires
+call-identity-requires c κs = search needs
 
 read-for-requires : tie.Need-read-for-requires
 read-for-requires c κs =
@@ -44,8 +44,8 @@ start c = c .before .before .before .before .before
 sure : (c : tie.After-read-for) → soundLedger (start c .args .l) ≡ true
 sure c = sym (c .before .before .before .sound .ensures) ∙ not-false _ (c .before .before .if1 .left)
 
-finds : (c : tie.After-read-for) → c .read-for .result .found ≡ placeOf (identityOf (start c .args .c)) (live (start c .args .l))
-finds c = c .read-for .ensures .found ∙ ap (λ (x : Identity). placeOf x (live (start c .args .l))) (c .before .identity-of .ensures)
+finds : (c : tie.After-read-for) → c .read-for .result .found ≡ placeOf (callIdentity (start c .args .c)) (live (start c .args .l))
+finds c = c .read-for .ensures .found ∙ ap (λ (x : Identity). placeOf x (live (start c .args .l))) (c .before .call-identity .ensures)
 
 known : (c : tie.After-decide)
     → let at-read = c .before .before .before in
@@ -112,7 +112,7 @@ bill-call-spec =
     sound-requires
     refused-requires
     returns
-    identity-of-requires
+    call-identity-requires
     read-for-requires
     decide-requires
     enum-known-check

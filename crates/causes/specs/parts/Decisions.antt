@@ -64,14 +64,14 @@ cxlBy h b = cxl (record { terms = b .terms; tracking = h .tracking; today = h .t
 
 -- ---- a request or a cancel, c
 -- the call that it is, with so much room for its notice
-abbrev pub callOf : BillCall → ℕ → Call
-callOf (billCall.Request r) room = request r room
-callOf (billCall.Cancel id) room = cancel id room
+abbrev pub asCall : BillCall → ℕ → Call
+asCall (billCall.Request r) room = request r room
+asCall (billCall.Cancel id) room = cancel id room
 
 -- whose bill it is about
-abbrev pub identityOf : BillCall → Identity
-identityOf (billCall.Request r) = r .identity
-identityOf (billCall.Cancel id) = id
+abbrev pub callIdentity : BillCall → Identity
+callIdentity (billCall.Request r) = r .identity
+callIdentity (billCall.Cancel id) = id
 
 -- its causes, by the header and the bill
 abbrev pub causesBy : BillCall → ℕ → LedgerHeader → Found → Bill → List Rule

@@ -11,17 +11,17 @@ use Rattle.file.proofs.FileLaws.{header-is, only-detail}
 use Rattle.file.proofs.WalkLaws.{lent-head, lent-next}
 use Rattle.file.proofs.FormLaws.{says, one-detail, one-within}
 use Rattle.verdict.specs.Lines.{verdictOf}
-use Rattle.group.specs.Groups.{kindOf}
+use Rattle.group.specs.Groups.{notificationOf}
 use Rattle.group.proofs.DecideLaws.{verdict-line1, verdict-line2, verdict-line3, verdict-rest}
 use borrow.Author.Needs.{needs}
 use Rattle.group.proofs.verdict_at.Statement.{statement}
 use Rattle.group.proofs.verdict_at.Tie as tie
 
--- past the match: the group passes lines 1 and 2, and the kind is its
+-- past the match: the group passes lines 1 and 2, and the notification is its
 joined : (c : tie.At-match-came) →
     let a = c .before .before .before .args in
     let g = groupAt (a .s .now) (a .i) (a .n) in
-    (line1 g ≡ false) × (line2 g ≡ false) × (c .match .kind ≡ kindOf g)
+    (line1 g ≡ false) × (line2 g ≡ false) × (c .match .notification ≡ notificationOf g)
 joined c =
     let a = c .before .before .before .args in
     let w = says (groupAt (a .s .now) (a .i) (a .n)) in
@@ -97,8 +97,8 @@ returns-4 c = let s = c .before .before .before .before .before .before .before 
     let n = c .before .before .before .before .before .before .before .args .n in
     let g = groupAt s i n in
     let q = joined (c .before .before .before .before) in
-    let e : verdictOf (c .before .before .before .before .match .kind) (c .before .before .before .before .before .before .before .args .today) (take ((i + 1) * 321 - i * 321) (drop (i * 321) s)) (take ((i + 1) * 321 + 321 - (i + 1) * 321) (drop ((i + 1) * 321) s)) (c .before .before .before .before .before .before .before .args .b)
-    ≡ verdictOf (kindOf g) (c .before .before .before .before .before .before .before .args .today) (g .header) (detailOf g) (c .before .before .before .before .before .before .before .args .b) =
+    let e : verdictOf (c .before .before .before .before .match .notification) (c .before .before .before .before .before .before .before .args .today) (take ((i + 1) * 321 - i * 321) (drop (i * 321) s)) (take ((i + 1) * 321 + 321 - (i + 1) * 321) (drop ((i + 1) * 321) s)) (c .before .before .before .before .before .before .before .args .b)
+    ≡ verdictOf (notificationOf g) (c .before .before .before .before .before .before .before .args .today) (g .header) (detailOf g) (c .before .before .before .before .before .before .before .args .b) =
     rw (lent-head s i, lent-next s i, q .2, header-is s i n, only-detail s i n (one-detail s i n (q .0))) in
     c .verdict-of .ensures ∙ e ∙ verdict-rest (c .before .before .before .before .before .before .before .args .duplicate) (c .before .before .before .before .before .before .before .args .today) (c .before .before .before .before .before .before .before .args .b) g (q .0) (q .1) (c .before .before .before .if1 .left)
 

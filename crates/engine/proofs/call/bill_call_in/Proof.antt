@@ -14,8 +14,8 @@ use Rattle.engine.proofs.call.bill_call_in.Tie as tie
 header-requires : tie.Need-header-requires
 header-requires c κs = sound-holds _ (c .before .before .before .pre .0)
 
-identity-of-requires : tie.Need-identity-of-requires
-identity-of-requires c κs = search needs
+call-identity-requires : tie.Need-call-identity-requires
+call-identity-requires c κs = search needs
 
 find-requires : tie.Need-find-requires
 find-requires c κs =
@@ -39,7 +39,7 @@ decide-requires c κs =
     let start = at-header .before .before .before .before in
     let q = sound-ready _ (start .pre .0) in
     let he = at-header .header .ensures in
-    ((rw he (q .tracking), rw he (q .confirmation), rw he (q .count)), sound-in (start .args .ws .now) (start .pre .0) (start .args .c) _ (at-find .before .identity-of .ensures) _ he _ (at-find .find .ensures) _ (at-place .bill-place .ensures .0) _ (c .bill-at .ensures))
+    ((rw he (q .tracking), rw he (q .confirmation), rw he (q .count)), sound-in (start .args .ws .now) (start .pre .0) (start .args .c) _ (at-find .before .call-identity .ensures) _ he _ (at-find .find .ensures) _ (at-place .bill-place .ensures .0) _ (c .bill-at .ensures))
 
 -- what is known once the call is decided
 abbrev at-place : tie.After-decide → tie.After-bill-place
@@ -56,7 +56,7 @@ known : (c : tie.After-decide)
     (at-place c .bill-place .result) (c .before .bill-at .result) (c .decide .result)
 known c =
     let at-find = at-place c .before in
-    decided-in (start c .args .ws .now) (start c .pre .0) (start c .args .c) _ (at-find .before .identity-of .ensures) _ (at-header c .header .ensures) _
+    decided-in (start c .args .ws .now) (start c .pre .0) (start c .args .c) _ (at-find .before .call-identity .ensures) _ (at-header c .header .ensures) _
     (at-find .find .ensures) _ (at-place c .bill-place .ensures .0) _ (c .before .bill-at .ensures) (start c .args .room) _ (c .decide .ensures)
 
 enum-known-check : tie.Need-enum-known-check
@@ -114,7 +114,7 @@ bill-call-in-spec =
     tie.close
     (tie.spec
     header-requires
-    identity-of-requires
+    call-identity-requires
     find-requires
     bill-place-requires
     bill-at-requires

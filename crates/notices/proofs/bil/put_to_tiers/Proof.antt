@@ -11,8 +11,8 @@ use Rattle.notices.proofs.WriteLaws.{next-three, no-charge}
 use Rattle.notices.proofs.bil.put_to_tiers.Statement.{statement}
 use Rattle.notices.proofs.bil.put_to_tiers.Tie as tie
 
-alike-of-requires : tie.Need-alike-of-requires
-alike-of-requires c κs = search needs
+alike-for-requires : tie.Need-alike-for-requires
+alike-for-requires c κs = search needs
 
 slice-aggregate-put-detail-to-key : tie.Need-slice-aggregate-put-detail-to-key
 slice-aggregate-put-detail-to-key c = search needs
@@ -53,11 +53,11 @@ returns c =
     let at-put-sequence-to-charge = c .before .before .before .before .before .before .before .before .before .before in
     let at-put-digits = at-put-sequence-to-charge .before .before .before .before in
     let at-put-detail-to-key = at-put-digits .before .before .before .before in
-    let at-alike-of = at-put-detail-to-key .before .before .before in
-    let start = at-alike-of .before .before .before .before .before .before in
+    let at-alike-for = at-put-detail-to-key .before .before .before in
+    let start = at-alike-for .before .before .before .before .before .before in
     let a = start .args in
     let t = a .b .bill .terms in
-    let w1 = first (a .out .now) (a .at) _ (omega (arith, start .pre)) (rw (at-alike-of .alike-of .ensures) at (at-put-detail-to-key .put-detail-to-key .ensures)) (length-detail-to-key _ _ refl _) in
+    let w1 = first (a .out .now) (a .at) _ (omega (arith, start .pre)) (rw (at-alike-for .alike-for .ensures) at (at-put-detail-to-key .put-detail-to-key .ensures)) (length-detail-to-key _ _ refl _) in
     let w2 = next w1 _ (at-put-digits .put-digits .ensures) (length-digits 8 _) in
     let w3 = next-three w2 (digits 3 (t .sequence)) (digits 10 (t .latest .consumption .0)) (zeros 13) (rw no-charge at (at-put-sequence-to-charge .put-sequence-to-charge .ensures)) (length-digits 3 _) (length-digits 10 _) (length-filled 13 48) in
     let w4 = next w3 _ (c .before .before .before .before .before .before .put-digits2 .ensures) (length-digits 8 _) in
@@ -67,7 +67,7 @@ pub put-to-tiers-spec : {M : Type 1} → statement M
 put-to-tiers-spec =
     tie.close
     (tie.spec
-    alike-of-requires
+    alike-for-requires
     slice-aggregate-put-detail-to-key
     put-detail-to-key-requires
     add-put-digits

@@ -8,8 +8,8 @@ use Rattle.notices.proofs.NoticeLengths.{length-header, length-bil-deta
 use Rattle.notices.proofs.bil.write.Statement.{statement}
 use Rattle.notices.proofs.bil.write.Tie as tie
 
-alike-of-requires : tie.Need-alike-of-requires
-alike-of-requires c κs = search needs
+alike-for-requires : tie.Need-alike-for-requires
+alike-for-requires c κs = search needs
 
 slice-aggregate-put-header : tie.Need-slice-aggregate-put-header
 slice-aggregate-put-header c = search needs
@@ -29,17 +29,17 @@ same-length c = search needs
 returns : tie.Need-returns
 unfolding bil bilHeader
 returns c =
-    let at-alike-of = c .before .before .before .before .before .before .before .before .before .before in
-    let start = at-alike-of .before .before .before .before .before in
+    let at-alike-for = c .before .before .before .before .before .before .before .before .before .before in
+    let start = at-alike-for .before .before .before .before .before in
     let a = start .args in
-    let w1 = first (a .out .now) (a .at) _ (omega (arith, start .pre)) (rw (at-alike-of .alike-of .ensures) at (c .before .before .before .before .before .before .put-header .ensures)) (length-header _ _ refl _ _) in
+    let w1 = first (a .out .now) (a .at) _ (omega (arith, start .pre)) (rw (at-alike-for .alike-for .ensures) at (c .before .before .before .before .before .before .put-header .ensures)) (length-header _ _ refl _ _) in
     next w1 _ (c .before .before .put-detail .ensures) (length-bil-detail _) .same
 
 pub write-spec : {M : Type 1} → statement M
 write-spec =
     tie.close
     (tie.spec
-    alike-of-requires
+    alike-for-requires
     slice-aggregate-put-header
     put-header-requires
     add-put-detail

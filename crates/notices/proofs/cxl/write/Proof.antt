@@ -9,8 +9,8 @@ use Rattle.notices.proofs.NoticeLengths.{length-header, length-detail-t
 use Rattle.notices.proofs.cxl.write.Statement.{statement}
 use Rattle.notices.proofs.cxl.write.Tie as tie
 
-alike-of-requires : tie.Need-alike-of-requires
-alike-of-requires c κs = search needs
+alike-for-requires : tie.Need-alike-for-requires
+alike-for-requires c κs = search needs
 
 add-detail : tie.Need-add-detail
 add-detail c = search needs
@@ -37,18 +37,18 @@ returns : tie.Need-returns
 unfolding cxl cxlHeader cxlDetail
 returns c =
     let at-put-header = c .before .before .before .before .before .before .before .before .before .before .before in
-    let at-alike-of = at-put-header .before .before .before in
-    let start = at-alike-of .before .before .before .before in
+    let at-alike-for = at-put-header .before .before .before in
+    let start = at-alike-for .before .before .before .before in
     let a = start .args in
-    let w1 = first (a .out .now) (a .at) _ (omega (arith, start .pre)) (rw (at-alike-of .alike-of .ensures) at (at-put-header .put-header .ensures)) (length-header _ _ refl _ _) in
-    let w2 = first _ (a .at + 321) _ (omega (arith, start .pre)) (rw (at-alike-of .alike-of .ensures) at (c .before .before .before .before .before .before .put-detail-to-key .ensures)) (length-detail-to-key _ _ refl _) in
+    let w1 = first (a .out .now) (a .at) _ (omega (arith, start .pre)) (rw (at-alike-for .alike-for .ensures) at (at-put-header .put-header .ensures)) (length-header _ _ refl _ _) in
+    let w2 = first _ (a .at + 321) _ (omega (arith, start .pre)) (rw (at-alike-for .alike-for .ensures) at (c .before .before .before .before .before .before .put-detail-to-key .ensures)) (length-detail-to-key _ _ refl _) in
     next w1 _ (next w2 _ (c .before .before .put-end .ensures) (length-spaces-from 46) .same) (length-cxl-detail (a .x)) .same
 
 pub write-spec : {M : Type 1} → statement M
 write-spec =
     tie.close
     (tie.spec
-    alike-of-requires
+    alike-for-requires
     add-detail
     slice-aggregate-put-header
     put-header-requires
