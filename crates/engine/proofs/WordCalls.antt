@@ -126,7 +126,7 @@ module _ (ws : List ℕ) (sure : soundLedger (ledgerOf ws) ≡ true) (d : Date) 
       )
 
 -- ---- a group's turn, by the header that the words hold
-pub turned-here : (d : Bool) (f : Found) (b : Bill) (g : Group) (c : Tally) (writes : Bool) (out₀ out : List ℕ) (x : TurnResult) (h k : LedgerHeader) → h ≡ k
+pub turn-here : (d : Bool) (f : Found) (b : Bill) (g : Group) (c : Tally) (writes : Bool) (out₀ out : List ℕ) (x : TurnResult) (h k : LedgerHeader) → h ≡ k
     → TurnLeaves (verdictOn d (h .today) (soughtBy f b) g) g h b c writes out₀ out x → TurnLeaves (verdictOn d (k .today) (soughtBy f b) g) g k b c writes out₀ out x
-turned-here d f b g c writes out₀ out x h k e w =
+turn-here d f b g c writes out₀ out x h k e w =
     subst (λ (t : LedgerHeader). TurnLeaves (verdictOn d (t .today) (soughtBy f b) g) g t b c writes out₀ out x) e w

@@ -227,8 +227,8 @@ module _ (s : List ℕ) (n : ℕ) (l : Ledger) (writes : Bool) (out₀ : List �
       said-now = verdict-is k (w .places) (w .few) s i n t f p fe pe
 
       -- what was left, by the verdict of the rules
-      turned : TurnLeaves now g (headerOf k) (billAt k p) c writes out out′ r
-      turned = rw said-now at x
+      leaves : TurnLeaves now g (headerOf k) (billAt k p) c writes out out′ r
+      leaves = rw said-now at x
 
       -- the verdict by the mark is the verdict of the rules
       same : now ≡ verdictHere (before s n i) kb g (rest s n (i + 1))
@@ -237,7 +237,7 @@ module _ (s : List ℕ) (n : ℕ) (l : Ledger) (writes : Bool) (out₀ : List �
 
       led-is : after-turn ≡ stored k (settled kb g now)
       led-is =
-          ap₂ (λ (x : LedgerHeader) (y : Bill). updated k p (record { header = x; bill = y })) (turned .header) (turned .bill)
+          ap₂ (λ (x : LedgerHeader) (y : Bill). updated k p (record { header = x; bill = y })) (leaves .header) (leaves .bill)
           ∙ ledger-is k (w .places) (w .few) s i n t f p fe pe
 
       book-is : book after-turn ≡ settled kb g now
@@ -283,12 +283,12 @@ module _ (s : List ℕ) (n : ℕ) (l : Ledger) (writes : Bool) (out₀ : List �
 
       pub walk-group : Walk s n l writes out₀ after-turn out′ (r .tally) (i + 1)
       walk-group =
-          rw (turned .tally)
+          rw (leaves .tally)
           (record {
             within = omega arith;
             room = omega (arith, w .room, leading-header s i n h e, long);
             places = length-set (k .bills) p (r .update .bill) ∙ w .places;
-            few = omega (arith, ap (λ (x : LedgerHeader). x .count) (turned .header), w .few);
+            few = omega (arith, ap (λ (x : LedgerHeader). x .count) (leaves .header), w .few);
             bills = ap (λ (x : Book). every inWidths (x .bills)) book-is ∙ calm-kept t k g (omega (arith, w .places, w .few)) (w .bills);
             tracking = omega (arith, ap (λ (x : Book). x .tracking) book-is, numbers-up t k g .0, w .tracking);
             confirmation = omega (arith, ap (λ (x : Book). x .confirmation) book-is, numbers-up t k g .1, w .confirmation);
@@ -305,7 +305,7 @@ module _ (s : List ℕ) (n : ℕ) (l : Ledger) (writes : Bool) (out₀ : List �
             accepted = omega (arith, w .accepted, counts-step isAccepted);
             rejected = omega (arith, w .rejected, counts-step isRejected);
             done = w .done ++ told;
-            wrote = out-more writes 0 out₀ out (w .done) (c .written) (w .wrote) told out′ _ (λ z. omega (arith, fits z, long, leading-within s i n)) (turned .bytes) refl;
+            wrote = out-more writes 0 out₀ out (w .done) (c .written) (w .wrote) told out′ _ (λ z. omega (arith, fits z, long, leading-within s i n)) (leaves .bytes) refl;
             bytes =
                 append-assoc (w .done) told (answers (before s n (i + 1)) (book after-turn) (rest s n (i + 1)))
                 ∙ ap (λ (x : List ℕ). w .done ++ x) (sym answers-step)
@@ -328,7 +328,7 @@ module _ (l : Ledger) (c : Tally) (fine : FitForTurn l c) (s : List ℕ) (i n : 
       record {
         found = f;
         place = p;
-        turned = x;
+        result = x;
         finds = finds;
         stands = pe;
         turns = rw be at w;
@@ -354,7 +354,7 @@ module _ (s : List ℕ) (n : ℕ) (l : Ledger) (writes : Bool) (out₀ : List �
       → (k′ : Ledger) (out′ : List ℕ) (d : Tally) → TurnLeavesOn s i n t k c writes out k′ out′ d → Walk s n l writes out₀ k′ out′ d (i + 1)
   walk-turn b t m room k′ out′ d x =
       rw (x .ledger, x .tally)
-      (walk-group s n l writes out₀ k out c i w h (x .found) (x .finds) (x .place) (x .stands) e b t m out′ (x .turned)
+      (walk-group s n l writes out₀ k out c i w h (x .found) (x .finds) (x .place) (x .stands) e b t m out′ (x .result)
       (walk-room s n l writes out₀ k out c i w h e room) (x .turns))
 
 -- the end of the walk

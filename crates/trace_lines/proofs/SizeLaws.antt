@@ -12,7 +12,7 @@ use mir.ValLaws.{toZ-ofZ}
 use borrow.Author.Tests.{ltb-true, lt-ltb}
 
 -- what is known of x + 1 and of 0 - (x + 1) where x is negative
-record TurnResult (x : ℤ) : Type 0 where
+record Negates (x : ℤ) : Type 0 where
   up : SFits w64 (x +ℤ pos 1)
   over : SFits w64 (pos 0 -ℤ (x +ℤ pos 1))
   sign : T (nonNeg (pos 0 -ℤ (x +ℤ pos 1)))
@@ -24,10 +24,10 @@ rise n =
     let e : suc (suc n) - 2 ≡ n = omega arith in
     ap (λ b. cond b (negsuc (suc (suc n) - 2)) (pos (1 - suc (suc n)))) (lt-ltb 1 (suc (suc n)) (omega arith)) ∙ ap negsuc e
 
-turned : (x : ℤ) → SFits w64 x → ltZ x (pos 0) ≡ true → TurnResult x
-turned (pos n) f e = absurd (omega (arith, ltb-true n 0 e))
-turned (negsuc zero) f e = record { up = record { sfits = omega arith }; over = record { sfits = omega arith }; sign = tt; size = refl; small = omega arith }
-turned (negsuc (suc n)) f e =
+negated : (x : ℤ) → SFits w64 x → ltZ x (pos 0) ≡ true → Negates x
+negated (pos n) f e = absurd (omega (arith, ltb-true n 0 e))
+negated (negsuc zero) f e = record { up = record { sfits = omega arith }; over = record { sfits = omega arith }; sign = tt; size = refl; small = omega arith }
+negated (negsuc (suc n)) f e =
     record {
       up = rw (rise n) (record { sfits = omega (arith, f .sfits) });
       over = rw (rise n) (record { sfits = omega (arith, f .sfits) });
@@ -48,8 +48,8 @@ module _ (x : ℤ) (f : SFits w64 x) where
   over = toZ w64 (ofZ w64 (pos 0 -ℤ more))
 
   module _ (e : ltZ same (pos 0) ≡ true) where
-    t : TurnResult x
-    t = turned x f (rw (toZ-ofZ w64 x f) at e)
+    t : Negates x
+    t = negated x f (rw (toZ-ofZ w64 x f) at e)
 
     pub up-fits : SFits w64 (same +ℤ pos 1)
     up-fits = rw (toZ-ofZ w64 x f) (t .up)

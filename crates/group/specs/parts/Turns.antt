@@ -149,14 +149,14 @@ pub record FitForTurn (l : Ledger) (c : Tally) : Type 0 where
 pub record TurnLeavesOn (s : List ℕ) (i n : ℕ) (duplicate : Bool) (l : Ledger) (c : Tally) (writes : Bool) (out₀ : List ℕ) (k : Ledger) (out : List ℕ) (d : Tally) : Type 0 where
   pub found : Found
   pub place : ℕ
-  pub turned : TurnResult
+  pub result : TurnResult
   pub finds : found ≡ placeOf (identityAt s i n) (live l)
   pub stands : place ≡ placeFor found (l .count)
   pub turns :
       TurnLeaves (verdictOn duplicate (l .today) (soughtBy found (billAt l place)) (groupAt s i n)) (groupAt s i n) (headerOf l) (billAt l place) c writes
-      out₀ out turned
-  pub ledger : k ≡ updated l place (turned .update)
-  pub tally : d ≡ turned .tally
+      out₀ out result
+  pub ledger : k ≡ updated l place (result .update)
+  pub tally : d ≡ result .tally
 
 -- ---- a file's groups gs, taken on l: k is the struct now. The ledger, the counts and the bytes are those of the rules, the places past the count are as they were,
 -- and what came and went makes up the change of the total

@@ -3,7 +3,7 @@ use Rattle.ledger.specs.parts.Places.{headerOf}
 use Rattle.words.specs.Layout.{ledgerOf}
 use Rattle.file.specs.parts.Walk.{groupAt}
 use Rattle.group.proofs.GroupWalk.{turn-calm, turn-on}
-use Rattle.engine.proofs.WordCalls.{found-is, place-is, turned-here}
+use Rattle.engine.proofs.WordCalls.{found-is, place-is, turn-here}
 use borrow.Author.Needs.{needs}
 use Rattle.engine.proofs.file_groups.turn.Statement.{statement}
 use Rattle.engine.proofs.file_groups.turn.Tie as tie
@@ -49,7 +49,7 @@ returns c =
     let at-identity-at = at-find .before in
     let at-header = at-identity-at .before .before in
     let start = at-header .before .before .before .before .before in
-    (c .before .before .before .update .ensures .0, turn-on (ledgerOf (start .args .ws .now)) (start .args .c) (start .pre .1 .1) (start .args .s .now) (start .args .g .header) (start .args .g .records) _ (at-identity-at .identity-at .ensures) _ (found-is (start .args .ws .now) _ _ (at-header .header .ensures) _ (at-find .find .ensures)) _ (place-is (start .args .ws .now) _ _ (at-header .header .ensures) _ (at-find .find .ensures) _ (at-place .bill-place .ensures .0)) _ (at-bill-at .bill-at .ensures) (start .args .g .duplicate) (start .args .writes) (start .args .out .now) _ (at-turn .turn .result) (turned-here (start .args .g .duplicate) (at-find .find .result) (at-bill-at .bill-at .result) (groupAt (start .args .s .now) (start .args .g .header) (start .args .g .records)) (start .args .c) (start .args .writes) (start .args .out .now) _ (at-turn .turn .result) (at-header .header .result) (headerOf (ledgerOf (start .args .ws .now))) (at-header .header .ensures) (at-turn .turn .ensures)) _ (c .before .before .before .update .ensures .1))
+    (c .before .before .before .update .ensures .0, turn-on (ledgerOf (start .args .ws .now)) (start .args .c) (start .pre .1 .1) (start .args .s .now) (start .args .g .header) (start .args .g .records) _ (at-identity-at .identity-at .ensures) _ (found-is (start .args .ws .now) _ _ (at-header .header .ensures) _ (at-find .find .ensures)) _ (place-is (start .args .ws .now) _ _ (at-header .header .ensures) _ (at-find .find .ensures) _ (at-place .bill-place .ensures .0)) _ (at-bill-at .bill-at .ensures) (start .args .g .duplicate) (start .args .writes) (start .args .out .now) _ (at-turn .turn .result) (turn-here (start .args .g .duplicate) (at-find .find .result) (at-bill-at .bill-at .result) (groupAt (start .args .s .now) (start .args .g .header) (start .args .g .records)) (start .args .c) (start .args .writes) (start .args .out .now) _ (at-turn .turn .result) (at-header .header .result) (headerOf (ledgerOf (start .args .ws .now))) (at-header .header .ensures) (at-turn .turn .ensures)) _ (c .before .before .before .update .ensures .1))
 
 pub turn-spec : {M : Type 1} → statement M
 turn-spec =
