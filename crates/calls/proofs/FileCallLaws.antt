@@ -38,7 +38,8 @@ use Rattle.group.specs.parts.Turns.{FileTaken}
 use Rattle.group.proofs.GroupWalk.{book-stored}
 use Rattle.causes.proofs.FileFreshLaws.{good-short}
 use Rattle.calls.proofs.CallLaws.{Carried, Stopped, carried, stopped}
-use Rattle.causes.specs.Causes.{Call, request, file, cancel, close, lacks, fileCauses, causes}
+use Rattle.calls.proofs.CalendarCalls.{clear-dated}
+use Rattle.causes.specs.Causes.{Call, request, calendar, file, cancel, close, lacks, fileCauses, causes, workedOut}
 use Rattle.causes.proofs.CauseLaws.{asks, sends, cancels}
 use Rattle.calls.specs.Machine.{cause, roomOf, causeIn, outcome, stepIn, leftBy, answerBy, called, next, nextWritten, nextVerdicts, nextClosed}
 use Rattle.calls.specs.parts.Answers.{cleared}
@@ -164,6 +165,8 @@ pub written-within : (l : Book) (c : Call) → cause l c ≡ Clear → length (n
 unfolding causes nextWritten
 written-within l (request r room) e =
     bil-within _ room (asks r room (l .today) (l .tracking) (l .confirmation) _ _ (clear-causes l (request r room) e) .wide)
+written-within l (calendar q hs room) e =
+    bil-within _ room (asks (workedOut q hs (l .today)) room (l .today) (l .tracking) (l .confirmation) _ _ (clear-dated (view l) q hs room (clear-causes l (calendar q hs room) e)) .wide)
 written-within l (file s room) e =
     omega (arith, file-within l s, sends s room (l .tracking) (l .confirmation) (clear-causes l (file s room) e) .wide)
 written-within l (cancel id room) e =

@@ -7,3 +7,4 @@ pub mod BillLaws
 pub mod FreshCloseLaws
 pub mod FileCallLaws
 pub mod CountLaws
+pub mod CalendarCalls

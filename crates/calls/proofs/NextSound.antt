@@ -30,7 +30,8 @@ use Rattle.group.proofs.GroupWalk.{length-update}
 use Rattle.groups.proofs.FileSound.{bills-kept, distinct-kept, next-up, file-sound}
 use Rattle.causes.specs.declared.CodeField.{CodeField}
 use Rattle.causes.specs.declared.Request.{Request}
-use Rattle.causes.specs.Causes.{fiveOf, Call, request, file, cancel, close, requestTests, causes}
+use Rattle.causes.specs.Causes.{fiveOf, Call, request, calendar, file, cancel, close, requestTests, causes, workedOut}
+use Rattle.calls.proofs.CalendarCalls.{clear-dated}
 use Rattle.causes.specs.Requests.{codeOf, latestOf, newBill}
 use Rattle.calls.specs.Machine.{numbered, next}
 use Rattle.causes.proofs.CodeLaws.{good-five}
@@ -160,6 +161,7 @@ cancel-facts l id room f e =
 pub next-facts : (l : Book) (c : Call) → BookFacts l → first (causes (view l) c) ≡ Clear → BookFacts (next l c)
 unfolding causes next
 next-facts l (request r room) f e = request-facts l r room f e
+next-facts l (calendar q hs room) f e = request-facts l (workedOut q hs (l .today)) room f (clear-dated (view l) q hs room e)
 next-facts l (file s room) f e =
     let a = sends s room (l .tracking) (l .confirmation) e in
     book-facts _ (file-sound l (fileGroups s) (facts-sound l f) (a .left .1) (a .left .0))

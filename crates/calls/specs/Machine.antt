@@ -24,7 +24,7 @@ use Rattle.causes.specs.declared.Request.{Request}
 use Rattle.calls.specs.declared.Called.{Called}
 use Rattle.calls.specs.declared.Answer.{Answer}
 use Rattle.calls.specs.declared.Answer.the-variants.{Done, Refused}
-use Rattle.causes.specs.Causes.{Call, request, file, cancel, close, causes}
+use Rattle.causes.specs.Causes.{Call, request, calendar, file, cancel, close, causes, workedOut}
 use Rattle.causes.specs.Requests.{latestOf, newBill, closes}
 
 -- "a ledger that isn't sound" is 2; then the causes of the call in their order
@@ -47,20 +47,25 @@ requested r l =
 abbrev pub numbered : Book → List Bill → Book
 numbered l bills = record { today = l .today; tracking = l .tracking + 1; confirmation = l .confirmation + 1; bills = bills }
 
--- the ledger that it leaves
-unfoldable pub next : Book → Call → Book
-next l (request r room) =
+-- the ledger that a request leaves
+abbrev pub nextRequested : Book → Request → Book
+nextRequested l r =
     numbered l
     (cond (holdsId (r .identity) (l .bills))
     (update (ofId (r .identity)) (renewed (latestOf r (l .tracking))) (l .bills))
     (l .bills ++ (newBill r (l .tracking) ∷ [])))
+
+-- the ledger that a call leaves: a request by calendar that of the request with the date worked out
+unfoldable pub next : Book → Call → Book
+next l (request r room) = nextRequested l r
+next l (calendar q hs room) = nextRequested l (workedOut q hs (l .today))
 next l (file s room) = taken [] l (fileGroups s)
 next l (cancel id room) = numbered l (update (ofId id) cancelledBill (l .bills))
 next l (close d) = record { today = d; tracking = l .tracking; confirmation = l .confirmation; bills = l .bills }
 
 -- the bytes that it writes: a request "writes a BIL", a file the answers to its groups, a cancel "writes a CXL"
-unfoldable pub nextWritten : Book → Call → List ℕ
-nextWritten l (request r room) =
+abbrev pub bilRequested : Book → Request → List ℕ
+bilRequested l r =
     bil
     (record {
       bill = requested r l;
@@ -68,6 +73,10 @@ nextWritten l (request r room) =
       today = l .today;
       confirmation = l .confirmation;
     })
+
+unfoldable pub nextWritten : Book → Call → List ℕ
+nextWritten l (request r room) = bilRequested l r
+nextWritten l (calendar q hs room) = bilRequested l (workedOut q hs (l .today))
 nextWritten l (file s room) = answers [] l (fileGroups s)
 nextWritten l (cancel id room) =
     cxl
@@ -82,6 +91,7 @@ nextWritten l (close d) = []
 -- the length of the output lent to it; a close is lent none
 abbrev pub roomOf : Call → ℕ
 roomOf (request r room) = room
+roomOf (calendar q hs room) = room
 roomOf (file s room) = room
 roomOf (cancel id room) = room
 roomOf (close d) = 0
@@ -89,12 +99,14 @@ roomOf (close d) = 0
 -- the verdicts of a file's groups
 unfoldable pub nextVerdicts : Book → Call → List Verdict
 nextVerdicts l (request r room) = []
+nextVerdicts l (calendar q hs room) = []
 nextVerdicts l (file s room) = verdicts [] l (fileGroups s)
 nextVerdicts l (cancel id room) = []
 nextVerdicts l (close d) = []
 
 unfoldable pub nextClosed : Book → Call → ℕ
 nextClosed l (request r room) = 0
+nextClosed l (calendar q hs room) = 0
 nextClosed l (file s room) = 0
 nextClosed l (cancel id room) = 0
 nextClosed l (close d) = count (closes (l .today) d) (l .bills)

@@ -2,3 +2,4 @@
 pub mod CauseLaws
 pub mod CodeLaws
 pub mod FileFreshLaws
+pub mod CalendarLaws

@@ -8,7 +8,8 @@ use Rattle.fields.specs.Digits.{fits}
 use Rattle.fields.specs.Put.{sameList}
 use Rattle.units.specs.declared.Date.{Date}
 use Rattle.units.specs.Units.{fitsCcf}
-use Rattle.units.specs.Calendar.{isDate}
+use Rattle.units.specs.Calendar.{isDate, dateOf}
+use Rattle.calendar.specs.BusinessDays.{businessDay, furtherCauses, numberIn}
 use Rattle.ledger.specs.declared.Identity.{Identity}
 use Rattle.ledger.specs.declared.Product.the-variants as product
 use Rattle.rules.specs.Lists.{count, all}
@@ -23,12 +24,15 @@ use Rattle.group.specs.Groups.{soughtIn}
 use Rattle.causes.specs.declared.Start.{Start}
 use Rattle.causes.specs.declared.CodeField.{CodeField}
 use Rattle.causes.specs.declared.Request.{Request}
+use Rattle.causes.specs.declared.CalendarRequest.{CalendarRequest}
 use Rattle.ledger.specs.Limits.{ledgerPlaces, lastSequence, lastNumber, usedUp}
 use Rattle.records.specs.Limits.{noticeSize}
 
--- "The list holds each call with its arguments, file bytes and the length of the output lent to it": room is that length
+-- "The list holds each call with its arguments, file bytes and the length of the output lent to it": room is that length. Paper 1 of document 02 adds the
+-- request that leaves its Scheduled Date to the calendar, with the holidays lent to it
 pub data Call : Type 0 where
   request : Request → ℕ → Call
+  calendar : CalendarRequest → List ℕ → ℕ → Call
   file : List ℕ → ℕ → Call
   cancel : Identity → ℕ → Call
   close : Date → Call
@@ -54,16 +58,19 @@ codeField xs = record { first = getD xs 0 0; second = getD xs 1 0; third = getD 
 abbrev pub fiveOf : CodeField → List ℕ
 fiveOf x = x .first ∷ x .second ∷ x .third ∷ x .tens ∷ x .ones ∷ []
 
-unfoldable pub requestTests : Request → List Bool
-requestTests r =
+-- a request's fields but for its Scheduled Date, and all of them
+abbrev pub undatedTests : Request → List Bool
+undatedTests r =
     isRateCode (fiveOf (r .code))
     ∷ goodIdentity (r .identity)
     ∷ isProduct (r .product)
     ∷ isDate (r .billing .0)
     ∷ isDate (r .from .0)
     ∷ fitsCcf (r .consumption)
-    ∷ isDate (r .scheduled .0)
     ∷ []
+
+unfoldable pub requestTests : Request → List Bool
+requestTests r = undatedTests r ++ (isDate (r .scheduled .0) ∷ [])
 
 -- ---- 12: "fewer numbers left than the request, cancel or file .. needs": t Tracking IDs and c Confirmation Numbers
 abbrev pub lacks : ℕ → ℕ → ℕ → ℕ → Bool
@@ -85,12 +92,42 @@ billCauses r held (Bill t) =
 billCauses r held Nothing = rule (leb ledgerPlaces held) 3 ∷ []
 
 -- "Request: 2, 1, 9, then 5, 6, 7, 8 for a known bill or 3 for a new one, 12."
-unfoldable pub requestCauses : Request → ℕ → Date → ℕ → ℕ → ℕ → Sought → List Rule
-requestCauses r room today tracking confirmation held b =
-    rule (not (all (requestTests r))) 2
-    ∷ rule (ltb room noticeSize) 1
+abbrev pub causesAfter2 : Request → ℕ → Date → ℕ → ℕ → ℕ → Sought → List Rule
+causesAfter2 r room today tracking confirmation held b =
+    rule (ltb room noticeSize) 1
     ∷ rule (ltb (r .scheduled .0) (today .0)) 9
     ∷ (billCauses r held b ++ (rule (lacks tracking confirmation 1 1) 12 ∷ []))
+
+unfoldable pub requestCauses : Request → ℕ → Date → ℕ → ℕ → ℕ → Sought → List Rule
+requestCauses r room today tracking confirmation held b =
+    rule (not (all (requestTests r))) 2 ∷ causesAfter2 r room today tracking confirmation held b
+
+-- ---- paper 1 of document 02: the request by calendar
+-- "A request may then leave its Scheduled Date to the calendar, counted from today": the request with the date worked out
+abbrev pub onDate : Request → Date → Request
+onDate r d =
+    record {
+      code = r .code;
+      identity = r .identity;
+      product = r .product;
+      billing = r .billing;
+      from = r .from;
+      consumption = r .consumption;
+      scheduled = d;
+    }
+
+abbrev pub workedOut : CalendarRequest → List ℕ → Date → Request
+workedOut q hs today = onDate (q .request) (dateOf (numberIn (businessDay hs (today .0) (q .number))))
+
+-- "14, .. after 2 of the same call; 15, .. after 14; both before 1": 2, 14 and 15 of the request and of the business day counted from today
+unfoldable pub scheduleCauses : CalendarRequest → List ℕ → Date → List Rule
+scheduleCauses q hs today = rule (not (all (undatedTests (q .request)))) 2 ∷ furtherCauses hs (today .0) (q .number)
+
+unfoldable pub calendarCauses : CalendarRequest → List ℕ → ℕ → Date → ℕ → ℕ → ℕ → Sought → List Rule
+calendarCauses q hs room today tracking confirmation held b =
+    scheduleCauses q hs today ++ causesAfter2 (workedOut q hs today) room today tracking confirmation held b
+
+-- ---- the other calls
 
 -- "File: 2, 11, 1, 12.": "each group a Confirmation, each SUP header a Tracking"
 unfoldable pub fileCauses : List ℕ → ℕ → ℕ → ℕ → List Rule
@@ -118,6 +155,8 @@ closeCauses d today = rule (not (isDate (d .0))) 2 ∷ rule (not (ltb (today .0)
 unfoldable pub causes : View → Call → List Rule
 causes v (request r room) =
     requestCauses r room (v .today) (v .tracking) (v .confirmation) (length (v .bills)) (soughtIn (r .identity) (v .bills))
+causes v (calendar q hs room) =
+    calendarCauses q hs room (v .today) (v .tracking) (v .confirmation) (length (v .bills)) (soughtIn (q .request .identity) (v .bills))
 causes v (file s room) = fileCauses s room (v .tracking) (v .confirmation)
 causes v (cancel id room) = cancelCauses id room (v .tracking) (v .confirmation) (soughtIn id (v .bills))
 causes v (close d) = closeCauses d (v .today)

@@ -6,7 +6,7 @@ ghost use Rattle.fields.specs.Put.{sameList};
 ghost use Rattle.rules.specs.Lists.{all};
 ghost use Rattle.ledger.specs.Bills.{isRateCode, codeBytes};
 ghost use Rattle.rules.specs.Rules.{first};
-ghost use Rattle.causes.specs.Causes.{isNumber, goodIdentity, fiveOf, isProduct, requestTests, lacks, freshCauses, billCauses, requestCauses, fileCauses, cancelCauses, closeCauses};
+ghost use Rattle.causes.specs.Causes.{isNumber, goodIdentity, fiveOf, isProduct, undatedTests, requestTests, lacks, freshCauses, billCauses, requestCauses, fileCauses, cancelCauses, closeCauses};
 ghost use Rattle.causes.specs.Requests.{codeOf, closes};
 ghost use Rattle.ledger.specs.Limits.{usedUp};
 ghost use Rattle.records.specs.Limits.{fileRecords};
@@ -72,23 +72,29 @@ fn good_product(x: u8) -> bool
     (x == 66) | (x == 80)
 }
 
-// Whether every argument is in its width and range.
-pub fn good_request(r: Request) -> bool
-    ensures { λ a. ⌜ a ≡ all (requestTests r) ⌝ }
+// Whether every argument but the Scheduled Date is in its width and range.
+pub fn good_undated(r: Request) -> bool
+    ensures { λ a. ⌜ a ≡ all (undatedTests r) ⌝ }
 {
     let code = r.code;
     let id = r.identity;
     let billing = r.billing;
     let from = r.from;
     let consumption = r.consumption;
-    let scheduled = r.scheduled;
     good_code(code)
         & good_identity(id)
         & good_product(r.product)
         & billing.valid()
         & from.valid()
         & consumption.fits()
-        & scheduled.valid()
+}
+
+// Whether every argument is in its width and range.
+pub fn good_request(r: Request) -> bool
+    ensures { λ a. ⌜ a ≡ all (requestTests r) ⌝ }
+{
+    let scheduled = r.scheduled;
+    good_undated(r) & scheduled.valid()
 }
 
 // The causes against a request for a known bill, or for a new one where so many bills are held.

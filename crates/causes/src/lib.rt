@@ -53,6 +53,12 @@ pub struct Request {
     pub scheduled: Date,
 }
 
+// A request that leaves its Scheduled Date to the calendar: so many business days from today. The date that `request` holds is not read.
+pub struct CalendarRequest {
+    pub request: Request,
+    pub number: u64,
+}
+
 // What a request or a cancel comes to: the first cause against it, and the header and the bill that it leaves.
 pub struct Decision {
     pub check: Check,

@@ -16,7 +16,7 @@ use Rattle.verdict.specs.declared.Verdict.the-variants.{Accepted, Rejected}
 use Rattle.rules.specs.Rules.{first}
 use Rattle.group.specs.Groups.{settled, verdictBy, verdictHere, answers, verdicts, isAccepted}
 use Rattle.causes.specs.declared.Start.{Start}
-use Rattle.causes.specs.Causes.{Call, request, file, cancel, close, freshCauses}
+use Rattle.causes.specs.Causes.{Call, request, calendar, file, cancel, close, freshCauses}
 use Rattle.calls.specs.Machine.{cause, nextWritten, nextVerdicts, Outcome, outcome, step, fresh, after, outcomes}
 use Rattle.calls.specs.Days.{freshLedger, freshBy, freshCalled}
 use Rattle.calls.proofs.CountLaws.{both-counted}
@@ -49,6 +49,8 @@ call-verdicts : (l : Book) (h : History) (c : Call) (v : Check) → h .now ≡ v
 unfolding outcome nextVerdicts callDecisions verdictsOf
 call-verdicts l h (request r room) Clear e = refl
 call-verdicts l h (request r room) (Stop n) e = refl
+call-verdicts l h (calendar q hs room) Clear e = refl
+call-verdicts l h (calendar q hs room) (Stop n) e = refl
 call-verdicts l h (file s room) Clear e = group-verdicts [] (fileGroups s) l h e
 call-verdicts l h (file s room) (Stop n) e = refl
 call-verdicts l h (cancel id room) Clear e = refl
@@ -117,6 +119,8 @@ call-acfs : (l : Book) (h : History) (c : Call) (v : Check) → h .now ≡ view 
 unfolding outcome nextWritten callDecisions
 call-acfs l h (request r room) Clear e = bil-no-acf _
 call-acfs l h (request r room) (Stop n) e = none-acf
+call-acfs l h (calendar q hs room) Clear e = bil-no-acf _
+call-acfs l h (calendar q hs room) (Stop n) e = none-acf
 call-acfs l h (file s room) Clear e = group-acfs [] (fileGroups s) l h e (formed-file s)
 call-acfs l h (file s room) (Stop n) e = none-acf
 call-acfs l h (cancel id room) Clear e = cxl-no-acf _
@@ -155,6 +159,7 @@ groups-lawful before (g ∷ gs) h =
 call-lawful : (h : History) (c : Call) (v : Check) → All Lawful (callDecisions h c v)
 unfolding callDecisions
 call-lawful h (request r room) v = tt
+call-lawful h (calendar q hs room) v = tt
 call-lawful h (file s room) Clear = groups-lawful [] (fileGroups s) h
 call-lawful h (file s room) (Stop n) = tt
 call-lawful h (cancel id room) v = tt

@@ -26,11 +26,13 @@ use Rattle.rules.specs.Rules.{first}
 use Rattle.verdict.specs.Lines.{isNothing, sentCharge}
 use Rattle.group.specs.Groups.{identityOf, soughtIn, sought, verdictBy, settled, verdictHere, taken}
 use Rattle.groups.proofs.FileSound.{holds-kept, settled-facts, confirmation-up, tracking-up, count-step}
-use Rattle.causes.specs.Causes.{Call, request, file, cancel, close, causes}
+use Rattle.causes.specs.declared.Request.{Request}
+use Rattle.causes.specs.Causes.{Call, request, calendar, file, cancel, close, causes, workedOut}
 use Rattle.causes.specs.Requests.{latestOf, newBill}
 use Rattle.calls.specs.Machine.{next}
 use Rattle.causes.proofs.CauseLaws.{sends}
 use Rattle.calls.proofs.NextSound.{nowhere, next-facts}
+use Rattle.calls.proofs.CalendarCalls.{clear-dated}
 use Rattle.history.specs.History.{Posting, History, lastCharge, countedCharge, renews, marked, raised, onward, decided, verdictNow, decidedAll, hNext}
 use Rattle.history.specs.Claim.{All}
 use Rattle.history.proofs.Accepted.{accepted-exists, accepted-alive, accepted-charge}
@@ -201,9 +203,10 @@ module _ (l : Book) (ps : List Posting) (f : Follows l (hist l ps)) where
       no-charge true e = refl
       no-charge false e = e
 
-  pub next-follows : (c : Call) → first (causes (view l) c) ≡ Clear → Follows (next l c) (hNext (hist l ps) c)
+  request-follows : (r : Request) (room : ℕ) → first (causes (view l) (request r room)) ≡ Clear
+      → Follows (next l (request r room)) (hNext (hist l ps) (request r room))
   unfolding next hNext causes
-  next-follows (request r room) e =
+  request-follows r room e =
       let again : (b : Bill) → Agrees ps b → Agrees ps (renewed (latestOf r (l .tracking)) b) =
       λ b q. q ∙ ap (λ (n : ℕ). cond (b .terms .cancelled) 0 n) (last-same (b .terms) (renewed (latestOf r (l .tracking)) b .terms) refl ps) in
       let s = next-facts l (request r room) (f .sound) e in
@@ -211,6 +214,11 @@ module _ (l : Book) (ps : List Posting) (f : Follows l (hist l ps)) where
       (λ h. rw (has-map (r .identity) (l .bills), h)
       (change-follows (r .identity) (renewed (latestOf r (l .tracking))) (renews r (l .tracking)) (λ b. refl) (λ b. refl) again (rw h at s)))
       (λ h. rw (has-map (r .identity) (l .bills), h) (add-follows (newBill r (l .tracking)) refl h (rw h at s)))
+
+  pub next-follows : (c : Call) → first (causes (view l) c) ≡ Clear → Follows (next l c) (hNext (hist l ps) c)
+  unfolding next hNext causes
+  next-follows (request r room) e = request-follows r room e
+  next-follows (calendar q hs room) e = request-follows (workedOut q hs (l .today)) room (clear-dated (view l) q hs room e)
   next-follows (file s room) e =
       let a = sends s room (l .tracking) (l .confirmation) e in
       groups-follow [] (fileGroups s) l (hist l ps) f (a .left .1) (a .left .0)

@@ -24,9 +24,11 @@ use Rattle.rules.specs.Rules.{first}
 use Rattle.verdict.specs.Lines.{isNothing, termsOf}
 use Rattle.group.specs.Groups.{identityOf, soughtIn, sought, settled, answer, verdictBy, verdictHere, taken, answers, isAccepted}
 use Rattle.groups.proofs.FileSound.{confirmation-up, tracking-up, count-step}
-use Rattle.causes.specs.Causes.{Call, request, file, cancel, close, causes}
+use Rattle.causes.specs.declared.Request.{Request}
+use Rattle.causes.specs.Causes.{Call, request, calendar, file, cancel, close, causes, workedOut}
 use Rattle.calls.specs.Machine.{next, nextWritten, outcome, step, after, outcomes}
 use Rattle.causes.proofs.CauseLaws.{asks, sends, cancels}
+use Rattle.calls.proofs.CalendarCalls.{clear-dated}
 use Rattle.history.specs.History.{History, hStep, decided, verdictNow}
 use Rattle.history.specs.Written.{assignedIn}
 use Rattle.history.specs.Claim.{All, NoneTwice, assigned}
@@ -128,15 +130,21 @@ row-groups before (g ∷ gs) l h f w c n =
 
 -- ---- the calls
 -- the Tracking ID of the BIL is the next one
-row-next : (l : Book) (h : History) (c : Call) → Follows l h → first (causes (view l) c) ≡ Clear
-    → Row (l .tracking) (assignedIn (nextWritten l c)) (next l c .tracking)
+row-request : (l : Book) (r : Request) (room : ℕ) → first (causes (view l) (request r room)) ≡ Clear
+    → Row (l .tracking) (assignedIn (nextWritten l (request r room))) (next l (request r room) .tracking)
 unfolding nextWritten next causes
-row-next l h (request r room) f e =
+row-request l r room e =
     let a = asks r room (l .today) (l .tracking) (l .confirmation) (length (map billTerms (l .bills))) (soughtIn (r .identity) (map billTerms (l .bills))) e in
     let t = a .left .0 in
     cases (holdsId (r .identity) (l .bills))
     (λ k. rw k (row-is (l .tracking) (l .tracking + 1) _ (l .tracking ∷ []) (bil-assigns _ (omega arith)) (row-one (l .tracking))))
     (λ k. rw k (row-is (l .tracking) (l .tracking + 1) _ (l .tracking ∷ []) (bil-assigns _ (omega arith)) (row-one (l .tracking))))
+
+row-next : (l : Book) (h : History) (c : Call) → Follows l h → first (causes (view l) c) ≡ Clear
+    → Row (l .tracking) (assignedIn (nextWritten l c)) (next l c .tracking)
+unfolding nextWritten next causes
+row-next l h (request r room) f e = row-request l r room e
+row-next l h (calendar q hs room) f e = row-request l (workedOut q hs (l .today)) room (clear-dated (view l) q hs room e)
 row-next l h (file s room) f e =
     let a = sends s room (l .tracking) (l .confirmation) e in
     row-groups [] (fileGroups s) l h f (formed-file s) (a .left .1) (a .left .0)

@@ -4,6 +4,8 @@
 use Prim.Native.Nat.{ℕ, _+_}
 use mathlib.Core.Bool.{Bool, true, false, cond}
 use mathlib.Core.List.{List, [], _∷_, _++_}
+use Rattle.units.specs.Calendar.{dateOf}
+use Rattle.calendar.specs.BusinessDays.{businessDay, numberIn}
 use Rattle.ledger.specs.declared.Identity.{Identity}
 use Rattle.ledger.specs.declared.Latest.{Latest}
 use Rattle.ledger.specs.declared.Terms.{Terms}
@@ -20,7 +22,8 @@ use Rattle.verdict.specs.Lines.{sentCharge}
 use Rattle.group.specs.Groups.{identityOf, verdict}
 use Rattle.causes.specs.declared.Start.{Start}
 use Rattle.causes.specs.declared.Request.{Request}
-use Rattle.causes.specs.Causes.{Call, request, file, cancel, close, causes}
+use Rattle.causes.specs.declared.CalendarRequest.{CalendarRequest}
+use Rattle.causes.specs.Causes.{Call, request, calendar, file, cancel, close, causes}
 use Rattle.causes.specs.Requests.{codeOf}
 
 -- "postings, each a bill and a charge"
@@ -118,8 +121,9 @@ decisions before h (g ∷ gs) =
     ∷ decisions (before ++ (g ∷ [])) (decided h g (verdictNow before h g gs)) gs
 
 -- ---- the calls
-unfoldable pub hNext : History → Call → History
-hNext h (request r room) =
+-- "a request adds or renews its bill"
+abbrev pub hRequested : History → Request → History
+hRequested h r =
     record {
       now =
           onward (h .now) 1 1
@@ -128,6 +132,24 @@ hNext h (request r room) =
           (h .now .bills ++ (added r (h .now .tracking) ∷ [])));
       postings = h .postings;
     }
+
+-- paper 1 of document 02, "A request may then leave its Scheduled Date to the calendar, counted from today": what such a request asks of the history, said
+-- here again, so that the machine's way of working out the date is held to it
+abbrev pub leftToCalendar : View → CalendarRequest → List ℕ → Request
+leftToCalendar v q hs =
+    record {
+      code = q .request .code;
+      identity = q .request .identity;
+      product = q .request .product;
+      billing = q .request .billing;
+      from = q .request .from;
+      consumption = q .request .consumption;
+      scheduled = dateOf (numberIn (businessDay hs (v .today .0) (q .number)));
+    }
+
+unfoldable pub hNext : History → Call → History
+hNext h (request r room) = hRequested h r
+hNext h (calendar q hs room) = hRequested h (leftToCalendar (h .now) q hs)
 hNext h (file s room) = decidedAll [] h (fileGroups s)
 hNext h (cancel id room) =
     record { now = onward (h .now) 1 1 (update (isOf id) marked (h .now .bills)); postings = h .postings }
@@ -152,6 +174,7 @@ hStep h c = hMove h c (hCause h c)
 -- the groups that a call decides: those of a file to which the causes give no number
 unfoldable pub callDecisions : History → Call → Check → List Decided
 callDecisions h (request r room) v = []
+callDecisions h (calendar q hs room) v = []
 callDecisions h (file s room) Clear = decisions [] h (fileGroups s)
 callDecisions h (file s room) (Stop n) = []
 callDecisions h (cancel id room) v = []

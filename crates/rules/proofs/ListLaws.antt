@@ -26,6 +26,11 @@ pub on-all : (bs : List Bool) → On bs → all bs ≡ true
 on-all [] h = refl
 on-all (b ∷ bs) h = rw (h .0) (on-all bs (h .1))
 
+-- one test more, at the end
+pub all-append : (bs : List Bool) (b : Bool) → all (bs ++ (b ∷ [])) ≡ (all bs && b)
+all-append [] b = and-true b
+all-append (a ∷ bs) b = ap (λ (z : Bool). a && z) (all-append bs b) ∙ sym (and-assoc a (all bs) b)
+
 -- tests joined from the left, as code joins them
 abbrev pub joined : Bool → List Bool → Bool
 joined a [] = a
