@@ -3,6 +3,7 @@ use Prim.Native.Nat.{ℕ, zero, suc, _+_, _-_, _≤_, _<_}
 use mathlib.Core.Path.{_≡_, refl, sym, ap, _∙_}
 use mathlib.Core.Bool.{Bool, true, false}
 use native.Mathlib.Omega.{arith}
+use native.Mathlib.Decide.{decLe}
 use Rattle.fields.proofs.BoolLaws.{cases}
 use Rattle.rules.specs.declared.Found.{Found}
 use Rattle.rules.specs.declared.Found.the-variants.{At, Nothing}
@@ -39,6 +40,19 @@ module _ (p : ℕ → Bool) where
       let f = least-found n (suc k) d (sym (least-miss k n h) ∙ e) in
       (f .0, omega arith, omega arith))
 
+  -- what stands before the number found does not pass
+  least-before : (n k d : ℕ) → least p k n ≡ At d → (e : ℕ) → k ≤ e → e < d → p e ≡ false
+  unfolding least
+  least-before zero k d f e h l = let z : _≡_ {A = ℕ} 0 1 = cc in absurd (omega arith)
+  least-before (suc n) k d f e h l =
+      cases (p k)
+      (λ t. let g : k ≡ d = cc (least-hit k n t) in absurd (omega arith))
+      (λ t.
+      elim (decLe e k) [
+        | yes g ↦ (let i : e ≡ k = omega arith in rw i t)
+        | no g ↦ least-before n (suc k) d (sym (least-miss k n t) ∙ f) e (omega arith) l
+      ])
+
   -- the first passes; there is none; those before b do not pass
   pub up-to-hit : (a b : ℕ) → a ≤ b → p a ≡ true → leastUpTo p a b ≡ At a
   unfolding leastUpTo
@@ -55,10 +69,14 @@ module _ (p : ℕ → Bool) where
       let t : a + (b - a) ≡ b = omega arith in
       rw s (least-skip (b - a) a (suc top - b) (λ e i j. f e i (omega arith)) ∙ ap (λ (j : ℕ). least p j (suc top - b)) t)
 
-  -- what is found passes, and stands between a and b
+  -- what is found passes, and stands between a and b; what stands before it does not pass
   pub up-to-found : (a b d : ℕ) → leastUpTo p a b ≡ At d → FoundIn p a b d
   unfolding leastUpTo
   up-to-found a b d e = let f = least-found (suc b - a) a d e in (f .0, f .1, omega arith)
+
+  pub up-to-before : (a b d : ℕ) → leastUpTo p a b ≡ At d → (e : ℕ) → a ≤ e → e < d → p e ≡ false
+  unfolding leastUpTo
+  up-to-before a b d f = least-before (suc b - a) a d f
 
 -- two tests that agree find the same
 least-same : (p q : ℕ → Bool) (n k : ℕ) → ((e : ℕ) → k ≤ e → e < k + n → p e ≡ q e) → least p k n ≡ least q k n

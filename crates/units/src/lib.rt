@@ -1,4 +1,7 @@
-// The three quantities and the dates, each a type of its own: a sum or comparison takes only its own unit.
+// The three quantities and the dates, each a type of its own: a sum or comparison takes only its own unit. Days are
+// counted in days.rt.
+mod days;
+
 ghost use mathlib.Core.Path.{_≡_};
 ghost use Prim.Native.Nat.{_+_, _<_, _^_};
 ghost use lib.Dec.{leb, ltb, eqb};
@@ -13,6 +16,9 @@ pub struct Ccf(pub u64);
 
 // Hundred-thousandths of a dollar per Mcf.
 pub struct Rate(pub u64);
+
+// The last date of the "years 1900 to 2999".
+pub const LAST_DATE: u64 = 29991231;
 
 // A date as yyyymmdd.
 pub struct Date(pub u64);
