@@ -1,1 +1,3 @@
 -- Laws that belong to no one function.
+pub mod HolidayLaws
+pub mod FurtherLaws

@@ -53,6 +53,18 @@ module _ (p : ℕ → Bool) where
         | no g ↦ least-before n (suc k) d (sym (least-miss k n t) ∙ f) e (omega arith) l
       ])
 
+  least-nothing : (n k : ℕ) → least p k n ≡ Nothing → (e : ℕ) → k ≤ e → e < k + n → p e ≡ false
+  unfolding least
+  least-nothing zero k f e h l = absurd (omega arith)
+  least-nothing (suc n) k f e h l =
+      cases (p k)
+      (λ t. let z : _≡_ {A = ℕ} 0 1 = cc (least-hit k n t) in absurd (omega arith))
+      (λ t.
+      elim (decLe e k) [
+        | yes g ↦ (let i : e ≡ k = omega arith in rw i t)
+        | no g ↦ least-nothing n (suc k) (sym (least-miss k n t) ∙ f) e (omega arith) (omega arith)
+      ])
+
   -- the first passes; there is none; those before b do not pass
   pub up-to-hit : (a b : ℕ) → a ≤ b → p a ≡ true → leastUpTo p a b ≡ At a
   unfolding leastUpTo
@@ -77,6 +89,11 @@ module _ (p : ℕ → Bool) where
   pub up-to-before : (a b d : ℕ) → leastUpTo p a b ≡ At d → (e : ℕ) → a ≤ e → e < d → p e ≡ false
   unfolding leastUpTo
   up-to-before a b d f = least-before (suc b - a) a d f
+
+  -- where nothing is found none passes
+  pub up-to-nothing : (a b : ℕ) → leastUpTo p a b ≡ Nothing → (e : ℕ) → a ≤ e → e ≤ b → p e ≡ false
+  unfolding leastUpTo
+  up-to-nothing a b f e h l = least-nothing (suc b - a) a f e h (omega arith)
 
 -- two tests that agree find the same
 least-same : (p q : ℕ → Bool) (n k : ℕ) → ((e : ℕ) → k ≤ e → e < k + n → p e ≡ q e) → least p k n ≡ least q k n
