@@ -1,5 +1,6 @@
 -- A lent call by the call by value that it makes: where the core's routine meets its contract, the function k, whose call means that routine, meets the lent one.
---     day-call, bill-call, look-call    one for each shape
+--     by-core                           whatever the shape
+--     day-call, bill-call, look-call    one for each shape that a caller makes a step of
 -- Assumes nothing.
 use mathlib.Core.Path.{_≡_, ap}
 use Prim.Native.Nat.{ℕ}
@@ -33,7 +34,7 @@ module _ {M : Type 1} (𝓤 : URA M) (H : Heap 𝓤) (𝓜 : Model 𝓤 H) (𝓖
   abbrev pub Meets : Contract 𝓤 → Type 1
   Meets c = Triple 𝓤 (tables 𝓤 H 𝓜 𝓡 γ .C k) c
 
-  by-core : (e : Fn) (c d : Contract 𝓤) → Is-code e → Triple 𝓤 (𝓡 .run r) d
+  pub by-core : (e : Fn) (c d : Contract 𝓤) → Is-code e → Triple 𝓤 (𝓡 .run r) d
       → ((𝓣 : Tables 𝓤 H) → Triple 𝓤 (𝓣 .C core) d → Triple 𝓤 (WpFn 𝓤 H (𝓣 .C) (𝓣 .Λ) e) c) → Meets c
   unfolding tablesOf
   by-core e c d code met meets =

@@ -38,10 +38,10 @@ use denote.Triple.Walked.{Stays, stay-ref, gave-slice, stay-none-slice, walkOf, 
 use denote.Exit.{yes}
 use Rattle.clearing.proofs.Lent.{Lent, Outcome, Row, Held, vals}
 use Rattle.clearing.proofs.LentSteps.{gives}
-use Rattle.clearing.proofs.OutCalls.{fn-out, left, Exits, walk-out}
+use Rattle.clearing.proofs.OutCalls.{fn-out, left, Exits, walk-one}
 
 abbrev pub fn-file : (E : Lent) → Outcome E → Name → Fn
-fn-file E Y = fn-out E Y 3 (sliceTy (tyRef (named 1) imm (tyInt w8))) 2
+fn-file E Y = fn-out E Y 3 (sliceTy (tyRef (named 1) imm (tyInt w8)) ∷ []) 2
 
 abbrev core-ends : (E : Lent) → Outcome E → Ended
 core-ends E Y = record {
@@ -141,9 +141,9 @@ module _ (E : Lent) (Y : Outcome E) (f : Held E → List ℕ → List ℕ → Y 
             move ! (1 ∷ []) $ owned ! (Row E) (Is (Row E)) (LL.makes (E .type) (E .plains) 𝓤 H A) h _ is $ fjoin ! $
             move ! (1 ∷ 0 ∷ []) $ join ! $ frame ! $ done !
 
-        exits : (g′ : c (κ, (κ₁, (κ₂, tt))) x .ghost) → Exits E Y 𝓤 κ q b o γ back γ₂ (‵ File) H A ys Said (Post g′)
+        exits : (g′ : c (κ, (κ₁, (κ₂, tt))) x .ghost) → Exits E Y 𝓤 κ q b o γ back γ₂ H A (‵ File) ys Said (Post g′)
         exits g′ r zs u e l is =
-            qed W (left E Y 𝓤 κ q b o γ back γ₂ (‵ File) r zs) ∵
+            qed W (left E Y 𝓤 κ q b o γ back γ₂ r zs (‵ File ∷ [])) ∵
             suffices ! _ (ends-at 𝓤 H A (lent-ends E Y) stayed c W (((κ, (κ₁, (κ₂, tt))), (q, (q₁, (q₂, tt))), tt, x, at), g′) u (Y .answer r)
             (Y .ledger r, (tt, (zs, tt))) (tt, (tt, (l, tt)))) $
             gives ! (follows (κ, (κ₁, (κ₂, tt))) x g′ r zs (e .0) (e .1)) $
@@ -161,10 +161,11 @@ module _ (E : Lent) (Y : Outcome E) (f : Held E → List ℕ → List ℕ → Y 
             split ! $ move ! (2 ∷ []) $ fsplit ! $ fsplit3 ! $ drop ! $ move ! (2 ∷ []) $ fsplit ! $
             use1 W (‵ File ⊛ ‵ File) (shr-slice-copy 𝓤 H A W (named 1) κ₁ u8 .twice n (t ∷ [])) $ split ! $
             move ! (2 ∷ []) $ fsplit ! $ move ! (2 ∷ 1 ∷ 0 ∷ []) $ fjoin ! $ move ! (1 ∷ 0 ∷ []) $ fjoin ! $
-            -- [obs; the borrow; the ledger's token; what the core is passed; the other tokens; what the file owns]
-            keep ! (2 ∷ 3 ∷ 4 ∷ 0 ∷ 5 ∷ 1 ∷ []) $
-            by ! (walk-out E Y 𝓤 H A W κ q b o γ h (sliceTy (tyRef (named 1) imm (tyInt w8))) t b₂ o₂ γ₂ ys Core-file to-core (‵ Passed) tokens back (‵ File) (λ (_ : Unit {0}). ftrue) Said
-            (tt, (tt, (record { fits = room₁ .0 }, tt))) room₂ refl goes-core (λ v. id⊢ 𝓤 _) (Post g′) (exits g′) 3 2 core C Λ fm known)
+            -- [obs; the borrow; the ledger's token; the other tokens; what the core is passed; what the file owns]
+            keep ! (2 ∷ 3 ∷ 4 ∷ 5 ∷ 0 ∷ 1 ∷ []) $
+            by ! (walk-one E Y 𝓤 H A W κ q b o γ h b₂ o₂ γ₂ ys Core-file to-core (‵ Passed) tokens back (λ (_ : Unit {0} × Unit {0}). fsep ftrue ftrue) Said
+            2 room₂ goes-core (λ v. id⊢ 𝓤 _) core C Λ fm known (‵ File) (Post g′) (exits g′) 3
+            (sliceTy (tyRef (named 1) imm (tyInt w8))) t (tt, (tt, (record { fits = room₁ .0 }, tt))) refl)
 
       walks : (core : Name) (C : Calls 𝓤 H) (Λ : Loops 𝓤 H) → FmC 𝓤 H (W .laws) C → Triple 𝓤 (C core) Core-file
           → Walks 𝓤 H A (lent-ends E Y) stayed (WpFn 𝓤 H C Λ (fn-file E Y core)) c

@@ -8,6 +8,7 @@ pub mod DayCalls
 pub mod OutCalls
 pub mod BillCalls
 pub mod FileCalls
+pub mod CalendarCalls
 pub mod LookupCalls
 pub mod LentLocal
 pub mod LentCalls
