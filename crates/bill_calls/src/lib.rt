@@ -1,16 +1,19 @@
-// The calls request and cancel on a ledger by value: the bill found, the call decided on small values, and what that leaves stored.
+// The calls request, by calendar too, and cancel on a ledger by value: the bill found, the call decided on small values, and what that leaves stored.
 ghost use mathlib.Core.Path.{_≡_};
 ghost use lib.ListN.{length};
 ghost use Rattle.fields.specs.Put.{put};
-ghost use Rattle.causes.specs.Causes.{request, cancel};
+ghost use Rattle.causes.specs.Causes.{request, calendar, cancel};
 ghost use Rattle.causes.specs.parts.Decisions.{asCall};
 ghost use Rattle.calls.specs.declared.Answer.the-variants.{Refused};
 ghost use Rattle.calls.specs.Machine.{stepIn, called};
+use calendar::Day;
 use calls::Answer;
 use calls::Called;
 use calls::carried_out;
 use causes::BillCall;
+use causes::CalendarRequest;
 use causes::Request;
+use causes::by_calendar;
 use decisions::notice;
 use decisions::requests;
 use ledger::Identity;
@@ -60,6 +63,25 @@ pub fn request_bill(l: Ledger, out: &mut [u8], r: Request) -> Called
     ensures { λ a. ⌜ (a ≡ called l (request r (length (now (out .entry))))) × (now (out .exit) ≡ put (now (out .entry)) 0 (stepIn l (request r (length (now (out .entry)))) .written)) ⌝ }
 {
     bill_call(l, out, BillCall::Request(r))
+}
+
+// The call request that leaves its Scheduled Date to the calendar: the request with the date worked out. That the ledger is sound comes before 14 and 15.
+pub fn request_by_calendar(l: Ledger, out: &mut [u8], q: CalendarRequest, holidays: &[u64]) -> Called
+    ensures { λ a. ⌜ (a ≡ called l (calendar q (now (holidays .entry)) (length (now (out .entry))))) × (now (out .exit) ≡ put (now (out .entry)) 0 (stepIn l (calendar q (now (holidays .entry)) (length (now (out .entry)))) .written)) ⌝ }
+{
+    let day = by_calendar::due_day(q, holidays, l.today);
+    match day {
+        Day::On(d) => {
+            let r = by_calendar::on_date(q.request, d);
+            request_bill(l, out, r)
+        }
+        Day::Refused(n) => {
+            if !sound_ledger::sound(l) {
+                return refused(l, 2);
+            }
+            refused(l, n)
+        }
+    }
 }
 
 // The call cancel.

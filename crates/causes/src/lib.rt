@@ -1,5 +1,6 @@
 // What decides on a call, on small values: its arguments, the first cause against it, what a request or a cancel leaves of the bill at its place, and its notice.
 // Who holds the ledger finds the bill and stores what is left: calls by value, engine in words.
+pub mod by_calendar;
 pub mod checks;
 
 ghost use mathlib.Core.Path.{_≡_};
