@@ -33,10 +33,11 @@ module _ (l : Ledger) (q : CalendarRequest) (hs out : List ℕ) (day : Day)
       → Gave l (request r (length out)) out k out₁ → Gave l (calendar q hs (length out)) out k out₁
   called-on d f r g k out₁ x =
       let o = due-on q hs (l .today) day e d f in
-      let n = length out in
-      (x .0 ∙ ap (λ (s : Request). called l (request s n)) (g ∙ o .1) ∙ sym (dated-called l q hs n (o .0)),
-       x .1 ∙ ap (λ (s : Request). put out 0 (stepIn l (request s n) .written)) (g ∙ o .1)
-       ∙ ap (λ (s : Outcome). put out 0 (s .written)) (sym (dated-step l q hs n (o .0))))
+      let n = length out in (
+        x .0 ∙ ap (λ (s : Request). called l (request s n)) (g ∙ o .1) ∙ sym (dated-called l q hs n (o .0)),
+        x .1 ∙ ap (λ (s : Request). put out 0 (stepIn l (request s n) .written)) (g ∙ o .1)
+            ∙ ap (λ (s : Outcome). put out 0 (s .written)) (sym (dated-step l q hs n (o .0))),
+      )
 
   -- without a date it is refused
   pub refused-day : (n : ℕ) → day ≡ days.Refused n → soundLedger l ≡ true

@@ -66,7 +66,12 @@ pub fn request_bill(l: Ledger, out: &mut [u8], r: Request) -> Called
 }
 
 // The call request that leaves its Scheduled Date to the calendar: the request with the date worked out. That the ledger is sound comes before 14 and 15.
-pub fn request_by_calendar(l: Ledger, out: &mut [u8], q: CalendarRequest, holidays: &[u64]) -> Called
+pub fn request_by_calendar(
+    l: Ledger,
+    out: &mut [u8],
+    q: CalendarRequest,
+    holidays: &[u64],
+) -> Called
     ensures { λ a. ⌜ (a ≡ called l (calendar q (now (holidays .entry)) (length (now (out .entry))))) × (now (out .exit) ≡ put (now (out .entry)) 0 (stepIn l (calendar q (now (holidays .entry)) (length (now (out .entry)))) .written)) ⌝ }
 {
     let day = by_calendar::due_day(q, holidays, l.today);

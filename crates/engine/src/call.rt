@@ -6,7 +6,7 @@ ghost use lib.ListN.{length, take};
 ghost use Rattle.rules.specs.Lists.{count};
 ghost use Rattle.ledger.specs.Sound.{soundLedger};
 ghost use Rattle.words.specs.Layout.{holdsLedger, ledgerOf, ledgerSize};
-ghost use Rattle.causes.specs.Causes.{request, cancel, close, file};
+ghost use Rattle.causes.specs.Causes.{request, calendar, cancel, close, file};
 ghost use Rattle.causes.specs.Requests.{closes};
 ghost use Rattle.causes.specs.parts.Decisions.{asCall};
 ghost use Rattle.calls.specs.Machine.{called};
@@ -15,10 +15,13 @@ ghost use Rattle.engine.specs.InWords.{wordsLeft};
 ghost use Rattle.engine.specs.parts.Calls.{CalledIn};
 ghost use Rattle.ledger.specs.Limits.{ledgerPlaces};
 use crate::file_groups;
+use calendar::Day;
 use calls::Answer;
 use causes::BillCall;
+use causes::CalendarRequest;
 use causes::Request;
 use causes::Start;
+use causes::by_calendar;
 use causes::checks;
 use decisions::notice;
 use decisions::requests;
@@ -57,6 +60,29 @@ pub fn request_in(ws: &mut [u64], out: &mut [u8], writes: bool, room: usize, r: 
     ensures { λ a. ⌜ CalledIn writes (request r room) (now (ws .entry)) (now (out .entry)) (now (ws .exit)) (now (out .exit)) a ⌝ }
 {
     bill_call_in(ws, out, writes, room, BillCall::Request(r))
+}
+
+// The call request that leaves its Scheduled Date to the calendar: the request with the date worked out.
+pub fn calendar_in(
+    ws: &mut [u64],
+    out: &mut [u8],
+    writes: bool,
+    room: usize,
+    q: CalendarRequest,
+    holidays: &[u64],
+) -> Answer
+    requires { ⌜ (soundLedger (ledgerOf (now ws)) ≡ true) × (writes ≡ true → room ≤ length (now out)) ⌝ }
+    ensures { λ a. ⌜ CalledIn writes (calendar q (now (holidays .entry)) room) (now (ws .entry)) (now (out .entry)) (now (ws .exit)) (now (out .exit)) a ⌝ }
+{
+    let h = place::header(ws);
+    let day = by_calendar::due_day(q, holidays, h.today);
+    match day {
+        Day::On(d) => {
+            let r = by_calendar::on_date(q.request, d);
+            request_in(ws, out, writes, room, r)
+        }
+        Day::Refused(n) => Answer::Refused(n),
+    }
 }
 
 // The call cancel.
