@@ -39,7 +39,9 @@ module _ (hs : List ℕ) (start : ℕ) where
   count-more m = refl
 
   -- over k numbers that are no business days
-  count-same : (k n : ℕ) → ((e : ℕ) → start + n < e → e ≤ start + n + k → isBusinessDay hs e ≡ false) → businessDays hs start (n + k) ≡ businessDays hs start n
+  count-same :
+      (k n : ℕ) → ((e : ℕ) → start + n < e → e ≤ start + n + k → isBusinessDay hs e ≡ false)
+      → businessDays hs start (n + k) ≡ businessDays hs start n
   count-same zero n f = let e : n + 0 ≡ n = omega arith in ap (businessDays hs start) e
   count-same (suc k) n f =
       let e : n + suc k ≡ suc (n + k) = omega arith in
@@ -94,13 +96,15 @@ module _ (hs : List ℕ) (start number : ℕ) where
     way-none h l =
         let p = isFurther hs start number in
         let e : d ≡ lastDate = omega (arith, date-last d (w .date)) in
+        let not-yet = too-few hs start number d left h (w .counted) in
         sym (w .same)
-        ∙ up-to-skip p d (suc d) lastDate (omega arith) (omega arith) (λ j a b. let i : j ≡ d = omega arith in rw i (too-few hs start number d left h (w .counted)))
+        ∙ up-to-skip p d (suc d) lastDate (omega arith) (omega arith) (λ j a b. let i : j ≡ d = omega arith in rw i not-yet)
         ∙ up-to-none p (suc d) lastDate (omega arith)
 
     pub way-on : (r rest : ℕ) → 0 < left → Next d r → rest + cond (isBusinessDay hs r) 1 0 ≡ left → Way hs start number r rest
     way-on r rest h n e =
         let p = isFurther hs start number in
+        let not-yet = too-few hs start number d left h (w .counted) in
         let c = count-next hs start d r (w .from) (n .after) (λ j a b. no-date-no-day hs j (n .between j a b)) in
         record {
           date = n .date;
@@ -111,7 +115,7 @@ module _ (hs : List ℕ) (start number : ℕ) where
               (up-to-skip p d r lastDate (omega (arith, n .after)) (omega (arith, date-last r (n .date)))
               (λ j a b.
               elim (decLe j d) [
-                | yes g ↦ (let i : j ≡ d = omega arith in rw i (too-few hs start number d left h (w .counted)))
+                | yes g ↦ (let i : j ≡ d = omega arith in rw i not-yet)
                 | no g ↦ not-a-date hs start number j (n .between j (omega arith) b)
               ]))
               ∙ w .same;

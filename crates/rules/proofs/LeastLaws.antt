@@ -5,13 +5,8 @@ use mathlib.Core.Bool.{Bool, true, false}
 use native.Mathlib.Omega.{arith}
 use native.Mathlib.Decide.{decLe}
 use Rattle.fields.proofs.BoolLaws.{cases}
-use Rattle.rules.specs.declared.Found.{Found}
 use Rattle.rules.specs.declared.Found.the-variants.{At, Nothing}
 use Rattle.rules.specs.Least.{least, leastUpTo}
-
--- what a search that found d says of it
-abbrev pub FoundIn : (ℕ → Bool) → ℕ → ℕ → ℕ → Type 0
-FoundIn p a b d = (p d ≡ true) × (a ≤ d) × (d ≤ b)
 
 module _ (p : ℕ → Bool) where
   least-hit : (k n : ℕ) → p k ≡ true → least p k (suc n) ≡ At k
@@ -28,7 +23,8 @@ module _ (p : ℕ → Bool) where
   least-skip (suc m) k n h =
       let e : k + suc m ≡ suc k + m = omega arith in
       let f : suc m + n ≡ suc (m + n) = omega arith in
-      rw f (least-miss k (m + n) (h k (omega arith) (omega arith)) ∙ least-skip m (suc k) n (λ j a b. h j (omega arith) (omega arith)) ∙ ap (λ (j : ℕ). least p j n) (sym e))
+      let g = least-skip m (suc k) n (λ j a b. h j (omega arith) (omega arith)) in
+      rw f (least-miss k (m + n) (h k (omega arith) (omega arith)) ∙ g ∙ ap (λ (j : ℕ). least p j n) (sym e))
 
   least-found : (n k d : ℕ) → least p k n ≡ At d → (p d ≡ true) × (k ≤ d) × (d < k + n)
   unfolding least
@@ -82,7 +78,7 @@ module _ (p : ℕ → Bool) where
       rw s (least-skip (b - a) a (suc top - b) (λ e i j. f e i (omega arith)) ∙ ap (λ (j : ℕ). least p j (suc top - b)) t)
 
   -- what is found passes, and stands between a and b; what stands before it does not pass
-  pub up-to-found : (a b d : ℕ) → leastUpTo p a b ≡ At d → FoundIn p a b d
+  pub up-to-found : (a b d : ℕ) → leastUpTo p a b ≡ At d → (p d ≡ true) × (a ≤ d) × (d ≤ b)
   unfolding leastUpTo
   up-to-found a b d e = let f = least-found (suc b - a) a d e in (f .0, f .1, omega arith)
 

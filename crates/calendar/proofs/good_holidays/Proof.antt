@@ -23,12 +23,12 @@ abbrev μ-loop : tie.MeasureT-loop
 μ-loop holidays before₀ i₀ before i = length holidays - i
 
 returns : tie.Need-returns Inv-loop μ-loop
-returns c = sym (over-64 (c .before .before .args .holidays .now) (c .if1 .taken))
+returns c = sym (over-64 (c .before .before .args .holidays .now) (omega arith))
 
 loop-holds : tie.Need-loop-holds Inv-loop μ-loop
 loop-holds c =
     let hs = c .before .before .args .holidays .now in
-    (search needs, ap (follow 0) (take-length hs) ∙ follow-good hs (c .if1 .left))
+    (search needs, ap (follow 0) (take-length hs) ∙ follow-good hs (omega arith))
 
 mul-h : tie.Need-mul-h Inv-loop μ-loop
 mul-h c = search needs
@@ -66,7 +66,7 @@ module _ (c : tie.In-loop Inv-loop μ-loop) where
   on l e = sym (follow-on b h rest l e) ∙ turn
 
 returns-2 : tie.Need-returns-2 Inv-loop μ-loop
-returns-2 c = low (c .before .before) (c .if2 .taken)
+returns-2 c = low (c .before .before) (omega arith)
 
 valid-requires : tie.Need-valid-requires Inv-loop μ-loop
 valid-requires c κs = search needs
@@ -83,7 +83,7 @@ loop-less c = search needs
 loop-again : tie.Need-loop-again Inv-loop μ-loop
 loop-again c =
     let v = sym (c .before .valid .ensures) ∙ not-false _ (c .if3 .left) in
-    (search needs, on (c .before .before .before .before) (c .before .before .if2 .left) v)
+    (search needs, on (c .before .before .before .before) (omega arith) v)
 
 returns-4 : tie.Need-returns-4 Inv-loop μ-loop
 returns-4 c =

@@ -33,7 +33,8 @@ returns c =
     let a = c .before .before .before .before .before .args in
     let l = c .before .before .before .before .loop in
     let hs = a .holidays .now in
-    sym (sym (l .inv .1) ∙ has-hit (length hs) (l .i) hs 0 (c .before .before .before .loop-test .taken) (omega arith) (eqb (a .d .0)) (eq-eqb _ _ (c .if1 .taken)))
+    let hit = has-hit (length hs) (l .i) hs 0 (omega arith) (omega arith) (eqb (a .d .0)) (eq-eqb _ _ (c .if1 .taken)) in
+    sym hit ∙ l .inv .1
 
 add-i : tie.Need-add-i Inv-loop μ-loop
 add-i c = search needs
@@ -46,7 +47,7 @@ loop-again c =
     let a = c .before .before .before .before .before .args in
     let l = c .before .before .before .before .loop in
     let hs = a .holidays .now in
-    let m = has-miss (length hs) (l .i) hs 0 (c .before .before .before .loop-test .taken) (omega arith) (eqb (a .d .0)) (ne-eqb _ _ (c .if1 .left)) in
+    let m = has-miss (length hs) (l .i) hs 0 (omega arith) (omega arith) (eqb (a .d .0)) (ne-eqb _ _ (c .if1 .left)) in
     (search needs, sym m ∙ l .inv .1)
 
 returns-2 : tie.Need-returns-2 Inv-loop μ-loop

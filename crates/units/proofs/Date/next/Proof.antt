@@ -3,11 +3,10 @@ use Prim.Native.Nat.{ℕ, _+_, _*_, _/_, _≤_, _<_}
 use mathlib.Core.Path.{_≡_}
 use mathlib.Core.Bool.{true}
 use native.Mathlib.Omega.{arith}
-use native.Mathlib.Decide.{decLe}
 use borrow.Author.Needs.{needs}
 use Rattle.units.specs.Calendar.{year, month, day, monthDays, isDate}
 use Rattle.units.specs.Days.{lastDate}
-use Rattle.units.proofs.DateLaws.{Next, Parts, date-parts, parts-date, no-date, date-month, next-found}
+use Rattle.units.proofs.DateLaws.{Next, date-parts, parts-date, no-date, date-month, next-found}
 use Rattle.units.proofs.MonthLaws.{month-long, month-some, december}
 use Rattle.units.proofs.Date.next.Statement.{statement}
 use Rattle.units.proofs.Date.next.Tie as tie
