@@ -1,0 +1,5 @@
+-- Laws that belong to no one function.
+pub mod LineLaws
+pub mod DayLineLaws
+pub mod InputLaws
+pub mod ExampleProof
