@@ -37,7 +37,7 @@ pub fn write_all(descriptor: i32, bytes: &[u8]) -> bool {
     true
 }
 
-// Says on standard error how a program is used, what it does and how it ends: it was given an argument, and takes none.
+// Says on standard error how a program is used, what it does and how it ends: it was given other arguments than it takes.
 pub fn explain(usage: &[u8], does: &[u8], ends: &[u8]) {
     write_all(STDERR_FILENO, usage);
     write_all(STDERR_FILENO, does);

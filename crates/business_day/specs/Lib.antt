@@ -1,0 +1,2 @@
+-- What the contracts of program `business_day` cite.
+pub mod Answering
