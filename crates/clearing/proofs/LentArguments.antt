@@ -15,7 +15,10 @@ use Rattle.causes.proofs.Start as S
 use Rattle.causes.proofs.Start.Laws as S′
 use Rattle.causes.proofs.Request as Q
 use Rattle.causes.proofs.Request.Laws as Q′
-use Rattle.causes.specs.Causes.{Call, close}
+use Rattle.causes.specs.declared.CalendarRequest.{CalendarRequest}
+use Rattle.causes.proofs.CalendarRequest as C
+use Rattle.causes.proofs.CalendarRequest.Laws as C′
+use Rattle.causes.specs.Causes.{Call, close, calendar}
 use Rattle.calls.specs.declared.Called.{Called}
 use Rattle.calls.specs.Machine.{stepIn, called}
 use Rattle.lookups.specs.declared.Amounts.{Amounts}
@@ -34,6 +37,9 @@ date = declared D.the-type D′.the-laws D′.the-plain D′.the-copy
 
 abbrev pub asked : Arg Q.the-row
 asked = declared Q.the-type Q′.the-laws Q′.the-plain Q′.the-copy
+
+abbrev pub undated : Arg C.the-row
+undated = declared C.the-type C′.the-laws C′.the-plain C′.the-copy
 
 abbrev pub identity : Arg I.the-row
 identity = declared I.the-type I′.the-laws I′.the-plain I′.the-copy
@@ -58,3 +64,10 @@ module _ {A : Type 0} (c : A → ℕ → Call) where
 
   abbrev pub written : Ledger → A → List ℕ → List ℕ
   written l a out = put out 0 (stepIn l (c a (length out)) .written)
+
+-- a request by calendar, where the holidays are days
+abbrev pub returned-by : Ledger → CalendarRequest → List ℕ → List ℕ → Called
+returned-by l q days = returned (λ (p : CalendarRequest). calendar p days) l q
+
+abbrev pub written-by : Ledger → CalendarRequest → List ℕ → List ℕ → List ℕ
+written-by l q days = written (λ (p : CalendarRequest). calendar p days) l q

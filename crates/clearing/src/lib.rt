@@ -1,12 +1,13 @@
 // The calls on a ledger that is lent: each makes the call by value and stores the ledger that it left.
 ghost use mathlib.Core.Path.{_≡_};
 ghost use lib.ListN.{length};
-ghost use Rattle.causes.specs.Causes.{request, file, cancel, close};
+ghost use Rattle.causes.specs.Causes.{request, calendar, file, cancel, close};
 ghost use Rattle.calls.specs.Machine.{called};
 ghost use Rattle.calls.specs.Days.{freshCalled};
 ghost use Rattle.clearing.specs.LentLeaves.{LentLeaves};
 ghost use Rattle.lookups.specs.Lookups.{OpenBill, amountsIn};
 use calls::Answer;
+use causes::CalendarRequest;
 use causes::Request;
 use causes::Start;
 use ledger::Identity;
@@ -38,6 +39,20 @@ pub fn request_bill(ledger: &mut Ledger, r: Request, out: &mut [u8]) -> Answer
     ensures { λ a. ⌜ LentLeaves (now (ledger .entry)) (request r (length (now (out .entry)))) (now (out .entry)) (now (ledger .exit)) (now (out .exit)) a ⌝ }
 {
     let c = bill_calls::request_bill(*ledger, out, r);
+    *ledger = c.ledger;
+    c.answer
+}
+
+// The call request that leaves its Scheduled Date to the calendar: its BIL goes to out.
+pub fn request_by_calendar(
+    ledger: &mut Ledger,
+    q: CalendarRequest,
+    holidays: &[u64],
+    out: &mut [u8],
+) -> Answer
+    ensures { λ a. ⌜ LentLeaves (now (ledger .entry)) (calendar q (now (holidays .entry)) (length (now (out .entry)))) (now (out .entry)) (now (ledger .exit)) (now (out .exit)) a ⌝ }
+{
+    let c = bill_calls::request_by_calendar(*ledger, out, q, holidays);
     *ledger = c.ledger;
     c.answer
 }
