@@ -1,4 +1,4 @@
 -- Laws that belong to no one function.
 pub mod HolidayLaws
 pub mod FurtherLaws
-pub mod Examples
+pub mod ExampleDaysHold

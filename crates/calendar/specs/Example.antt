@@ -1,13 +1,14 @@
--- Business days by computation. Assumes nothing.
-use mathlib.Core.Path.{_≡_, refl}
+-- Business days as examples: "the dated examples in document 002" have their answers three business days on. Assumes nothing.
+use mathlib.Core.Path.{_≡_}
 use mathlib.Core.List.{[], _∷_}
-use Rattle.rules.specs.Least.{least, leastUpTo}
-use Rattle.units.specs.Calendar.{isLeap, monthDays, isDate, dateOf}
-use Rattle.units.specs.Days.{daysOfYears, daysOfMonths, dayNumber, weekday}
+use Rattle.units.specs.Calendar.{dateOf}
+use Rattle.calendar.specs.declared.Weekday.the-variants.{Number}
 use Rattle.calendar.specs.declared.Day.the-variants.{On, Refused}
-use Rattle.calendar.specs.BusinessDays.{isBusinessDay, nextBusinessDay, businessDays, isFurther, businessDay, rise, nextCauses, furtherCauses, nextDay, furtherDay}
+use Rattle.calendar.specs.BusinessDays.{weekdayOf, nextDay, furtherDay}
 
-pub record Examples : Type 0 where
+pub record ExampleDays : Type 0 where
+  -- "1 Monday to 7 Sunday"
+  pub monday : weekdayOf 20171113 ≡ Number 1
   -- from Monday 13 November 2017 on; with a holiday between; over a weekend; over the end of a month
   pub three-on : furtherDay [] 20171113 3 ≡ On (dateOf 20171116)
   pub over-a-holiday : furtherDay (20171114 ∷ []) 20171113 3 ≡ On (dateOf 20171117)
@@ -24,21 +25,3 @@ pub record Examples : Type 0 where
   pub equal-holidays : furtherDay (20171114 ∷ 20171114 ∷ []) 20171113 0 ≡ Refused 14
   pub ten-on : furtherDay (20171114 ∷ 20171114 ∷ []) 20171113 10 ≡ Refused 2
   pub no-date : furtherDay [] 20170229 0 ≡ Refused 2
-
-pub examples : Examples
-unfolding least leastUpTo isLeap monthDays isDate daysOfYears daysOfMonths dayNumber weekday isBusinessDay nextBusinessDay businessDays isFurther businessDay rise nextCauses furtherCauses nextDay furtherDay
-examples =
-    record {
-      three-on = refl;
-      over-a-holiday = refl;
-      over-a-weekend = refl;
-      over-a-month-end = refl;
-      itself = refl;
-      last = refl;
-      to-the-last = refl;
-      past-the-last = refl;
-      none-after-the-last = refl;
-      equal-holidays = refl;
-      ten-on = refl;
-      no-date = refl;
-    }
