@@ -38,6 +38,7 @@ use Rattle.journal.specs.EntryCalls.{entryCalled, entryWritten}
 use Rattle.journal.proofs.Body as declared
 use Rattle.journal.proofs.MadeLaws.{Taken}
 use Rattle.engine.specs.InWords.{wordsLeft}
+use Rattle.engine.specs.parts.Calls.{CalledIn}
 use Rattle.entries.specs.parts.Stepping.{EntryCalledIn}
 use Rattle.boundary.specs.Boundary.{numberOf, changeLeft, countsLeft, Stores, Gives, freshIn, entryIn, Leaves, headCalled, headWritten, headFound}
 
@@ -99,7 +100,7 @@ module _ (ws : List ℕ) (s : Start) where
 
 -- ---- any other call
 module _ (room : ℕ) (ws out s : List ℕ) where
-  stopped-leaves : (c : Call) → soundLedger (ledgerOf ws) ≡ false
+  pub stopped-leaves : (c : Call) → soundLedger (ledgerOf ws) ≡ false
       → Leaves (called (ledgerOf ws) c) (stepIn (ledgerOf ws) c .written) ws out ws out (Refused 2)
   stopped-leaves c h =
       let x : Stopped (ledgerOf ws) c 2 = stopped (ledgerOf ws) c 2 (cause-unsound (ledgerOf ws) c h) in
@@ -151,7 +152,18 @@ module _ (room : ℕ) (ws out s : List ℕ) where
       go (Done r) q = sym (words-ledger ws₁ h₁) ∙ ap ledgerWords e
       go (Refused n) q = sym (words-ledger ws₁ h₁) ∙ ap ledgerWords (e ∙ f n q) ∙ words-ledger ws h
 
-  -- words that hold one: what the engine left
+  -- words that hold one: what the engine left of a call
+  pub carried-leaves : (c : Call) → soundLedger (ledgerOf ws) ≡ true → (ws₁ out₁ : List ℕ) (a : Answer) → CalledIn true c ws out ws₁ out₁ a
+      → Leaves (called (ledgerOf ws) c) (stepIn (ledgerOf ws) c .written) ws out ws₁ out₁ a
+  carried-leaves c h ws₁ out₁ a m =
+      record {
+        answer = m .answer;
+        words = words-left ws₁ (called (ledgerOf ws) c) (sound-holds ws h) (m .holds) (m .ledger) (call-kept c);
+        ledger = m .ledger;
+        bytes = m .bytes;
+      }
+
+  -- and of an entry
   pub sound-leaves : (b : Body) → NoFresh b → soundLedger (ledgerOf ws) ≡ true → (ws₁ out₁ : List ℕ) (a : Answer)
       → EntryCalledIn true room 0 b s ws out ws₁ out₁ a → Leaves (entryIn room ws b s) (entryWritten room (ledgerOf ws) b s) ws out ws₁ out₁ a
   sound-leaves b n h ws₁ out₁ a m =

@@ -13,6 +13,7 @@ use Rattle.ledger.specs.declared.Ledger.{Ledger}
 use Rattle.words.specs.Layout.{ledgerOf, ledgerSize}
 use Rattle.causes.specs.declared.Start.{Start}
 use Rattle.causes.specs.declared.Request.{Request}
+use Rattle.causes.specs.declared.CalendarRequest.{CalendarRequest}
 use Rattle.causes.specs.Causes.{codeField}
 use Rattle.calls.specs.declared.Called.{Called}
 use Rattle.calls.specs.declared.Answer.{Answer}
@@ -30,6 +31,10 @@ use Rattle.journal.specs.declared.Head.the-variants.{Cut, Bad, Whole}
 use Rattle.journal.specs.Entries.{headNumber}
 use Rattle.journal.specs.EntryCalls.{entryCalled, entryWritten}
 use Rattle.engine.specs.InWords.{wordsLeft}
+use Rattle.calendar.specs.declared.Weekday.{Weekday}
+use Rattle.calendar.specs.declared.Weekday.the-variants as weekdays
+use Rattle.calendar.specs.declared.Day.{Day}
+use Rattle.calendar.specs.declared.Day.the-variants as days
 use Rattle.table.specs.declared.Printed.{Printed}
 use Rattle.table.specs.declared.Printed.the-variants as table
 use Rattle.table.specs.Table.{printedBy, printed}
@@ -52,6 +57,11 @@ requestOf code id product billing from consumption scheduled =
       consumption = record { 0 = consumption };
       scheduled = dateOf scheduled;
     }
+
+-- a request that leaves its Scheduled Date to the calendar holds none
+abbrev pub calendarOf : List ℕ → Identity → ℕ → ℕ → ℕ → ℕ → ℕ → CalendarRequest
+calendarOf code id product billing from consumption number =
+    record { request = requestOf code id product billing from consumption 0; number = number }
 
 -- ---- what a call gives back
 -- 0 for a call that was carried out, else the number of its cause
@@ -147,6 +157,23 @@ amountsNumber (amounts.Refused n) = n
 abbrev pub amountsLeft : List ℕ → Amounts → List ℕ
 amountsLeft xs (amounts.Posted charge applied owed) = charge .0 ∷ applied .0 ∷ owed .0 ∷ []
 amountsLeft xs (amounts.Refused n) = xs
+
+-- ---- the calendar
+abbrev pub weekdayNumber : Weekday → ℕ
+weekdayNumber (weekdays.Number d) = 0
+weekdayNumber (weekdays.Refused n) = n
+
+abbrev pub weekdayLeft : ℕ → Weekday → ℕ
+weekdayLeft x (weekdays.Number d) = d
+weekdayLeft x (weekdays.Refused n) = x
+
+abbrev pub dateNumber : Day → ℕ
+dateNumber (days.On d) = 0
+dateNumber (days.Refused n) = n
+
+abbrev pub dateLeft : ℕ → Day → ℕ
+dateLeft x (days.On d) = d .0
+dateLeft x (days.Refused n) = x
 
 -- ---- the table of a ledger
 abbrev pub printedNumber : Printed → ℕ

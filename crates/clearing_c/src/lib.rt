@@ -1,18 +1,20 @@
 // The calls for C and Rust programs: numbers and lent slices only, the ledger lent as 2,436 words (crate words). include/clearing.h is the
 // header. Each answers 0 if it was carried out, else the number of its cause, and then every lent buffer holds what it held (but for what
 // clearing_entry found of the entry).
+pub mod days;
 pub mod journals;
 
 ghost use mathlib.Core.Path.{_≡_};
 ghost use lib.ListN.{length};
 ghost use Rattle.fields.specs.Put.{put};
 ghost use Rattle.words.specs.Layout.{ledgerOf};
-ghost use Rattle.causes.specs.Causes.{request, file, cancel, close};
+ghost use Rattle.causes.specs.Causes.{request, calendar, file, cancel, close};
 ghost use Rattle.calls.specs.Machine.{stepIn, called};
 ghost use Rattle.lookups.specs.Lookups.{amountsIn};
 ghost use Rattle.journal.specs.Entries.{headOf};
-ghost use Rattle.boundary.specs.Boundary.{startOf, identityFrom, requestOf, freshIn, Gives, headCalled, headWritten, headFound, Opens, amountsNumber, amountsLeft, Prints};
+ghost use Rattle.boundary.specs.Boundary.{startOf, identityFrom, requestOf, calendarOf, freshIn, Gives, headCalled, headWritten, headFound, Opens, amountsNumber, amountsLeft, Prints};
 ghost use Rattle.units.specs.Calendar.{dateOf};
+use causes::CalendarRequest;
 use causes::Request;
 use causes::Start;
 use journal::Body;
@@ -66,6 +68,30 @@ pub extern "C" fn clearing_close(
     )
 }
 
+// What a request takes, from numbers.
+fn request_of(
+    code: &[u8; 5],
+    account: u64,
+    key: u64,
+    product: u8,
+    billing: u64,
+    from: u64,
+    consumption: u64,
+    scheduled: u64,
+) -> Request
+    ensures { λ r. ⌜ r ≡ requestOf (now (code .entry)) (identityFrom account key) product billing from consumption scheduled ⌝ }
+{
+    Request {
+        code: causes::code_field(code),
+        identity: Identity { account, key },
+        product,
+        billing: Date(billing),
+        from: Date(from),
+        consumption: Ccf(consumption),
+        scheduled: Date(scheduled),
+    }
+}
+
 // Request: the rate code in five bytes, the product as B or P.
 #[no_mangle]
 pub extern "C" fn clearing_request(
@@ -85,16 +111,42 @@ pub extern "C" fn clearing_request(
     ensures { λ n. ⌜ Gives (called (ledgerOf (now (ledger .entry))) (request (requestOf (now (code .entry)) (identityFrom account key) product billing from consumption scheduled) (length (now (out .entry))))) (now (ledger .entry)) (now (change .entry)) (now (counts .entry)) (now (ledger .exit)) (now (change .exit)) (now (counts .exit)) n ⌝ }
     ensures { λ _. ⌜ now (out .exit) ≡ put (now (out .entry)) 0 (stepIn (ledgerOf (now (ledger .entry))) (request (requestOf (now (code .entry)) (identityFrom account key) product billing from consumption scheduled) (length (now (out .entry)))) .written) ⌝ }
 {
-    let r = Request {
-        code: causes::code_field(code),
-        identity: Identity { account, key },
+    let r = request_of(
+        code,
+        account,
+        key,
         product,
-        billing: Date(billing),
-        from: Date(from),
-        consumption: Ccf(consumption),
-        scheduled: Date(scheduled),
-    };
+        billing,
+        from,
+        consumption,
+        scheduled,
+    );
     boundary::call(ledger, out, change, counts, Body::Request(r), b"")
+}
+
+// Request whose Scheduled Date is so many business days from today.
+#[no_mangle]
+pub extern "C" fn clearing_request_by_calendar(
+    ledger: &mut [u64],
+    code: &[u8; 5],
+    account: u64,
+    key: u64,
+    product: u8,
+    billing: u64,
+    from: u64,
+    consumption: u64,
+    number: u64,
+    holidays: &[u64],
+    out: &mut [u8],
+    change: &mut i64,
+    counts: &mut [u64; 4],
+) -> u64
+    ensures { λ n. ⌜ Gives (called (ledgerOf (now (ledger .entry))) (calendar (calendarOf (now (code .entry)) (identityFrom account key) product billing from consumption number) (now (holidays .entry)) (length (now (out .entry))))) (now (ledger .entry)) (now (change .entry)) (now (counts .entry)) (now (ledger .exit)) (now (change .exit)) (now (counts .exit)) n ⌝ }
+    ensures { λ _. ⌜ now (out .exit) ≡ put (now (out .entry)) 0 (stepIn (ledgerOf (now (ledger .entry))) (calendar (calendarOf (now (code .entry)) (identityFrom account key) product billing from consumption number) (now (holidays .entry)) (length (now (out .entry)))) .written) ⌝ }
+{
+    let request = request_of(code, account, key, product, billing, from, consumption, 0);
+    let q = CalendarRequest { request, number };
+    boundary::call_by_calendar(ledger, out, change, counts, q, holidays)
 }
 
 // A supplier file: its answers go to out.

@@ -3,3 +3,4 @@ pub mod ExampleProof
 pub mod NoticeCalls
 pub mod NoticeIds
 pub mod DemandsHold
+pub mod PapersHold

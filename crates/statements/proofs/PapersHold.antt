@@ -13,9 +13,8 @@ use Rattle.rules.specs.declared.Check.the-variants.{Clear, Stop}
 use Rattle.rules.proofs.LeastLaws.{up-to-found, up-to-before}
 use Rattle.units.specs.Days.{lastDate}
 use Rattle.calendar.specs.BusinessDays.{isFurther, businessDay}
-use Rattle.calendar.proofs.FurtherLaws.{none-further, next-is-one-further}
-use Rattle.calendar.proofs.Examples as examples
-use Rattle.units.proofs.DayExamples as days
+use Rattle.calendar.proofs.FurtherLaws.{way-start, way-end, next-is-one-further}
+use Rattle.calendar.proofs.ExampleDaysHold.{example-days}
 use Rattle.group.specs.Groups.{soughtIn}
 use Rattle.causes.specs.declared.CalendarRequest.{CalendarRequest}
 use Rattle.causes.specs.Causes.{calendar, causes}
@@ -31,10 +30,9 @@ never-before : (l : Ledger) (q : CalendarRequest) (hs : List ℕ) (room : ℕ) �
 unfolding causes
 never-before l q hs room e = by (soundLedger l) refl
   where
-    v = view (book l)
-
     by : (s : Bool) → soundLedger l ≡ s → ⊥
     by true h =
+        let v = view (book l) in
         never-9 q hs (v .today) room (v .tracking) (v .confirmation) (length (v .bills)) (soughtIn (q .request .identity) (v .bills))
         (sym (cause-sound l (calendar q hs room) h) ∙ e)
     by false h = let z : Stop 2 ≡ Stop 9 = sym (cause-unsound l (calendar q hs room) h) ∙ e in let m : _≡_ {A = ℕ} 2 9 = cc in omega arith
@@ -53,14 +51,9 @@ paper-1 =
     record {
       such = λ hs start number d e. up-to-found (isFurther hs start number) start lastDate d e .0;
       least = λ hs start number d i e. up-to-before (isFurther hs start number) start lastDate d e i;
-      none = none-further;
+      none = λ hs start h. way-end hs start 0 start 0 (way-start hs start 0 h) refl;
       next = next-is-one-further;
       dated = λ l q hs room e. record { called = dated-called l q hs room e; step = dated-step l q hs room e };
       due = never-refused-9;
-      monday = days.monday;
-      three = examples.three;
-      holiday = examples.holiday-between;
-      sunday = examples.sunday;
-      last = examples.last-day;
-      past = examples.past-the-end;
+      days = example-days;
     }

@@ -1,3 +1,4 @@
--- The three demands side by side, and document 01's example.
+-- The three demands side by side, document 01's example, and what document 02 claims beside them.
 pub mod Example
 pub mod Statements
+pub mod Papers

@@ -1,16 +1,15 @@
--- What document 02 claims beside the demands, paper by paper, each with its words. Every field is a theorem: `papers-hold` (proofs/PapersHold) fills
+-- What document 02 claims beside the demands, paper by paper, each with its words. Every field is a theorem: `paper-1` (proofs/PapersHold) fills
 -- them in. Assumes nothing.
 use Prim.Native.Nat.{ℕ, _≤_, _<_}
 use mathlib.Core.Path.{_≡_}
 use mathlib.Core.Bool.{true, false}
-use mathlib.Core.List.{List, [], _∷_}
+use mathlib.Core.List.{List}
 use Rattle.rules.specs.declared.Found.the-variants.{At}
 use Rattle.rules.specs.declared.Check.the-variants.{Clear}
 use Rattle.rules.specs.Rules.{first}
-use Rattle.units.specs.Calendar.{isDate, dateOf}
-use Rattle.units.specs.Days.{weekday}
-use Rattle.calendar.specs.declared.Day.the-variants.{On, Refused}
-use Rattle.calendar.specs.BusinessDays.{isFurther, businessDay, nextBusinessDay, furtherDay}
+use Rattle.units.specs.Calendar.{isDate}
+use Rattle.calendar.specs.BusinessDays.{isFurther, businessDay, nextBusinessDay}
+use Rattle.calendar.specs.Example.{ExampleDays}
 use Rattle.ledger.specs.declared.Ledger.{Ledger}
 use Rattle.causes.specs.declared.CalendarRequest.{CalendarRequest}
 use Rattle.causes.specs.Causes.{Call, request, calendar, workedOut, scheduleCauses}
@@ -35,10 +34,5 @@ pub record Paper1 : Type 0 where
   pub dated : (l : Ledger) (q : CalendarRequest) (hs : List ℕ) (room : ℕ) → first (scheduleCauses q hs (l .today)) ≡ Clear
       → SameCall l (calendar q hs room) (request (workedOut q hs (l .today)) room)
   pub due : (l : Ledger) (q : CalendarRequest) (hs : List ℕ) (room : ℕ) → called l (calendar q hs room) .answer ≡ answer.Refused 9 → ⊥
-  -- "(1 Monday to 7 Sunday)", and "the dated examples in document 002": three business days on
-  pub monday : weekday 20171113 ≡ 1
-  pub three : furtherDay [] 20171113 3 ≡ On (dateOf 20171116)
-  pub holiday : furtherDay (20171114 ∷ []) 20171113 3 ≡ On (dateOf 20171117)
-  pub sunday : furtherDay [] 20171112 0 ≡ On (dateOf 20171112)
-  pub last : furtherDay [] 29991231 0 ≡ On (dateOf 29991231)
-  pub past : furtherDay [] 29991231 1 ≡ Refused 15
+  -- "the dated examples in document 002": three business days on; holidays between; the last date
+  pub days : ExampleDays

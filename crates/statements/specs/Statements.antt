@@ -58,7 +58,7 @@ pub record Refuses (l : Ledger) (c : Call) (n : ℕ) : Type 0 where
 
 pub record Demand1 : Type 0 where
   pub refuses : (l : Ledger) (c : Call) (n : ℕ) → causeIn l c ≡ Stop n → Refuses l c n
-  pub numbers : (l : Ledger) (c : Call) (n : ℕ) → called l c .answer ≡ Refused n → (1 ≤ n) × (n ≤ 12)
+  pub numbers : (l : Ledger) (c : Call) (n : ℕ) → called l c .answer ≡ Refused n → (1 ≤ n) × (n ≤ 15)
   -- for C: where a number but 0 is answered, the words, the change and the counts are as they were
   pub buffers : (c : Called) (ws : List ℕ) (x : ℤ) (ks ws₁ : List ℕ) (x₁ : ℤ) (ks₁ : List ℕ) (n : ℕ)
       → Gives c ws x ks ws₁ x₁ ks₁ n → 1 ≤ n → (ws₁ ≡ ws) × (x₁ ≡ x) × (ks₁ ≡ ks)

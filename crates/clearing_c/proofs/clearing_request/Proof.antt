@@ -3,8 +3,8 @@ use borrow.Author.Needs.{needs}
 use Rattle.clearing_c.proofs.clearing_request.Statement.{statement}
 use Rattle.clearing_c.proofs.clearing_request.Tie as tie
 
-code-field-requires : tie.Need-code-field-requires
-code-field-requires c κs = search needs
+request-of-requires : tie.Need-request-of-requires
+request-of-requires c κs = search needs
 
 slice-aggregate-call : tie.Need-slice-aggregate-call
 slice-aggregate-call c = search needs
@@ -21,9 +21,9 @@ same-length-2 c = search needs
 returns : tie.Need-returns
 returns c =
     let at-call = c .before .before .before .before in
-    let at-code-field = at-call .before .before .before .before .before .before in
-    rw (← at-code-field .code-field .ensures) (at-call .call .ensures)
+    let x = at-call .call .ensures in
+    rw (at-call .before .before .before .before .before .before .request-of .ensures) at x
 
 pub clearing-request-spec : {M : Type 1} → statement M
 clearing-request-spec =
-    tie.close (tie.spec code-field-requires slice-aggregate-call call-requires same-length same-length-2 returns)
+    tie.close (tie.spec request-of-requires slice-aggregate-call call-requires same-length same-length-2 returns)
