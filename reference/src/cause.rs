@@ -23,6 +23,10 @@ pub enum Cause {
     /// Fewer numbers left than the call needs.
     NumbersUsedUp = 12,
     BadEntry = 13,
+    /// The holidays do not strictly rise, are over 64, or one is no date.
+    BadHolidays = 14,
+    /// No such day up to 29991231.
+    NoBusinessDay = 15,
 }
 
 impl Cause {

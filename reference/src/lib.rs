@@ -3,6 +3,7 @@
 //! It is made from document 01 (the contract) and the readings of it, and shares no code with the proved engine,
 //! so that the two can be held against each other. Names are document 01's. It changes its ledger in place.
 
+pub mod calendar;
 pub mod cause;
 pub mod coverage;
 pub mod dates;

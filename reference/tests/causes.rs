@@ -166,4 +166,5 @@ fn numbers() {
     assert_eq!(rest.map(Cause::number), [6, 7, 8, 9]);
     let last = [Cause::DateNotAfterToday, Cause::BadFile, Cause::NumbersUsedUp, Cause::BadEntry];
     assert_eq!(last.map(Cause::number), [10, 11, 12, 13]);
+    assert_eq!([Cause::BadHolidays, Cause::NoBusinessDay].map(Cause::number), [14, 15]);
 }
