@@ -44,6 +44,11 @@ fn place(date: u64) -> Option<usize> {
     table().binary_search_by_key(&date, Day::number).ok()
 }
 
+/// The date so many days after another, or before it; None past either end of the table.
+pub fn moved(date: u64, days: isize) -> Option<u64> {
+    place(date)?.checked_add_signed(days).and_then(|place| table().get(place)).map(Day::number)
+}
+
 /// The weekday of a date, 1 Monday to 7 Sunday. Refused: 2.
 pub fn weekday(date: u64) -> Result<u64, Cause> {
     place(date).map(|place| table()[place].weekday).ok_or(Cause::BadField)

@@ -1,7 +1,10 @@
 //! The sum from history: worked out from fresh's arguments and the list of calls alone.
 //!
-//! It asks the ledger nothing and shares none of its code but the calendar: fields stay the bytes they came as, and
-//! every rule is a row of a list whose first true row counts. Slow, plain, and a second opinion on every verdict.
+//! It asks the ledger nothing and shares none of its code but what a date is and which one follows it: fields stay the
+//! bytes they came as, and every rule is a row of a list whose first true row counts. Slow, plain, and a second opinion
+//! on every verdict and every business day.
+
+use std::iter::successors;
 
 use crate::dates::Date;
 
@@ -9,6 +12,8 @@ use crate::dates::Date;
 #[derive(Clone, Copy, Debug)]
 pub enum Call<'a> {
     Request(&'a [u8; 56]),
+    /// A request without its Scheduled Date, which is so many business days from today, and the holidays.
+    Calendar(&'a [u8; 48], u64, &'a [u64]),
     File(&'a [u8]),
     Cancel(&'a [u8; 16]),
     Close(&'a [u8; 8]),
@@ -59,6 +64,7 @@ impl History {
     pub fn call(&mut self, call: Call, output: usize) -> Option<u8> {
         match call {
             Call::Request(body) => self.request(body, output),
+            Call::Calendar(body, number, holidays) => self.by_calendar(body, number, holidays, output),
             Call::File(file) => self.file(file, output),
             Call::Cancel(body) => self.cancel(body, output),
             Call::Close(body) => self.close(body),
@@ -87,17 +93,12 @@ impl History {
 
     fn request(&mut self, body: &[u8; 56], output: usize) -> Option<u8> {
         let (rate_code, identity, product) = (&body[..5], &body[5..21], body[21]);
-        let (billing, from, consumption, scheduled) = (&body[22..30], &body[30..38], &body[38..48], &body[48..]);
-        let bad_field = !is_rate_code(rate_code)
-            || !numeric(identity)
-            || !b"BP".contains(&product)
-            || !numeric(consumption)
-            || ![billing, from, scheduled].into_iter().all(is_date);
+        let (consumption, scheduled) = (&body[38..48], &body[48..]);
         let place = self.find(identity);
         let bill = place.map(|place| &self.bills[place]);
         let known = |test: &dyn Fn(&PastBill) -> bool| bill.is_some_and(test);
         let cause = first(&[
-            (bad_field, 2),
+            (has_bad_field(body), 2),
             (output < 642, 1),
             // Dates of eight digits stand in the order of their bytes.
             (scheduled < &self.today[..], 9),
@@ -112,6 +113,17 @@ impl History {
             self.add_or_renew(place, body);
         }
         cause
+    }
+
+    /// Carried out as the request with the date worked out.
+    fn by_calendar(&mut self, body: &[u8; 48], number: u64, holidays: &[u64], output: usize) -> Option<u8> {
+        let day = further(&self.today, number, holidays);
+        let mut dated = [0; 56];
+        dated[..48].copy_from_slice(body);
+        dated[48..].copy_from_slice(day.as_ref().unwrap_or(&self.today));
+        let cause =
+            first(&[(has_bad_field(&dated) || number > 9, 2), (!are_holidays(holidays), 14), (day.is_none(), 15)]);
+        cause.or_else(|| self.request(&dated, output))
     }
 
     fn add_or_renew(&mut self, place: Option<usize>, body: &[u8; 56]) {
@@ -237,6 +249,40 @@ impl History {
             (prepay && value(field(234, 246)).wrapping_add(value(field(247, 259))) != value(field(67, 79)), 20),
         ])
     }
+}
+
+fn has_bad_field(body: &[u8; 56]) -> bool {
+    !is_rate_code(&body[..5])
+        || !numeric(&body[5..21])
+        || !b"BP".contains(&body[21])
+        || !numeric(&body[38..48])
+        || ![&body[22..30], &body[30..38], &body[48..]].into_iter().all(is_date)
+}
+
+/// Today for 0, else the business day of this number after it; None if there is no such day.
+fn further(today: &[u8], number: u64, holidays: &[u64]) -> Option<Vec<u8>> {
+    let later = successors(Date::read(today), |date| date.next()).skip(1);
+    let business = later.map(|date| date.number()).filter(|day| is_business_day(*day, holidays));
+    match number {
+        0 => Some(today.to_vec()),
+        _ => business.take(9).nth(number as usize - 1).map(|day| day.to_string().into_bytes()),
+    }
+}
+
+/// Neither a Saturday nor a Sunday, by Zeller's congruence, in which a Saturday is 0, nor a holiday.
+fn is_business_day(day: u32, holidays: &[u64]) -> bool {
+    let (year, month) = (day / 10_000, day / 100 % 100);
+    // January and February are months 13 and 14 of the year before.
+    let (year, month) = if month < 3 { (year - 1, month + 12) } else { (year, month) };
+    let weekday = (day % 100 + 13 * (month + 1) / 5 + year + year / 4 - year / 100 + year / 400) % 7;
+    weekday > 1 && !holidays.contains(&day.into())
+}
+
+fn are_holidays(days: &[u64]) -> bool {
+    let mut sorted = days.to_vec();
+    sorted.sort();
+    sorted.dedup();
+    sorted == days && days.len() < 65 && days.iter().all(|day| is_date(day.to_string().as_bytes()))
 }
 
 /// Lines 1 and 2.

@@ -4,8 +4,9 @@ use std::io::{self, BufReader, ErrorKind, Read, Write};
 
 use crate::cause::Cause;
 use crate::file::FILE_LIMIT;
-use crate::ledger::{Done, FileDone, Ledger, Request};
+use crate::ledger::{Done, FileDone, Ledger};
 use crate::notices::NOTICE_LENGTH;
+use crate::request::Request;
 
 /// Any entry after this one is bad.
 pub const ENTRY_LIMIT: u64 = 1_000_000_000;

@@ -1,13 +1,15 @@
-//! The ledger and its calls: fresh, request, file, cancel, close and the two lookups.
+//! The ledger and its calls: fresh, request (also by calendar), file, cancel, close and the two lookups.
 //!
 //! Each call tries its causes in document 01's order and changes the ledger only when none is true. `out` is the
 //! output lent to the call; None stands for the journal's 64,200 bytes that are dropped unread, so nothing is built.
 
+use crate::calendar::business_day;
 use crate::cause::Cause;
 use crate::dates::Date;
 use crate::fields::{digits, Ccf, Cents, Identity, Product, RateCode};
 use crate::file::{self, Group, FILE_LIMIT, RECORD_LENGTH};
 use crate::notices::{self, Stamp, NOTICE_LENGTH};
+use crate::request::{CalendarRequest, Request};
 use crate::sound::is_sound;
 use crate::verdict::{self, Accepted, Code, Notification};
 
@@ -55,36 +57,6 @@ pub struct Bill {
     pub billing_date: Date,
     pub from_date: Date,
     pub scheduled_date: Date,
-}
-
-/// The arguments of a request, all in their width and range.
-#[derive(Clone, Debug)]
-pub struct Request {
-    pub rate_code: RateCode,
-    pub identity: Identity,
-    pub product: Product,
-    pub billing_date: Date,
-    pub from_date: Date,
-    pub consumption: Ccf,
-    pub scheduled_date: Date,
-}
-
-impl Request {
-    /// code 5, account 12, key 4, B or P, Billing 8, From 8, consumption 10, Scheduled 8; 2 if one is bad.
-    pub fn read(body: &[u8; 56]) -> Result<Request, Cause> {
-        let read = || {
-            Some(Request {
-                rate_code: RateCode::read(&body[0..5])?,
-                identity: Identity::read(&body[5..17], &body[17..21])?,
-                product: Product::read(body[21])?,
-                billing_date: Date::read(&body[22..30])?,
-                from_date: Date::read(&body[30..38])?,
-                consumption: Ccf(digits(&body[38..48])?),
-                scheduled_date: Date::read(&body[48..56])?,
-            })
-        };
-        read().ok_or(Cause::BadField)
-    }
 }
 
 /// What a request or a cancel returns: the signed change in cents, and the bytes written.
@@ -159,6 +131,17 @@ impl Ledger {
             notices::bil(out, &self.bills[place], former, stamp);
         }
         Ok(Done { change: 0, written: NOTICE_LENGTH })
+    }
+
+    /// Request by calendar: the request with the date worked out, counted from today.
+    pub fn request_by_calendar(
+        &mut self,
+        asked: &CalendarRequest,
+        holidays: &[u64],
+        out: Option<&mut [u8]>,
+    ) -> Result<Done, Cause> {
+        let scheduled_date = business_day(self.today.number().into(), asked.number, holidays)?;
+        self.request(&asked.dated(scheduled_date), out)
     }
 
     /// File: the groups are decided in order, each on the ledger the one before left.

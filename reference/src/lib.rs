@@ -1,7 +1,7 @@
 //! The clearing ledger for Bill Ready and Prepay charges, written a second time.
 //!
-//! It is made from document 01 (the contract) and the readings of it, and shares no code with the proved engine,
-//! so that the two can be held against each other. Names are document 01's. It changes its ledger in place.
+//! It is made from document 01 (the contract), document 02 (later requests) and the readings of them, and shares no code
+//! with the proved engine, so that the two can be held against each other. Names are theirs. It changes its ledger in place.
 
 pub mod calendar;
 pub mod cause;
@@ -17,6 +17,7 @@ pub mod journal;
 pub mod ledger;
 pub mod notices;
 pub mod prng;
+pub mod request;
 pub mod show;
 pub mod shrink;
 pub mod sound;
@@ -27,4 +28,5 @@ pub mod words;
 pub mod workload;
 
 pub use cause::Cause;
-pub use ledger::{Bill, Ledger, Posted, Request};
+pub use ledger::{Bill, Ledger, Posted};
+pub use request::{CalendarRequest, Request};

@@ -4,6 +4,7 @@
 //! journal really reaches is counted afterwards from its bytes alone (see `coverage`).
 
 mod calls;
+pub mod days;
 mod ends;
 mod files;
 mod spoils;
