@@ -1,13 +1,15 @@
 /*
- * clearing.h: the calls of the clearing ledger for Bill Ready and Prepay charges (document 01), proved and compiled
- * to libclearing_c.a (`rt staticlib clearing_c`, then target/staticlib/), for C and C++ on x86-64 Linux.
+ * clearing.h: the calls of the clearing ledger for Bill Ready and Prepay charges (document 01) and its business-day
+ * calendar (document 02, paper 1), proved and compiled to libclearing_c.a (`rt staticlib clearing_c`, then
+ * target/staticlib/), for C and C++ on x86-64 Linux.
  *
- * Every function returns 0 if the call is carried out, else one of the causes below; then all that was lent to it
- * (ledger, out, change, counts, place, amounts, written, found, result) holds what it held before, but for the found of
- * clearing_entry, which is always written. Output past the bytes written is untouched. Nothing is kept between calls,
- * and nothing but what was lent is read or written. A call needs no heap. Stack: less than 8 KB for a call, a lookup,
- * clearing_entry and clearing_ledger_table, 32 KB for clearing_table (measured), 192 KB for clearing_notices (tested:
- * 128,400 bytes of it are the buffer of the last notices, 39,000 its ledgers).
+ * Every function returns 0 if the call is carried out, else one of the causes below; then all that was lent to it for
+ * writing (ledger, out, change, counts, place, amounts, written, weekday, day, found, result) holds what it held
+ * before, but for the found of clearing_entry, which is always written. What is lent for reading (code, file, journal,
+ * holidays, the ledger of a lookup) always stays as it is. Output past the bytes written is untouched. Nothing is kept
+ * between calls, and nothing but what was lent is read or written. A call needs no heap. Stack: less than 8 KB for a
+ * call, a lookup, clearing_entry and clearing_ledger_table, 32 KB for clearing_table (measured), 192 KB for
+ * clearing_notices (tested: 128,400 bytes of it are the buffer of the last notices, 39,000 its ledgers).
  *
  * Pointers may not be null, must be aligned for their type and may not overlap one another; a pointer with a length
  * must have that many elements, and for an empty one (length 0) any pointer that is not null will do.
@@ -31,6 +33,7 @@ extern "C" {
 #define CLEARING_NOTICE_BYTES 642  /* what a request or a cancel writes */
 #define CLEARING_FILE_BYTES 64200  /* the longest supplier file */
 #define CLEARING_TABLE_BYTES 10970 /* the longest table */
+#define CLEARING_HOLIDAYS 64       /* the most holidays */
 
 /* The first words of a ledger; then place i (from 0) begins at word CLEARING_PLACE(i). */
 enum {
@@ -82,7 +85,9 @@ enum {
     CLEARING_DATE_NOT_AFTER_TODAY = 10,
     CLEARING_BAD_FILE = 11,
     CLEARING_NUMBERS_USED_UP = 12,
-    CLEARING_BAD_ENTRY = 13 /* of a journal; clearing_table and clearing_notices give it in result[1] only */
+    CLEARING_BAD_ENTRY = 13,      /* of a journal; clearing_table and clearing_notices give it in result[1] only */
+    CLEARING_BAD_HOLIDAYS = 14,   /* they do not strictly rise, are over CLEARING_HOLIDAYS, or one is no date */
+    CLEARING_NO_BUSINESS_DAY = 15 /* so far on, up to 29991231 */
 };
 
 /*
@@ -104,6 +109,16 @@ uint64_t clearing_fresh(uint64_t *ledger, size_t ledger_len, uint64_t today, uin
 uint64_t clearing_request(uint64_t *ledger, size_t ledger_len, const uint8_t code[5], uint64_t account, uint64_t key,
                           uint8_t product, uint64_t billing, uint64_t from, uint64_t consumption, uint64_t scheduled,
                           uint8_t *out, size_t out_len, int64_t *change, uint64_t counts[4]);
+
+/* Request by calendar: a request whose Scheduled Date is the business day so many (number, 0 to 9) further on from the
+   ledger's today, as clearing_business_day finds it with these holidays; it leaves and writes what clearing_request
+   with that date does, and a journal holds that request. Refused: 2 (also for a number over 9), 14, 15, 1, then 5, 6,
+   7, 8 (known bill) or 3 (new), 12. */
+uint64_t clearing_request_by_calendar(uint64_t *ledger, size_t ledger_len, const uint8_t code[5], uint64_t account,
+                                      uint64_t key, uint8_t product, uint64_t billing, uint64_t from,
+                                      uint64_t consumption, uint64_t number, const uint64_t *holidays,
+                                      size_t holidays_len, uint8_t *out, size_t out_len, int64_t *change,
+                                      uint64_t counts[4]);
 
 /* File: decides the groups of a supplier file (its bytes, CLEARING_FILE_BYTES at most) in order and writes an ACF or
    REJ for each. out_len must be file_len or more, although less may be written. Refused: 2, 11, 1, 12. */
@@ -132,6 +147,25 @@ uint64_t clearing_amounts(const uint64_t *ledger, size_t ledger_len, uint64_t ac
    written: its bytes. Refused: 2, 1 for out_len under CLEARING_TABLE_BYTES. */
 uint64_t clearing_ledger_table(const uint64_t *ledger, size_t ledger_len, uint8_t *out, size_t out_len,
                                uint64_t *written);
+
+/*
+ * The calendar reads no ledger. Saturdays, Sundays and the holidays lent are no business days. Its functions share:
+ *   date                    where the count begins: a date
+ *   holidays, holidays_len  dates that strictly rise, CLEARING_HOLIDAYS at most, before the date or after; else 14
+ *   day                     the date found
+ */
+
+/* weekday: that of the date, 1 Monday to 7 Sunday. Refused: 2. */
+uint64_t clearing_weekday(uint64_t date, uint64_t *weekday);
+
+/* The next business day: the first one after the date. Refused: 2, 14, 15. */
+uint64_t clearing_next_business_day(uint64_t date, const uint64_t *holidays, size_t holidays_len, uint64_t *day);
+
+/* The business day so many (number, 0 to 9) further on: the least date from the date on, with exactly that many
+   business days after the date up to it, so 0 gives the date itself. Refused: 2 (no date, a number over 9), 14
+   (whatever the number is), 15. */
+uint64_t clearing_business_day(uint64_t date, uint64_t number, const uint64_t *holidays, size_t holidays_len,
+                               uint64_t *day);
 
 /*
  * One entry of a journal, so that a program can stream one of any length: makes the call of the entry that begins the

@@ -1,5 +1,6 @@
-/* Document 01's example through the calls and lookups, through the table and streamed entry by entry; prints the table
-   of the journal and that of the ledger which the entries left. Any other answer than expected ends it with status 1. */
+/* Document 01's example through the calls and lookups, its dates through the calendar, then the example through the
+   table and streamed entry by entry; prints what the calendar found, the table of the journal and that of the ledger
+   which the entries left. Any other answer than expected ends it with status 1. */
 #include "clearing.h"
 
 #include <assert.h>
@@ -107,6 +108,32 @@ static int try_calls(const uint8_t *file) {
         && expect("change", (uint64_t)-change, 4250);
 }
 
+/* The example's dates: from Monday 13 November 2017 three business days on, also with the Wednesday a holiday, and a
+   request that leaves its Scheduled Date to that calendar. */
+static int try_calendar(void) {
+    const uint8_t code[5] = {'Z', 'Z', 'C', '4', '0'};
+    const uint64_t holidays[2] = {20171115, 20171123}, falling[2] = {20171123, 20171115};
+    uint64_t weekday = 9, next = 9, third = 9, later = 9;
+    uint64_t *scheduled = &ledger[CLEARING_PLACE(0) + CLEARING_SCHEDULED];
+    int good = expect("weekday", clearing_weekday(20171113, &weekday), CLEARING_DONE)
+        && expect("next business day", clearing_next_business_day(20171114, holidays, 2, &next), CLEARING_DONE)
+        && expect("business day", clearing_business_day(20171113, 3, holidays, 0, &third), CLEARING_DONE)
+        && expect("business day, a holiday", clearing_business_day(20171113, 3, holidays, 2, &later), CLEARING_DONE)
+        && expect("falling holidays", clearing_business_day(20171113, 0, falling, 2, &later), CLEARING_BAD_HOLIDAYS)
+        && expect("no business day", clearing_business_day(29991231, 1, holidays, 2, &later), CLEARING_NO_BUSINESS_DAY)
+        && expect("fresh", clearing_fresh(ledger, CLEARING_WORDS, 20171113, 1, 1, &change, counts), CLEARING_DONE)
+        && expect("request by calendar",
+                  clearing_request_by_calendar(ledger, CLEARING_WORDS, code, 123456780019, 7, 'B', 20171113, 20171013,
+                                               85, 3, holidays, 2, out, CLEARING_NOTICE_BYTES, &change, counts),
+                  CLEARING_DONE)
+        && expect("bytes of the BIL", counts[0], CLEARING_NOTICE_BYTES) && expect("Scheduled Date", *scheduled, later);
+    printf("20171113: weekday %llu, three business days on %llu\n", (unsigned long long)weekday,
+           (unsigned long long)third);
+    printf("20171115 a holiday: after 20171114 comes %llu, three on from 20171113 is %llu\n", (unsigned long long)next,
+           (unsigned long long)later);
+    return good;
+}
+
 /* Streams a journal, lending 100 bytes more of it where an entry is cut short. */
 static int try_stream(const uint8_t *journal, size_t length) {
     uint64_t seen = 0, found[2] = {9, 9};
@@ -138,7 +165,7 @@ int main(void) {
     uint64_t result[2] = {9, 9}, written = 9;
     make_file(file);
     size_t length = make_journal(journal, file);
-    if (!try_calls(file)
+    if (!try_calls(file) || !try_calendar()
         || !expect("notices", clearing_notices(journal, length, out, sizeof out, result), CLEARING_DONE)
         || !expect("bytes of the notices", result[0], 3 * CLEARING_RECORD_BYTES)
         || !expect("table", clearing_table(journal, length, out, sizeof out, result), CLEARING_DONE)

@@ -1,7 +1,8 @@
 //! The functions of libclearing_c.a (`include/clearing.h`) for Rust: argument for argument, without unsafe.
 //!
-//! Each returns 0 if the call is carried out, else document 01's number; then all that was lent to it holds what it
-//! held before, but for what `entry` tells. A slice is never null, and two lent for writing never overlap: what C must promise, Rust sees to.
+//! Each returns 0 if the call is carried out, else the number of documents 01 and 02; then all that was lent to it
+//! holds what it held before, but for what `entry` tells. A slice is never null, and two lent for writing never
+//! overlap: what C must promise, Rust sees to.
 //! `change`: new posted total minus old, in cents; `counts`: bytes written, groups accepted and rejected, bills closed.
 
 mod raw;
@@ -17,6 +18,19 @@ pub struct Request {
     pub from: u64,
     pub consumption: u64,
     pub scheduled: u64,
+}
+
+/// The arguments of a request that leaves its Scheduled Date to the calendar: the number of business days from today.
+#[derive(Clone, Debug, PartialEq, Eq)]
+pub struct CalendarRequest {
+    pub code: [u8; 5],
+    pub account: u64,
+    pub key: u64,
+    pub product: u8,
+    pub billing: u64,
+    pub from: u64,
+    pub consumption: u64,
+    pub number: u64,
 }
 
 /// Fresh: today and the two next numbers; any 2436 words do.
@@ -48,6 +62,38 @@ pub fn request(ledger: &mut [u64], request: &Request, out: &mut [u8], change: &m
             request.from,
             request.consumption,
             request.scheduled,
+            out.as_mut_ptr(),
+            out.len(),
+            change,
+            counts.as_mut_ptr(),
+        )
+    }
+}
+
+/// Request by calendar: writes a BIL.
+pub fn request_by_calendar(
+    ledger: &mut [u64],
+    request: &CalendarRequest,
+    holidays: &[u64],
+    out: &mut [u8],
+    change: &mut i64,
+    counts: &mut [u64; 4],
+) -> u64 {
+    // SAFETY: as for fresh.
+    unsafe {
+        raw::clearing_request_by_calendar(
+            ledger.as_mut_ptr(),
+            ledger.len(),
+            request.code.as_ptr(),
+            request.account,
+            request.key,
+            request.product,
+            request.billing,
+            request.from,
+            request.consumption,
+            request.number,
+            holidays.as_ptr(),
+            holidays.len(),
             out.as_mut_ptr(),
             out.len(),
             change,
@@ -121,6 +167,24 @@ pub fn ledger_table(ledger: &[u64], out: &mut [u8], written: &mut u64) -> u64 {
     let (bytes, length) = (out.as_mut_ptr(), out.len());
     // SAFETY: as for fresh.
     unsafe { raw::clearing_ledger_table(ledger.as_ptr(), ledger.len(), bytes, length, written) }
+}
+
+/// The weekday of a date, 1 Monday to 7 Sunday.
+pub fn weekday(date: u64, weekday: &mut u64) -> u64 {
+    // SAFETY: as for fresh.
+    unsafe { raw::clearing_weekday(date, weekday) }
+}
+
+/// The first business day after a date.
+pub fn next_business_day(date: u64, holidays: &[u64], day: &mut u64) -> u64 {
+    // SAFETY: as for fresh.
+    unsafe { raw::clearing_next_business_day(date, holidays.as_ptr(), holidays.len(), day) }
+}
+
+/// The business day so many further on from a date.
+pub fn business_day(date: u64, number: u64, holidays: &[u64], day: &mut u64) -> u64 {
+    // SAFETY: as for fresh.
+    unsafe { raw::clearing_business_day(date, number, holidays.as_ptr(), holidays.len(), day) }
 }
 
 /// The entry that begins the bytes of a journal, before which so many came; found: its bytes, or 0 where no whole good

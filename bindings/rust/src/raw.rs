@@ -27,6 +27,24 @@ unsafe extern "C" {
         change: *mut i64,
         counts: *mut u64,
     ) -> u64;
+    pub fn clearing_request_by_calendar(
+        ledger: *mut u64,
+        ledger_len: usize,
+        code: *const u8,
+        account: u64,
+        key: u64,
+        product: u8,
+        billing: u64,
+        from: u64,
+        consumption: u64,
+        number: u64,
+        holidays: *const u64,
+        holidays_len: usize,
+        out: *mut u8,
+        out_len: usize,
+        change: *mut i64,
+        counts: *mut u64,
+    ) -> u64;
     pub fn clearing_file(
         ledger: *mut u64,
         ledger_len: usize,
@@ -57,6 +75,15 @@ unsafe extern "C" {
         out_len: usize,
         written: *mut u64,
     ) -> u64;
+    pub fn clearing_weekday(date: u64, weekday: *mut u64) -> u64;
+    pub fn clearing_next_business_day(date: u64, holidays: *const u64, holidays_len: usize, day: *mut u64) -> u64;
+    pub fn clearing_business_day(
+        date: u64,
+        number: u64,
+        holidays: *const u64,
+        holidays_len: usize,
+        day: *mut u64,
+    ) -> u64;
     pub fn clearing_entry(
         ledger: *mut u64,
         ledger_len: usize,
@@ -69,7 +96,13 @@ unsafe extern "C" {
         counts: *mut u64,
         found: *mut u64,
     ) -> u64;
-    pub fn clearing_table(journal: *const u8, journal_len: usize, out: *mut u8, out_len: usize, result: *mut u64) -> u64;
+    pub fn clearing_table(
+        journal: *const u8,
+        journal_len: usize,
+        out: *mut u8,
+        out_len: usize,
+        result: *mut u64,
+    ) -> u64;
     pub fn clearing_notices(
         journal: *const u8,
         journal_len: usize,

@@ -1,14 +1,15 @@
 //! The calls as they should be, by the second implementation.
 
+use reference::dates::Date;
 use reference::fields::{digits, Product, RateCode};
 use reference::journal::{replay_notices, start, Entry, Replayed, Start};
 use reference::words::{self, consumption, date, identity, text, WORDS};
-use reference::{table, Cause, Ledger, Request};
+use reference::{calendar, table, CalendarRequest, Cause, Ledger, Request};
 
 /// The longest table.
 const TABLE: usize = 10_970;
 
-/// A changing call: the rate code or the file, and the numbers in the header's order (product among them).
+/// A changing call: the rate code or the file, and the numbers in the header's order (product among them, and holidays).
 pub struct Call<'a> {
     pub name: &'static str,
     pub bytes: &'a [u8],
@@ -57,6 +58,11 @@ fn carry_out(call: &Call, mut ledger: Ledger, out: &mut [u8]) -> Done {
             let done = ledger.request(&request(call).ok_or(Cause::BadField)?, Some(out))?;
             (done.change, [done.written, 0, 0, 0])
         }
+        ("calendar", numbers) => {
+            let asked = asked(call).ok_or(Cause::BadField)?;
+            let done = ledger.request_by_calendar(&asked, &numbers[7..], Some(out))?;
+            (done.change, [done.written, 0, 0, 0])
+        }
         ("file", _) => {
             let done = ledger.file(call.bytes, Some(out))?;
             (done.change, [done.written, done.accepted, done.rejected, 0])
@@ -81,6 +87,41 @@ fn request(call: &Call) -> Option<Request> {
         consumption: consumption(ccf)?,
         scheduled_date: date(scheduled)?,
     })
+}
+
+/// The same with a number of business days in place of the Scheduled Date.
+fn asked(call: &Call) -> Option<CalendarRequest> {
+    let numbers = [&call.numbers[..6], &[19000101]].concat();
+    let request = request(&Call { name: "request", bytes: call.bytes, numbers })?;
+    let Request { rate_code, identity, product, billing_date, from_date, consumption, .. } = request;
+    let number = call.numbers[6];
+    Some(CalendarRequest { rate_code, identity, product, billing_date, from_date, consumption, number })
+}
+
+pub fn weekday(date: u64, weekday: &mut u64) -> u64 {
+    day(calendar::weekday(date), weekday)
+}
+
+pub fn next_business_day(date: u64, holidays: &[u64], found: &mut u64) -> u64 {
+    day(calendar::next_business_day(date, holidays).map(number), found)
+}
+
+pub fn business_day(date: u64, further: u64, holidays: &[u64], found: &mut u64) -> u64 {
+    day(calendar::business_day(date, further, holidays).map(number), found)
+}
+
+fn number(date: Date) -> u64 {
+    date.number().into()
+}
+
+fn day(result: Result<u64, Cause>, found: &mut u64) -> u64 {
+    match result {
+        Ok(day) => {
+            *found = day;
+            0
+        }
+        Err(cause) => cause.number().into(),
+    }
 }
 
 pub fn open_bill(words: &[u64], account: u64, place: &mut u64) -> u64 {

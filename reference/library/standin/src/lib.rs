@@ -61,6 +61,31 @@ pub unsafe extern "C" fn clearing_request(
 }
 
 #[no_mangle]
+pub unsafe extern "C" fn clearing_request_by_calendar(
+    ledger: *mut u64,
+    ledger_len: usize,
+    code: *const u8,
+    account: u64,
+    key: u64,
+    product: u8,
+    billing: u64,
+    from: u64,
+    consumption: u64,
+    number: u64,
+    holidays: *const u64,
+    holidays_len: usize,
+    out: *mut u8,
+    out_len: usize,
+    change: *mut i64,
+    counts: *mut u64,
+) -> u64 {
+    let fields = [account, key, product.into(), billing, from, consumption, number];
+    let numbers = [&fields[..], from_raw_parts(holidays, holidays_len)].concat();
+    let call = Call { name: "calendar", bytes: from_raw_parts(code, 5), numbers };
+    calls::change(&call, &mut lent((ledger, ledger_len), (out, out_len), change, counts))
+}
+
+#[no_mangle]
 pub unsafe extern "C" fn clearing_file(
     ledger: *mut u64,
     ledger_len: usize,
@@ -133,6 +158,32 @@ pub unsafe extern "C" fn clearing_ledger_table(
     written: *mut u64,
 ) -> u64 {
     calls::ledger_table(from_raw_parts(ledger, ledger_len), from_raw_parts_mut(out, out_len), &mut *written)
+}
+
+#[no_mangle]
+pub unsafe extern "C" fn clearing_weekday(date: u64, weekday: *mut u64) -> u64 {
+    calls::weekday(date, &mut *weekday)
+}
+
+#[no_mangle]
+pub unsafe extern "C" fn clearing_next_business_day(
+    date: u64,
+    holidays: *const u64,
+    holidays_len: usize,
+    day: *mut u64,
+) -> u64 {
+    calls::next_business_day(date, from_raw_parts(holidays, holidays_len), &mut *day)
+}
+
+#[no_mangle]
+pub unsafe extern "C" fn clearing_business_day(
+    date: u64,
+    number: u64,
+    holidays: *const u64,
+    holidays_len: usize,
+    day: *mut u64,
+) -> u64 {
+    calls::business_day(date, number, from_raw_parts(holidays, holidays_len), &mut *day)
 }
 
 #[no_mangle]
