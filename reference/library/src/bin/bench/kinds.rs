@@ -2,7 +2,8 @@
 
 use std::hint::black_box;
 
-use clearing::Request;
+use clearing::{CalendarRequest, Request};
+use reference::calendar;
 use reference::file::FILE_LIMIT;
 use reference::groups;
 use reference::journal::{carry_out, longest_notices, replay, replay_notices, start, Replayed, Start, FILE, REQUEST};
@@ -60,6 +61,7 @@ pub fn all(bills: usize) -> Vec<Kind> {
         fresh(&words),
         request("request, new bill (ledger holds one fewer)", &one_fewer, ledger::request(last, 85)),
         request("request, known bill", &words, ledger::request(last, 86)),
+        by_calendar("request by calendar, known bill, 64 holidays", &words, ledger::by_calendar(last, 86)),
         file("file, 1 RSP, accepted", &words, ledger::responses(&held.bills()[last..], 4000)),
         file(&format!("file, {GROUPS} RSP, {accepted}"), &words, ledger::longest_file()),
         cancel(&words, account(last)),
@@ -73,6 +75,9 @@ pub fn all(bills: usize) -> Vec<Kind> {
             &words,
             groups::entry(FILE, &ledger::responses(&held.bills()[last..], 4000)),
         ),
+        weekday(),
+        business_day("business_day, 3 further on, no holidays", 3, vec![]),
+        business_day("business_day, 9 further on, 64 holidays", 9, ledger::holidays()),
         whole_table(journal.clone()),
         whole_notices("exact", journal.clone(), notices(&journal).0.len()),
         whole_notices("ample", journal.clone(), longest_notices(&journal)),
@@ -112,6 +117,55 @@ fn request(name: &str, words: &[u64], request: Request) -> Kind {
                 let done = ledger.request(&asked::read(&same).ok_or(Cause::BadField)?, Some(out))?;
                 Ok((done.change, [done.written, 0, 0, 0]))
             })
+        }),
+    }
+}
+
+fn by_calendar(name: &str, words: &[u64], request: CalendarRequest) -> Kind {
+    let (same, holidays) = (request.clone(), ledger::holidays());
+    let same_holidays = holidays.clone();
+    Kind {
+        name: name.into(),
+        words: words.to_vec(),
+        output: NOTICE_LENGTH,
+        library: Box::new(move |lent| {
+            let Lent { words, out, change, counts, .. } = lent;
+            clearing::request_by_calendar(words, &request, &holidays, out, change, counts)
+        }),
+        reference: Box::new(move |lent| {
+            change(lent, |ledger, out| {
+                let asked = asked::read_by_calendar(&same).ok_or(Cause::BadField)?;
+                let done = ledger.request_by_calendar(&asked, &same_holidays, Some(out))?;
+                Ok((done.change, [done.written, 0, 0, 0]))
+            })
+        }),
+    }
+}
+
+fn weekday() -> Kind {
+    let date = 20171113;
+    Kind {
+        name: "weekday".into(),
+        words: vec![],
+        output: 0,
+        library: Box::new(move |lent| clearing::weekday(black_box(date), &mut lent.day)),
+        reference: Box::new(move |lent| {
+            lent.day = calendar::weekday(black_box(date))?;
+            Ok(())
+        }),
+    }
+}
+
+fn business_day(name: &str, number: u64, holidays: Vec<u64>) -> Kind {
+    let (date, same) = (20171113, holidays.clone());
+    Kind {
+        name: name.into(),
+        words: vec![],
+        output: 0,
+        library: Box::new(move |lent| clearing::business_day(date, number, &holidays, &mut lent.day)),
+        reference: Box::new(move |lent| {
+            lent.day = calendar::business_day(date, number, &same)?.number().into();
+            Ok(())
         }),
     }
 }

@@ -1,6 +1,7 @@
 //! The ledgers, requests, files and journals that the calls are made on.
 
-use clearing::Request;
+use clearing::{CalendarRequest, Request};
+use reference::calendar::{moved, HOLIDAY_LIMIT};
 use reference::groups::{self, Amounts, Sent};
 use reference::ledger::BILL_LIMIT;
 use reference::verdict::Notification;
@@ -30,6 +31,17 @@ pub fn request(bill: usize, consumption: u64) -> Request {
         consumption,
         scheduled: 20171116,
     }
+}
+
+/// The same request three business days on from today.
+pub fn by_calendar(bill: usize, consumption: u64) -> CalendarRequest {
+    let Request { code, account, key, product, billing, from, consumption, .. } = request(bill, consumption);
+    CalendarRequest { code, account, key, product, billing, from, consumption, number: 3 }
+}
+
+/// As many holidays as there may be, every second day from 20171101 on.
+pub fn holidays() -> Vec<u64> {
+    (0..HOLIDAY_LIMIT as isize).filter_map(|at| moved(20171101, 2 * at)).collect()
 }
 
 /// The body of the same request as a journal's entry.

@@ -11,6 +11,8 @@ pub struct Lent {
     pub amounts: [u64; 3],
     pub written: u64,
     pub told: [u64; 2],
+    /// A weekday or a date that the calendar found.
+    pub day: u64,
 }
 
 impl Lent {
@@ -26,6 +28,7 @@ impl Lent {
             amounts: [odd; 3],
             written: odd,
             told: [odd; 2],
+            day: odd,
         }
     }
 
@@ -39,6 +42,7 @@ impl Lent {
             ("amounts", self.amounts == other.amounts),
             ("written", self.written == other.written),
             ("told", self.told == other.told),
+            ("day", self.day == other.day),
         ];
         match parts.iter().find(|part| !part.1) {
             Some((name, _)) => Err(format!("the two sides differ in {name}")),

@@ -3,6 +3,7 @@
 use clearing::Request;
 use reference::dates::Date;
 use reference::file::{FILE_LIMIT, RECORD_LENGTH};
+use reference::generator::days;
 use reference::groups::{self, Amounts, Sent};
 use reference::prng::Prng;
 use reference::verdict::Notification;
@@ -18,7 +19,8 @@ pub const DATES: [u64; 9] = [19000101, 19001231, 20000229, 20171112, 20171113, 2
 pub fn some_call(rng: &mut Prng, ledger: &Ledger) -> Call {
     let (account, key) = some_identity(rng, ledger);
     let mut call = match rng.below(42) {
-        0..=11 => Call::Request(some_request(rng, ledger)),
+        0..=7 => Call::Request(some_request(rng, ledger)),
+        8..=11 => some_by_calendar(rng, ledger),
         12..=21 => Call::File(some_file(rng, ledger)),
         22..=27 => Call::Cancel { account, key },
         28..=31 => Call::Close { today: some_day(rng, ledger.today(), 25) },
@@ -98,6 +100,12 @@ fn some_request(rng: &mut Prng, ledger: &Ledger) -> Request {
         consumption: same.unwrap_or(some_consumption(rng)),
         scheduled: some_day(rng, ledger.today(), 10),
     }
+}
+
+fn some_by_calendar(rng: &mut Prng, ledger: &Ledger) -> Call {
+    let (request, number) = (some_request(rng, ledger), days::some_number(rng));
+    let today = ledger.today().number().into();
+    Call::Calendar { request, number, holidays: days::some_holidays(rng, today) }
 }
 
 fn some_file(rng: &mut Prng, ledger: &Ledger) -> Vec<u8> {

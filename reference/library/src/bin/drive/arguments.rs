@@ -31,7 +31,9 @@ pub fn drive(tally: &mut Tally) -> Result<(), String> {
     crossed(&mut held)?;
     cancel_and_close(&mut held)?;
     empty(&mut held)?;
-    streamed(&mut held)
+    streamed(&mut held)?;
+    by_calendar(&mut held)?;
+    days(&mut held)
 }
 
 impl Held<'_> {
@@ -163,6 +165,41 @@ fn streamed(held: &mut Held) -> Result<(), String> {
     held.entry(b"\x02\x00\x00\x02", 3, 3, [0; 4])?;
     held.entry(b"\x04\x00\x0820171127", 4, 11, [0; 4])?;
     held.words(0, 3, &[20171127, 20171116, 20171117, 1])
+}
+
+/// The same request with 5 business days and two holidays in place of the Scheduled Date.
+fn by_calendar(held: &mut Held) -> Result<(), String> {
+    held.change(&Call::Fresh { today: 20171113, tracking: 20171114, confirmation: 20171115 }, 0, [0; 4])?;
+    let (code, account, key, product) = (*b"A7C39", 20171121, 22, b'P');
+    let (billing, from, consumption, scheduled) = (20171123, 20171124, 20171125, 20171126);
+    let request = Request { code, account, key, product, billing, from, consumption, scheduled };
+    let call = Call::Calendar { request, number: 5, holidays: vec![20171114, 20171120] };
+    held.change(&call, 0, [642, 0, 0, 0])?;
+    held.words(0, 3, &[20171113, 20171115, 20171116, 1])?;
+    #[rustfmt::skip]
+    let place = [
+        20171121, 22, 65, 55, 51, 57, 80, 1, 1, 0, 20171114, 20171125, 20171123, 20171124, 20171122, 0, 0, 0, 0,
+    ];
+    held.words(4, 22, &place)?;
+    expect("BIL header", &held.out.inside()[41..58], b"02017111520171122")
+}
+
+/// Weekday, next business day and business day, by literal numbers; without holidays the pointer points nowhere.
+fn days(held: &mut Held) -> Result<(), String> {
+    let (mut weekday, mut next, mut further, mut none) = (99, 99, 99, 99);
+    let holidays = [20171114, 20171117, 20171120];
+    let numbers = [
+        ("weekday", clearing::weekday(20171116, &mut weekday), 0),
+        ("next_business_day", clearing::next_business_day(20171116, &holidays, &mut next), 0),
+        ("business_day", clearing::business_day(20171113, 4, &holidays, &mut further), 0),
+        ("business_day", clearing::business_day(29991231, 1, &[], &mut none), 15),
+        ("next_business_day", clearing::next_business_day(20171116, &[20171117, 20171117], &mut none), 14),
+    ];
+    for (name, number, wanted) in numbers {
+        expect(name, &number, &wanted)?;
+        held.tally.number(name, number);
+    }
+    expect("days", &[weekday, next, further, none], &[4, 20171121, 20171122, 99])
 }
 
 /// Empty slices: pointers that are not null and point nowhere.

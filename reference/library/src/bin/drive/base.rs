@@ -51,6 +51,12 @@ pub fn calls() -> Vec<(Call, usize)> {
         let (billing, from) = (20171110, 20171010);
         Call::Request(Request { code, account, key, product, billing, from, consumption, scheduled })
     };
+    let calendar = |key: u64, number: u64, holidays: &[u64]| {
+        let (code, account, product) = (*b"ZZC40", 123_456_780_019, b'B');
+        let (billing, from, consumption, scheduled) = (20171110, 20171010, 90, 0);
+        let request = Request { code, account, key, product, billing, from, consumption, scheduled };
+        Call::Calendar { request, number, holidays: holidays.to_vec() }
+    };
     let sound = words::read(&ledger(&BILLS)).expect("a sound ledger");
     let amounts = Amounts { charge: 4000, applied: 0, owed: 4000, balance: 0 };
     let file = groups::file(&[groups::group(&sound.bills()[0], Notification::Rsp, amounts, sound.today())]);
@@ -60,6 +66,10 @@ pub fn calls() -> Vec<(Call, usize)> {
         (request(7, 90, 20171113), 642),
         (request(9, 90, 20171116), 700),
         (request(7, 85, 20171112), 641),
+        (calendar(7, 3, &[20171115]), 642),
+        (calendar(9, 0, &[]), 642),
+        (calendar(9, 0, &[20171115, 20171115]), 0),
+        (calendar(9, 3, &[20171114]), 641),
         (Call::File(vec![]), 0),
         (Call::File(file), 642),
         (Call::File(vec![b' '; 320]), 0),

@@ -2,7 +2,8 @@
 
 use std::fmt;
 
-use clearing::Request;
+use clearing::{CalendarRequest, Request};
+use reference::calendar::FURTHEST;
 use reference::fields::{Product, RateCode};
 use reference::journal::{carry_out, fresh, start, Entry, Start};
 use reference::notices::NOTICE_LENGTH;
@@ -10,7 +11,7 @@ use reference::table;
 use reference::words::{consumption, date, identity, text};
 use reference::{Cause, Ledger};
 
-use crate::asked::read;
+use crate::asked::{read, read_by_calendar};
 use crate::entry;
 
 #[derive(Clone, Debug, PartialEq)]
@@ -21,6 +22,12 @@ pub enum Call {
         confirmation: u64,
     },
     Request(Request),
+    /// A request by calendar; the Scheduled Date of the request is not given.
+    Calendar {
+        request: Request,
+        number: u64,
+        holidays: Vec<u64>,
+    },
     File(Vec<u8>),
     Cancel {
         account: u64,
@@ -61,6 +68,7 @@ impl Call {
         match self {
             Call::Fresh { .. } => "fresh",
             Call::Request(_) => "request",
+            Call::Calendar { .. } => "request_by_calendar",
             Call::File(_) => "file",
             Call::Cancel { .. } => "cancel",
             Call::Close { .. } => "close",
@@ -74,7 +82,7 @@ impl Call {
     /// The length of output that is enough; None for a call without output.
     pub fn output(&self) -> Option<usize> {
         match self {
-            Call::Request(_) | Call::Cancel { .. } => Some(NOTICE_LENGTH),
+            Call::Request(_) | Call::Calendar { .. } | Call::Cancel { .. } => Some(NOTICE_LENGTH),
             Call::File(file) => Some(file.len()),
             Call::LedgerTable => Some(table::LONGEST),
             Call::Entry { journal, seen } => entry::output(journal, *seen),
@@ -111,6 +119,11 @@ impl Call {
             Call::Fresh { .. } | Call::Entry { .. } => unreachable!("answered above"),
             Call::Request(request) => {
                 let done = ledger.request(&read(request).ok_or(Cause::BadField)?, Some(out))?;
+                Ok(figures(done.change, [done.written, 0, 0, 0]))
+            }
+            Call::Calendar { request, number, holidays } => {
+                let asked = read_by_calendar(&by_calendar(request, *number)).ok_or(Cause::BadField)?;
+                let done = ledger.request_by_calendar(&asked, holidays, Some(out))?;
                 Ok(figures(done.change, [done.written, 0, 0, 0]))
             }
             Call::File(file) => {
@@ -150,7 +163,7 @@ impl Call {
                     ("next Confirmation Number", number(*confirmation)),
                 ]
             }
-            Call::Request(request) => vec![
+            Call::Request(request) | Call::Calendar { request, .. } => vec![
                 ("rate code", RateCode::read(&request.code).is_some()),
                 account(request.account),
                 key(request.key),
@@ -158,7 +171,10 @@ impl Call {
                 day("Billing Date", request.billing),
                 day("From Date", request.from),
                 ("consumption", consumption(request.consumption).is_some()),
-                day("Scheduled Date", request.scheduled),
+                match self {
+                    Call::Calendar { number, .. } => ("number", *number <= FURTHEST),
+                    _ => day("Scheduled Date", request.scheduled),
+                },
             ],
             Call::File(_) => vec![],
             Call::Cancel { account: a, key: k } | Call::Amounts { account: a, key: k } => vec![account(*a), key(*k)],
@@ -194,6 +210,12 @@ impl fmt::Display for Call {
             other => write!(f, "{other:?}"),
         }
     }
+}
+
+/// A request without its Scheduled Date.
+pub fn by_calendar(request: &Request, number: u64) -> CalendarRequest {
+    let Request { code, account, key, product, billing, from, consumption, .. } = *request;
+    CalendarRequest { code, account, key, product, billing, from, consumption, number }
 }
 
 /// An entry's call on the reference's ledger.

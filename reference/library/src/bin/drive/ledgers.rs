@@ -1,11 +1,11 @@
 //! Ledgers made word by word, not by calls: sound ones that no list would reach, and ones with a word or two changed.
 
+use reference::generator::days::NO_DATES;
 use reference::prng::Prng;
 use reference::words::{self, BLANK, COUNT, FIELDS, HEAD, WORDS};
 
 use crate::aim::{some_call, some_consumption, DATES};
 use crate::both::Both;
-use crate::spoil::NO_DATES;
 use crate::tally::Tally;
 
 type Place = [u64; FIELDS.len()];

@@ -2,7 +2,7 @@
 
 use clearing::Request;
 use reference::fields::digits;
-use reference::generator;
+use reference::generator::{self, days};
 use reference::journal::{Entries, Entry, Next};
 use reference::prng::Prng;
 use reference::words::WORDS;
@@ -67,9 +67,18 @@ fn calls_of(journal: &[u8], rng: &mut Prng) -> Vec<Call> {
     let mut entries = Entries::new(journal);
     let mut calls = Vec::new();
     while let Ok(Next::Entry(entry)) = entries.read_next() {
-        calls.push(call_of(entry, rng));
+        let call = call_of(entry, rng);
+        calls.extend(by_calendar(&call, rng));
+        calls.push(call);
     }
     calls
+}
+
+/// Before some requests the same by calendar: one of the two is carried out, so that the list goes its way.
+fn by_calendar(call: &Call, rng: &mut Prng) -> Option<Call> {
+    let Call::Request(request) = call else { return None };
+    let (number, holidays) = (days::some_number(rng), days::some_holidays(rng, request.scheduled));
+    rng.chance(25).then(|| Call::Calendar { request: request.clone(), number, holidays })
 }
 
 fn call_of(entry: Entry, rng: &mut Prng) -> Call {

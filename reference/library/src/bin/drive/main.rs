@@ -7,6 +7,7 @@ mod asked;
 mod base;
 mod both;
 mod call;
+mod days;
 mod edges;
 mod entry;
 mod journals;
@@ -28,7 +29,8 @@ use tally::Tally;
 const USAGE: &str = "\
 drive --seeds FROM COUNT
     for each seed a list of calls, ten ledgers made word by word with some calls each, and a journal, whole and streamed
-    entry by entry; before them the place of every argument, every word of a ledger made bad and every head of an entry
+    entry by entry, and questions to the calendar; before them the place of every argument, every word of a ledger made
+    bad and every head of an entry; after them every date
 Exit status: 0 all equal and every cause reached, 1 a difference or a cause not reached, 2 a wrong use.";
 
 /// Ledgers made word by word for each seed.
@@ -65,8 +67,9 @@ fn drive(from: u64, count: u64, tally: &mut Tally) -> Result<(), String> {
         (0..LEDGERS).try_for_each(|which| ledgers::drive(seed, which, tally))?;
         journals::drive(seed, tally)?;
         stream::drive(seed, tally)?;
+        days::drive(seed, tally)?;
     }
-    Ok(())
+    days::every_date(tally)
 }
 
 fn number(word: &str) -> u64 {

@@ -22,7 +22,7 @@ pub fn drive(tally: &mut Tally) -> Result<(), String> {
     Ok(())
 }
 
-fn calls(ledger: &Ledger, bill: &Bill) -> [Call; 5] {
+fn calls(ledger: &Ledger, bill: &Bill) -> [Call; 7] {
     let (account, key) = (bill.identity.account(), bill.identity.key());
     let amounts = Amounts { charge: 4000, applied: 1, owed: 3999, balance: 0 };
     let kind = if ledger.is_open(bill) { Notification::Rsp } else { Notification::Sup };
@@ -36,9 +36,13 @@ fn calls(ledger: &Ledger, bill: &Bill) -> [Call; 5] {
         consumption: 91,
         scheduled: 20171115,
     };
+    // 128 bills are held, so that another is refused (3).
+    let another = Request { account: 400, ..request.clone() };
     [
         Call::OpenBill { account },
         Call::Amounts { account, key },
+        Call::Calendar { request: request.clone(), number: 9, holidays: vec![20171115] },
+        Call::Calendar { request: another, number: 1, holidays: vec![] },
         Call::Request(request),
         Call::File(groups::file(&[groups::group(bill, kind, amounts, ledger.today())])),
         Call::Cancel { account, key },

@@ -1,8 +1,9 @@
 //! Gives a call to the library, with what it may write lent between margins.
 
+use reference::calendar::moved;
 use reference::{Cause, Ledger};
 
-use crate::call::{Answer, Call};
+use crate::call::{by_calendar, Answer, Call};
 use crate::lent::{same, Lent};
 
 /// What a call may write beside ledger and output.
@@ -87,6 +88,15 @@ pub fn run(call: &Call, words: &mut [u64], out: &mut [u8], figures: &mut Figures
             clearing::fresh(words, *today, *tracking, *confirmation, change, counts)
         }
         Call::Request(request) => clearing::request(words, request, out, change, counts),
+        Call::Calendar { request, number, holidays } => {
+            // A look past the list would make tomorrow a holiday.
+            let tomorrow = words.first().and_then(|today| moved(*today, 1)).unwrap_or(u64::MAX);
+            let lent = Lent::new(holidays, tomorrow, 0);
+            let asked = by_calendar(request, *number);
+            let number = clearing::request_by_calendar(words, &asked, lent.inside(), out, change, counts);
+            same(&lent, holidays, "holidays", &|at| format!("number {at}"))?;
+            number
+        }
         Call::File(file) => {
             let file = Lent::new(file, b'#', out.len() % 8);
             let number = clearing::file(words, file.inside(), out, change, counts);

@@ -1,31 +1,12 @@
-//! Makes one argument of a call bad, so that it is refused: with 2, or a file with 11.
+//! Makes one argument of a call bad, so that it is refused: with 2, a file with 11, holidays with 14.
 
 use clearing::Request;
 use reference::file::{FILE_LIMIT, RECORD_LENGTH};
+use reference::generator::days::NO_DATES;
 use reference::prng::Prng;
 
 use crate::call::Call;
 
-pub const NO_DATES: [u64; 18] = [
-    0,
-    10101,
-    18991231,
-    19000229,
-    20170001,
-    20170100,
-    20170132,
-    20170229,
-    20170431,
-    20171131,
-    20171301,
-    21000229,
-    30000101,
-    99999999,
-    120171113,
-    (1 << 32) + 20171113,
-    1 << 63,
-    u64::MAX,
-];
 /// Next numbers that fresh refuses.
 pub const NO_NUMBERS: [u64; 5] = [0, 1_000_000_000, 1_000_000_001, (1 << 32) + 7, u64::MAX];
 
@@ -45,7 +26,12 @@ pub fn spoil(rng: &mut Prng, call: &mut Call) {
             1 => *tracking = no_number,
             _ => *confirmation = no_number,
         },
-        Call::Request(request) => spoil_request(rng, request),
+        Call::Request(request) => spoil_request(rng, 8, request),
+        Call::Calendar { request, number, holidays } => match rng.below(9) {
+            0 => *number = *rng.pick(&[10, 11, 256, 1 << 32, u64::MAX]),
+            1 => holidays.push(*rng.pick(&NO_DATES)),
+            _ => spoil_request(rng, 7, request),
+        },
         Call::File(file) => spoil_file(rng, file),
         Call::Cancel { account, key } | Call::Amounts { account, key } => match rng.below(2) {
             0 => *account = too_wide(rng, 12, *account),
@@ -57,9 +43,10 @@ pub fn spoil(rng: &mut Prng, call: &mut Call) {
     }
 }
 
-fn spoil_request(rng: &mut Prng, request: &mut Request) {
+/// One of the first so many arguments; the Scheduled Date is the eighth.
+fn spoil_request(rng: &mut Prng, arguments: usize, request: &mut Request) {
     let no_date = *rng.pick(&NO_DATES);
-    match rng.below(8) {
+    match rng.below(arguments) {
         0 => {
             let at = rng.below(5);
             // Bytes that are good in neither of the first two places, or in none of the last three.

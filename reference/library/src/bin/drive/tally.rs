@@ -3,12 +3,13 @@
 use std::collections::BTreeMap;
 
 use crate::call::Call;
-use crate::entry;
+use crate::{days, entry};
 
-/// Every function, and the numbers that document 01 allows for it.
-const ALLOWED: [(&str, &[u64]); 11] = [
+/// Every function, those on a ledger first, and the numbers that documents 01 and 02 allow for it.
+const ALLOWED: [(&str, &[u64]); 15] = [
     ("fresh", &[0, 2]),
     ("request", &[0, 1, 2, 3, 5, 6, 7, 8, 9, 12]),
+    ("request_by_calendar", &[0, 1, 2, 3, 5, 6, 7, 8, 12, 14, 15]),
     ("file", &[0, 1, 2, 11, 12]),
     ("cancel", &[0, 1, 2, 4, 5, 12]),
     ("close", &[0, 2, 10]),
@@ -18,20 +19,32 @@ const ALLOWED: [(&str, &[u64]); 11] = [
     ("entry", &[0, 1, 2, 3, 4, 5, 6, 7, 8, 9, 10, 11, 12, 13]),
     ("table", &[0, 1]),
     ("notices", &[0, 1]),
+    ("weekday", &[0, 2]),
+    ("next_business_day", &[0, 2, 14, 15]),
+    ("business_day", &[0, 2, 14, 15]),
 ];
+/// How many of them take a ledger.
+const ON_LEDGERS: usize = 10;
 
 /// Each argument that alone must have been the cause of a 2.
-const ARGUMENTS: [(&str, &[&str]); 7] = [
+const ARGUMENTS: [(&str, &[&str]); 11] = [
     ("fresh", &["today", "next Tracking ID", "next Confirmation Number"]),
     (
         "request",
         &["rate code", "account", "key", "product", "Billing Date", "From Date", "consumption", "Scheduled Date"],
+    ),
+    (
+        "request_by_calendar",
+        &["rate code", "account", "key", "product", "Billing Date", "From Date", "consumption", "number"],
     ),
     ("cancel", &["account", "key"]),
     ("close", &["today"]),
     ("open_bill", &["account"]),
     ("amounts", &["account", "key"]),
     ("entry", &["body"]),
+    ("weekday", &["date"]),
+    ("next_business_day", &["date"]),
+    ("business_day", &["date", "number"]),
 ];
 
 #[derive(Default)]
@@ -56,8 +69,23 @@ impl Tally {
                 _ => {}
             }
         }
-        if let (Call::Entry { journal, seen }, 13) = (call, number) {
-            self.label(format!("entry 13: {}", entry::fault(journal, *seen)));
+        match (call, number) {
+            (Call::Entry { journal, seen }, 13) => {
+                self.label(format!("entry 13: {}", entry::fault(journal, *seen)));
+            }
+            (Call::Calendar { number: further, holidays, .. }, 14) => self.holidays(name, *further, holidays),
+            (Call::Calendar { number: further, .. }, 0 | 15) => {
+                self.label(format!("{name} {number}: {further} further on"));
+            }
+            _ => {}
+        }
+    }
+
+    /// Counts holidays that are refused.
+    fn holidays(&mut self, name: &str, further: u64, holidays: &[u64]) {
+        self.label(format!("{name} 14: {further} further on"));
+        if let [fault] = days::faults(holidays)[..] {
+            self.label(format!("{name} 14: {fault}"));
         }
     }
 
@@ -105,7 +133,7 @@ impl Tally {
         for (name, _) in ALLOWED {
             let of_name = self.numbers.iter().filter(|((called, _), _)| *called == name);
             let counts: Vec<String> = of_name.map(|((_, number), count)| format!("{number}: {count}")).collect();
-            report += &format!("{name:<12} {}\n", counts.join("  "));
+            report += &format!("{name:<20} {}\n", counts.join("  "));
         }
         self.labels.iter().for_each(|(label, count)| report += &format!("{count:>9}  {label}\n"));
         report
@@ -118,16 +146,31 @@ fn required() -> Vec<String> {
         labels.extend(arguments.iter().map(|argument| format!("{name} 2: {argument}")));
     }
     labels.extend(entry::FAULTS.map(|fault| format!("entry 13: {fault}")));
-    for (name, _) in &ALLOWED[..9] {
+    for (name, _) in &ALLOWED[..ON_LEDGERS] {
         labels.push(format!("{name} 2: length of the ledger"));
         if *name != "fresh" {
             labels.push(format!("{name} 2: ledger not sound"));
         }
     }
-    for name in ["request", "file", "cancel", "ledger_table", "entry", "table", "notices"] {
+    labels.extend(of_calendar());
+    for name in ["request", "request_by_calendar", "file", "cancel", "ledger_table", "entry", "table", "notices"] {
         for kind in ["0: 1", "short by one: 1", "exact: 0", "long: 0"] {
             labels.push(format!("{name}, output {kind}"));
         }
     }
+    labels
+}
+
+/// Each fault of the holidays alone, each number of days, and where they lead.
+fn of_calendar() -> Vec<String> {
+    let mut labels = vec!["business_day 0: on a start that is none".to_string()];
+    for name in ["request_by_calendar", "next_business_day", "business_day"] {
+        labels.extend(days::FAULTS.map(|fault| format!("{name} 14: {fault}")));
+    }
+    for name in ["request_by_calendar", "business_day"] {
+        labels.extend((0..=9).flat_map(|days| [0, 14].map(|number| format!("{name} {number}: {days} further on"))));
+        labels.extend((1..=9).map(|days| format!("{name} 15: {days} further on")));
+    }
+    labels.extend(["next_business_day", "business_day"].map(|name| format!("{name} 0: 64 holidays")));
     labels
 }

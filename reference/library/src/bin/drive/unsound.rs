@@ -1,5 +1,6 @@
 //! Ledgers made unsound word by word: every call but fresh answers 2 and changes nothing.
 
+use reference::generator::days::NO_DATES;
 use reference::groups;
 use reference::journal::FRESH;
 use reference::words::{self, place, BLANK, COUNT};
@@ -7,7 +8,6 @@ use reference::words::{self, place, BLANK, COUNT};
 use crate::base::{calls, changed, describe, full, ledger, numbers, Change, Place, BILLS};
 use crate::both::Both;
 use crate::call::Call;
-use crate::spoil::NO_DATES;
 use crate::tally::Tally;
 
 pub fn drive(tally: &mut Tally) -> Result<(), String> {

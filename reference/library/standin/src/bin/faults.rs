@@ -5,8 +5,9 @@ use std::path::{Path, PathBuf};
 use std::process::{exit, Command, Output};
 use std::{env, fs, io};
 
-const FAULTS: [&str; 5] = [
+const FAULTS: [&str; 6] = [
     include_str!("../../faults/arguments.txt"),
+    include_str!("../../faults/calendar.txt"),
     include_str!("../../faults/causes.txt"),
     include_str!("../../faults/entry.txt"),
     include_str!("../../faults/soundness.txt"),
