@@ -33,8 +33,8 @@ fn table() -> &'static [Day] {
     static TABLE: OnceLock<Vec<Day>> = OnceLock::new();
     TABLE.get_or_init(|| {
         let months = (1900..=2999).flat_map(|year| (1..=12).map(move |month| (year, month)));
-        let numbers = months.flat_map(|(year, month)| (1..=31).map(move |day| format!("{year}{month:02}{day:02}")));
-        let dates = numbers.filter_map(|number| Date::read(number.as_bytes()));
+        let numbers = months.flat_map(|(year, month)| (1..=31).map(move |day| year * 10_000 + month * 100 + day));
+        let dates = numbers.filter_map(Date::of);
         dates.zip((1..=7).cycle()).map(|(date, weekday)| Day { date, weekday }).collect()
     })
 }

@@ -12,7 +12,11 @@ impl Date {
         if field.len() != 8 {
             return None;
         }
-        let number = digits(field)? as u32;
+        Date::of(digits(field)? as u32)
+    }
+
+    /// The date that is written as this number, if one is.
+    pub fn of(number: u32) -> Option<Date> {
         let (year, month, day) = (number / 10_000, number / 100 % 100, number % 100);
         let good = (1900..=2999).contains(&year) && day >= 1 && day <= month_length(year, month);
         good.then_some(Date(number))

@@ -18,6 +18,7 @@ pub mod ledger;
 pub mod notices;
 pub mod prng;
 pub mod request;
+pub mod running;
 pub mod show;
 pub mod shrink;
 pub mod sound;

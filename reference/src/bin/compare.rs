@@ -1,17 +1,17 @@
 //! compare: holds the programs against the reference, on journals made from seeds.
 
-use std::io::{Read, Write};
-use std::process::{exit, Command, ExitStatus, Stdio};
+use std::io::Write;
+use std::process::exit;
 use std::sync::atomic::{AtomicBool, AtomicU64, Ordering::SeqCst};
 use std::sync::Mutex;
-use std::thread::JoinHandle;
-use std::time::{Duration, Instant};
+use std::time::Instant;
 use std::{io, thread};
 
 use reference::coverage::Coverage;
 use reference::expect::expect;
 use reference::file::RECORD_LENGTH;
 use reference::generator;
+use reference::running::{ask_usage, run as run_program};
 use reference::show::show;
 use reference::shrink::shrink;
 
@@ -29,14 +29,10 @@ compare --show JOURNAL
     lists the entries of a journal with what the reference makes of each
 Exit status: 0 all equal, 1 a difference, or an argument answered otherwise, 2 a wrong use or a program not run.";
 
-/// What each program is given to see that it says how it is used, and how long it may take.
+/// What each program is given to see that it says how it is used.
 const ARGUMENTS: [&str; 2] = ["--help", "journal.bin"];
-const PATIENCE: Duration = Duration::from_secs(10);
 /// What brn says of a journal that a bad entry stopped, as the table's last line does.
 const STOPPED: &str = "stopped,13\n";
-/// Waits on standard input meanwhile, to be left there: a good entry, which a program that reads would take.
-const WAITING: &[u8] = b"\x00\x00\x1a20171113000000001000000001";
-
 #[derive(Clone, Default)]
 struct Plan {
     posted: Option<String>,
@@ -145,57 +141,8 @@ impl Plan {
 fn ask_programs(plan: &Plan) -> Result<(), String> {
     let mut asked = plan.programs().flat_map(|path| ARGUMENTS.map(|argument| (path, argument)));
     asked.try_for_each(|(path, argument)| {
-        let told = ask_usage(path, argument).unwrap_or_else(|error| stop(&format!("{path}: {error}")));
+        let told = ask_usage(path, &[argument]).unwrap_or_else(|error| stop(&format!("{path}: {error}")));
         told.map_or(Ok(()), |told| Err(format!("{path} {argument} {told}")))
-    })
-}
-
-/// Gives a program an argument while standard input stays open; returns what is not as it should be.
-fn ask_usage(path: &str, argument: &str) -> io::Result<Option<String>> {
-    let (mut input, mut sender) = io::pipe()?;
-    sender.write_all(WAITING)?;
-    let mut command = Command::new(path);
-    command.arg(argument).stdin(input.try_clone()?).stdout(Stdio::piped()).stderr(Stdio::piped());
-    let mut child = command.spawn()?;
-    drop(command); // and with it a copy of the input
-    let (output, error) = (collect(child.stdout.take()), collect(child.stderr.take()));
-    let started = Instant::now();
-    let status = loop {
-        match child.try_wait()? {
-            Some(status) => break status,
-            None if started.elapsed() > PATIENCE => {
-                child.kill()?;
-                child.wait()?;
-                return Ok(Some(format!(
-                    "did not end within {} s while standard input stayed open",
-                    PATIENCE.as_secs()
-                )));
-            }
-            None => thread::sleep(Duration::from_millis(5)),
-        }
-    };
-    drop(sender);
-    let mut left = Vec::new();
-    input.read_to_end(&mut left)?;
-    let [output, error] = [output, error].map(|thread| thread.join().expect("no thread panics"));
-    let good = output.is_empty() && error.contains("standard input") && left == WAITING && status.code().is_some();
-    let found = || {
-        format!(
-            "({status}): standard output {output:?} (expected none), standard error {error:?} (expected to speak of \
-             `standard input`), {} bytes of standard input read (expected 0)",
-            WAITING.len() - left.len()
-        )
-    };
-    Ok((!good).then(found))
-}
-
-/// The start of what a program writes, all of which is read, so that it never waits for a reader.
-fn collect(pipe: Option<impl Read + Send + 'static>) -> JoinHandle<String> {
-    thread::spawn(move || {
-        let mut bytes = Vec::new();
-        // What came before a failing read is shown all the same.
-        let _ = pipe.map(|mut pipe| pipe.read_to_end(&mut bytes));
-        String::from_utf8_lossy(&bytes[..bytes.len().min(2000)]).into_owned()
     })
 }
 
@@ -271,7 +218,8 @@ fn try_journal(plan: &Plan, journal: &[u8]) -> Tally {
     ];
     for (what, path, wanted, wanted_error) in programs {
         let Some(path) = path else { continue };
-        let (got, error, status) = run_program(path, journal);
+        let ran = run_program(path, &[""; 0], journal).unwrap_or_else(|error| stop(&format!("{path}: {error}")));
+        let (got, error, status) = (ran.output, ran.error, ran.status);
         tally.failures += u64::from(!status.success());
         if got != *wanted || error != wanted_error || status.code().is_none() {
             let told = match what {
@@ -284,26 +232,6 @@ fn try_journal(plan: &Plan, journal: &[u8]) -> Tally {
         }
     }
     tally
-}
-
-/// Runs a program with the journal on its standard input, written by a thread so that neither side waits for ever.
-/// Returns what it wrote to standard output and to standard error.
-fn run_program(path: &str, journal: &[u8]) -> (Vec<u8>, String, ExitStatus) {
-    let mut command = Command::new(path);
-    let started = command.stdin(Stdio::piped()).stdout(Stdio::piped()).stderr(Stdio::piped()).spawn();
-    let mut child = started.unwrap_or_else(|error| stop(&format!("{path}: {error}")));
-    let error = collect(child.stderr.take());
-    let (stdin, stdout) = (child.stdin.take(), child.stdout.take());
-    let mut got = Vec::new();
-    thread::scope(|scope| {
-        // A program may stop reading at a bad entry, so a broken pipe is no fault.
-        scope.spawn(move || stdin.map(|mut stdin| stdin.write_all(journal)));
-        if let Some(mut stdout) = stdout {
-            stdout.read_to_end(&mut got).unwrap_or_else(|error| stop(&format!("{path}: {error}")));
-        }
-    });
-    let status = child.wait().unwrap_or_else(|error| stop(&format!("{path}: {error}")));
-    (got, error.join().expect("no thread panics"), status)
 }
 
 /// Where two outputs first differ.

@@ -7,6 +7,7 @@ mod calls;
 pub mod days;
 mod ends;
 mod files;
+pub mod lines;
 mod spoils;
 
 use crate::fields::put_number;
