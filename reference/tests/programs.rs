@@ -67,6 +67,48 @@ fn compare_tells_a_difference() {
     assert!(!good && told.starts_with(b"USAGE: echo --help"));
 }
 
+/// A program that hands the holidays to business_day-ref by a shell's line, which may change them or the arguments.
+fn business_day_by(name: &str, line: &str) -> String {
+    let path = format!("{}/{name}", env!("CARGO_TARGET_TMPDIR"));
+    let right = env!("CARGO_BIN_EXE_business_day-ref");
+    let script = format!("#!/bin/sh\n[ $# = 2 ] || exec {right} \"$@\"\n{}\n", line.replace("REF", right));
+    std::fs::write(&path, script).unwrap();
+    std::fs::set_permissions(&path, std::os::unix::fs::PermissionsExt::from_mode(0o755)).unwrap();
+    path
+}
+
+#[test]
+fn compare_days_tells_a_difference() {
+    let compare = |program: &str| {
+        run(env!("CARGO_BIN_EXE_compare_days"), &["--business_day", program, "--seeds", "1", "900"], b"")
+    };
+    assert!(
+        run(
+            env!("CARGO_BIN_EXE_compare_days"),
+            &["--business_day", env!("CARGO_BIN_EXE_business_day-ref"), "--seeds", "1", "40"],
+            b""
+        )
+        .1
+    );
+    for (name, line) in [
+        ("drops-empty-lines", "grep -a . | REF \"$@\""),
+        ("takes-65-lines", "head -n 64 | REF \"$@\""),
+        ("drops-byte-13", "tr -d '\\r' | REF \"$@\""),
+        ("wants-byte-10-at-the-end", "{ cat; echo; } | REF \"$@\""),
+        ("takes-a-number-of-two-digits", "REF \"$1\" \"${2#0}\""),
+        ("reads-nothing", "REF \"$@\" </dev/null"),
+    ] {
+        let (told, good) = compare(&business_day_by(name, line));
+        assert!(
+            !good && String::from_utf8_lossy(&told).contains("DIFFERENCE at seed"),
+            "{name}: {}",
+            told.escape_ascii()
+        );
+    }
+    let (told, good) = compare("echo");
+    assert!(!good && told.starts_with(b"USAGE: echo"));
+}
+
 #[test]
 fn shrinking_keeps_what_matters() {
     // The difference looked for: a cancelled bill in the table.

@@ -79,7 +79,7 @@ impl Runs<'_> {
     /// A read that fails: at the start, between entries, within one, and instead of the end.
     fn failing_reads(&mut self, journals: &Journals) -> Result<(), String> {
         for journal in &journals.good {
-            let ends = journal.ends();
+            let ends = &journal.ends;
             let mut places = vec![0, 1, 2, 3, journal.bytes.len() / 2];
             places.extend(ends.iter().take(4).flat_map(|end| [end - 1, *end, end + 1]));
             places.extend([journal.bytes.len() - 1, journal.bytes.len()]);
@@ -90,9 +90,8 @@ impl Runs<'_> {
             }
             self.failing_read(journal, &[("READ_AFTER", ends[0]), ("READ_MOST", 1), ("READ_INTERRUPTS", 1)])?;
         }
-        let ends = journals.long.ends();
-        let places = [ends[0], ends[200], ends[200] + 1, ends[1000], 1 << 18, 1 << 19, journals.long.bytes.len()];
-        places.iter().try_for_each(|place| self.failing_read(&journals.long, &[("READ_AFTER", *place)]))
+        let mut places = journals.places.iter().copied().chain([journals.long.bytes.len()]);
+        places.try_for_each(|place| self.failing_read(&journals.long, &[("READ_AFTER", place)]))
     }
 
     /// A write that fails: at the start, within the output, at its last byte.
@@ -127,12 +126,12 @@ impl Runs<'_> {
         self.tells_failed_read(one, &outcome).map_err(|told| format!("a folder as standard input: {told}"))?;
         // For a program in Rust, as the stand-ins are, a closed descriptor 0 is an empty file.
         if self.program.stand_in.is_none() {
-            let outcome = self.run(self.shell("exec \"$0\" <&-"), Input::File(&one.path))?;
+            let outcome = self.run(self.shell("exec \"$0\" \"$@\" <&-"), Input::File(&one.path))?;
             self.tells_failed_read(one, &outcome).map_err(|told| format!("standard input closed: {told}"))?;
         }
-        let outcome = self.run(self.shell("exec \"$0\" >/dev/full"), Input::File(&one.path))?;
+        let outcome = self.run(self.shell("exec \"$0\" \"$@\" >/dev/full"), Input::File(&one.path))?;
         self.tells_failed_write(one, &outcome).map_err(|told| format!("a full disk: {told}"))?;
-        let mut shell = self.shell("exec \"$0\" 3<\"$OTHER\" 4<\"$OTHER\" 5<\"$OTHER\" 6<\"$OTHER\"");
+        let mut shell = self.shell("exec \"$0\" \"$@\" 3<\"$OTHER\" 4<\"$OTHER\" 5<\"$OTHER\" 6<\"$OTHER\"");
         shell.env("OTHER", &other.path);
         let outcome = self.run(shell, Input::File(&one.path))?;
         self.is_exact(one, &outcome).map_err(|told| context(one, "another journal on descriptors 3 to 6", &told))
@@ -142,7 +141,7 @@ impl Runs<'_> {
     fn shell(&self, script: &str) -> Command {
         let program = self.program.command();
         let mut shell = Command::new("sh");
-        shell.args(["-c", script]).arg(program.get_program());
+        shell.args(["-c", script]).arg(program.get_program()).args(program.get_args());
         shell.envs(program.get_envs().filter_map(|(name, value)| Some((name, value?))));
         shell
     }
@@ -203,6 +202,9 @@ impl Runs<'_> {
         }
         if self.program.kind == Kind::Posted && (has("\ntotal,") || has("stopped,13")) {
             return Err("a table, as if the journal had ended at the failed read".into());
+        }
+        if self.program.kind == Kind::BusinessDay && !outcome.output.is_empty() {
+            return Err("an answer, as if the holidays had ended at the failed read".into());
         }
         Ok(())
     }

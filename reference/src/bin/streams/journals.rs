@@ -1,49 +1,65 @@
-//! The journals that the programs are given.
+//! The journals that the programs are given, and the holidays for business_day.
 
 use std::path::PathBuf;
 use std::{fs, io};
 
+use reference::calendar::{moved, HOLIDAY_LIMIT};
 use reference::generator;
 use reference::groups::entry;
 use reference::shrink::split;
 use reference::workload::Workload;
 
-use crate::program::{Kind, Place, KINDS};
+use crate::program::{Kind, Place, OF_JOURNALS};
 
 pub struct Journal {
     pub name: String,
     pub bytes: Vec<u8>,
     pub path: PathBuf,
-    /// What each program must write to standard output and to standard error, in the order of `KINDS`.
-    expected: Vec<(Vec<u8>, String)>,
+    /// The bytes up to each entry's end, or each line's, all of them last.
+    pub ends: Vec<usize>,
+    /// What each program that reads it must write to standard output and to standard error.
+    expected: Vec<(Kind, (Vec<u8>, String))>,
 }
 
 impl Journal {
     fn new(place: &Place, name: &str, bytes: Vec<u8>) -> io::Result<Journal> {
+        let lengths: Vec<usize> = split(&bytes).into_iter().map(|entry| entry.len()).collect();
+        Journal::of(place, OF_JOURNALS, name, bytes, lengths)
+    }
+
+    /// Lines of holidays.
+    fn holidays(place: &Place, name: &str, lines: &str) -> io::Result<Journal> {
+        let lengths = lines.split_inclusive('\n').map(str::len).collect();
+        Journal::of(place, &[Kind::BusinessDay], name, lines.into(), lengths)
+    }
+
+    fn of(place: &Place, kinds: &[Kind], name: &str, bytes: Vec<u8>, lengths: Vec<usize>) -> io::Result<Journal> {
         let path = place.folder.join(name.replace([' ', ','], "-"));
         fs::write(&path, &bytes)?;
-        let expected: Result<Vec<_>, String> = KINDS.iter().map(|kind| kind.expected(&bytes)).collect();
-        Ok(Journal { name: name.into(), bytes, path, expected: expected.map_err(io::Error::other)? })
+        let expected = |kind: &Kind| Ok((*kind, kind.expected(&bytes).map_err(io::Error::other)?));
+        let expected = kinds.iter().map(expected).collect::<io::Result<_>>()?;
+        let ends = lengths.into_iter().scan(0, |end, length| {
+            *end += length;
+            Some(*end)
+        });
+        Ok(Journal { name: name.into(), ends: ends.collect(), bytes, path, expected })
     }
 
     pub fn expected(&self, kind: Kind) -> &(Vec<u8>, String) {
-        &self.expected[kind as usize]
-    }
-
-    /// The bytes up to each entry's end, all of them last.
-    pub fn ends(&self) -> Vec<usize> {
-        let lengths = split(&self.bytes).into_iter().map(|entry| entry.len());
-        lengths.scan(0, |end, length| Some(std::mem::replace(end, *end + length) + length)).collect()
+        let of_kind = self.expected.iter().find(|expected| expected.0 == kind);
+        &of_kind.expect("a program that reads this").1
     }
 }
 
 pub struct Journals {
     /// Good ones, short.
     pub good: Vec<Journal>,
-    /// Ones that a bad entry stops.
+    /// Ones that a bad entry stops; holidays that are refused, or none.
     pub stopped: Vec<Journal>,
-    /// A good one of some 800,000 bytes.
+    /// A good one of some 800,000 bytes, or of all the holidays that may be.
     pub long: Journal,
+    /// After how many bytes of it reads are made to fail.
+    pub places: Vec<usize>,
 }
 
 /// So many bills, files of one RSP and of several, a cancel that is refused, a close.
@@ -86,7 +102,38 @@ pub fn make(place: &Place, seeds: usize) -> io::Result<Journals> {
     let mut all_stopped: Vec<Journal> =
         stopped.into_iter().map(|(name, bytes)| Journal::new(place, name, bytes)).collect::<io::Result<_>>()?;
     all_stopped.extend(of_seeds(bad)?);
-    Ok(Journals { good: all_good, stopped: all_stopped, long: Journal::new(place, "long", journal(128, 1200)?)? })
+    let long = Journal::new(place, "long", journal(128, 1200)?)?;
+    let places = [long.ends[0], long.ends[200], long.ends[200] + 1, long.ends[1000], 1 << 18, 1 << 19].to_vec();
+    Ok(Journals { good: all_good, stopped: all_stopped, long, places })
+}
+
+/// Holidays for business_day; the answers to the good ones differ, so that one line left out shows.
+pub fn make_holidays(place: &Place) -> io::Result<Journals> {
+    let days = |count: usize| (1..=count as isize).filter_map(|days| moved(20171113, days));
+    let lines = |count: usize| days(count).map(|day| format!("{day}\n")).collect::<String>();
+    let good = [
+        ("one holiday", lines(1)),
+        ("two holidays", lines(2)),
+        ("three, no byte 10 at the end", lines(3).trim_end().to_string()),
+        ("four holidays", lines(4)),
+    ];
+    let stopped = [
+        ("no holidays", String::new()),
+        ("an empty line", format!("{}\n", lines(2))),
+        ("no date", lines(2) + "20171131\n"),
+        ("falling", lines(2) + &lines(1)),
+        ("one too many", lines(HOLIDAY_LIMIT + 1)),
+        ("many too many", lines(20_000)),
+        ("a long line", "20171114".repeat(10_000)),
+    ];
+    let made = |(name, lines): (&str, String)| Journal::holidays(place, name, &lines);
+    let long = Journal::holidays(place, "all there may be", &lines(HOLIDAY_LIMIT))?;
+    Ok(Journals {
+        good: good.into_iter().map(made).collect::<io::Result<_>>()?,
+        stopped: stopped.into_iter().map(made).collect::<io::Result<_>>()?,
+        places: [0, 1, long.ends[30] - 1, long.ends[30], long.ends[62], long.ends[62] + 1].to_vec(),
+        long,
+    })
 }
 
 fn is_stopped(journal: &[u8]) -> bool {

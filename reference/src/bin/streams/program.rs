@@ -7,6 +7,7 @@ use std::process::{Command, ExitStatus, Stdio};
 use std::thread::{self, JoinHandle};
 use std::time::{Duration, Instant};
 
+use reference::calendar;
 use reference::expect::expect;
 
 use crate::standin::{Fault, STAND_IN};
@@ -19,9 +20,12 @@ pub enum Kind {
     Posted,
     Brn,
     Trace,
+    BusinessDay,
 }
 
-pub const KINDS: [Kind; 3] = [Kind::Posted, Kind::Brn, Kind::Trace];
+pub const KINDS: [Kind; 4] = [Kind::Posted, Kind::Brn, Kind::Trace, Kind::BusinessDay];
+/// Those that read a journal.
+pub const OF_JOURNALS: &[Kind] = &[Kind::Posted, Kind::Brn, Kind::Trace];
 
 impl Kind {
     pub fn name(self) -> &'static str {
@@ -29,17 +33,29 @@ impl Kind {
             Kind::Posted => "posted",
             Kind::Brn => "brn",
             Kind::Trace => "trace",
+            Kind::BusinessDay => "business_day",
+        }
+    }
+
+    /// What it is started with.
+    pub fn arguments(self) -> &'static [&'static str] {
+        match self {
+            Kind::BusinessDay => &["20171113", "3"],
+            _ => &[],
         }
     }
 
     /// What it must write to standard output and to standard error.
-    pub fn expected(self, journal: &[u8]) -> Result<(Vec<u8>, String), String> {
-        let expected = expect(journal)?;
+    pub fn expected(self, input: &[u8]) -> Result<(Vec<u8>, String), String> {
+        if let (Kind::BusinessDay, [date, number]) = (self, self.arguments()) {
+            return Ok((calendar::program(date.as_bytes(), number.as_bytes(), input).into_bytes(), String::new()));
+        }
+        let expected = expect(input)?;
         let stopped = expected.table.ends_with(b"stopped,13\n");
         Ok(match self {
             Kind::Posted => (expected.table, String::new()),
             Kind::Brn => (expected.notices, if stopped { "stopped,13\n".into() } else { String::new() }),
-            Kind::Trace => (expected.trace, String::new()),
+            _ => (expected.trace, String::new()),
         })
     }
 }
@@ -87,6 +103,7 @@ impl Program {
     /// The program, and whatever its stand-in needs to know.
     pub fn command(&self) -> Command {
         let mut command = Command::new(&self.path);
+        command.args(self.kind.arguments());
         if let Some(fault) = self.stand_in {
             command.env(STAND_IN, format!("{} {fault:?}", self.kind.name()));
         }
