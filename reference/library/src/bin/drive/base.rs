@@ -44,18 +44,21 @@ pub fn full() -> Vec<u64> {
 /// Words to change together, and what to.
 pub type Change = Vec<(usize, u64)>;
 
+/// A request for a bill of the first one's account, without a date.
+fn undated(key: u64, consumption: u64) -> Request {
+    let (code, account, product) = (*b"ZZC40", 123_456_780_019, b'B');
+    let (billing, from, scheduled) = (20171110, 20171010, 0);
+    Request { code, account, key, product, billing, from, consumption, scheduled }
+}
+
 /// Calls that the ledger of `BILLS` carries out, and ones that it refuses for another cause than 2; with their outputs.
 pub fn calls() -> Vec<(Call, usize)> {
-    let request = |key: u64, consumption: u64, scheduled: u64| {
-        let (code, account, product) = (*b"ZZC40", 123_456_780_019, b'B');
-        let (billing, from) = (20171110, 20171010);
-        Call::Request(Request { code, account, key, product, billing, from, consumption, scheduled })
-    };
-    let calendar = |key: u64, number: u64, holidays: &[u64]| {
-        let (code, account, product) = (*b"ZZC40", 123_456_780_019, b'B');
-        let (billing, from, consumption, scheduled) = (20171110, 20171010, 90, 0);
-        let request = Request { code, account, key, product, billing, from, consumption, scheduled };
-        Call::Calendar { request, number, holidays: holidays.to_vec() }
+    let request =
+        |key: u64, consumption: u64, scheduled: u64| Call::Request(Request { scheduled, ..undated(key, consumption) });
+    let calendar = |key: u64, number: u64, holidays: &[u64]| Call::Calendar {
+        request: undated(key, 90),
+        number,
+        holidays: holidays.to_vec(),
     };
     let sound = words::read(&ledger(&BILLS)).expect("a sound ledger");
     let amounts = Amounts { charge: 4000, applied: 0, owed: 4000, balance: 0 };

@@ -140,12 +140,7 @@ impl Call {
                 let (charge, applied, owed) = ledger.amounts(&text(*account, 12), &text(*key, 4))?;
                 Ok(Answer::Amounts([charge.0, applied.0, owed.0]))
             }
-            Call::LedgerTable => {
-                let table = table::of_ledger(Some(ledger));
-                let place = out.get_mut(..table::LONGEST).ok_or(Cause::OutputTooShort)?;
-                place[..table.len()].copy_from_slice(&table);
-                Ok(Answer::Written(table.len() as u64))
-            }
+            Call::LedgerTable => put_table(ledger, out),
         }
     }
 
@@ -210,6 +205,13 @@ impl fmt::Display for Call {
             other => write!(f, "{other:?}"),
         }
     }
+}
+
+fn put_table(ledger: &Ledger, out: &mut [u8]) -> Result<Answer, Cause> {
+    let table = table::of_ledger(Some(ledger));
+    let place = out.get_mut(..table::LONGEST).ok_or(Cause::OutputTooShort)?;
+    place[..table.len()].copy_from_slice(&table);
+    Ok(Answer::Written(table.len() as u64))
 }
 
 /// A request without its Scheduled Date.

@@ -30,6 +30,10 @@ impl Figures {
         }
     }
 
+    fn three_amounts(&mut self) -> &mut [u64; 3] {
+        self.amounts.lend().first_chunk_mut().expect("three amounts")
+    }
+
     pub fn are_whole(&self) -> bool {
         let lookups = self.place.is_whole() && self.amounts.is_whole() && self.written.is_whole();
         lookups && self.change.is_whole() && self.counts.is_whole() && self.told.is_whole()
@@ -89,9 +93,7 @@ pub fn run(call: &Call, words: &mut [u64], out: &mut [u8], figures: &mut Figures
         }
         Call::Request(request) => clearing::request(words, request, out, change, counts),
         Call::Calendar { request, number, holidays } => {
-            // A look past the list would make tomorrow a holiday.
-            let tomorrow = words.first().and_then(|today| moved(*today, 1)).unwrap_or(u64::MAX);
-            let lent = Lent::new(holidays, tomorrow, 0);
+            let lent = lend_holidays(holidays, words);
             let asked = by_calendar(request, *number);
             let number = clearing::request_by_calendar(words, &asked, lent.inside(), out, change, counts);
             same(&lent, holidays, "holidays", &|at| format!("number {at}"))?;
@@ -110,19 +112,22 @@ pub fn run(call: &Call, words: &mut [u64], out: &mut [u8], figures: &mut Figures
             same(&journal, given_bytes(call), "journal", &|at| format!("byte {at}"))?;
             number
         }
-        Call::LedgerTable => clearing::ledger_table(words, out, &mut figures.written.lend()[0]),
         Call::Cancel { account, key } => clearing::cancel(words, *account, *key, out, change, counts),
         Call::Close { today } => clearing::close(words, *today, change, counts),
+        Call::LedgerTable => clearing::ledger_table(words, out, &mut figures.written.lend()[0]),
         Call::OpenBill { account } => clearing::open_bill(words, *account, &mut figures.place.lend()[0]),
-        Call::Amounts { account, key } => {
-            let amounts = figures.amounts.lend().first_chunk_mut().expect("three amounts");
-            clearing::amounts(words, *account, *key, amounts)
-        }
+        Call::Amounts { account, key } => clearing::amounts(words, *account, *key, figures.three_amounts()),
     };
     if *std::hint::black_box(&given) != *call {
         return Err("an argument lent for reading was changed".into());
     }
     Ok(number)
+}
+
+/// A look past the list would make tomorrow a holiday.
+fn lend_holidays(holidays: &[u64], words: &[u64]) -> Lent<u64> {
+    let tomorrow = words.first().and_then(|today| moved(*today, 1));
+    Lent::new(holidays, tomorrow.unwrap_or(u64::MAX), 0)
 }
 
 fn given_bytes(call: &Call) -> &[u8] {
