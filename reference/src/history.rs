@@ -8,7 +8,7 @@ use std::iter::successors;
 
 use crate::dates::Date;
 
-/// A call after fresh, with its arguments as they stand in a journal.
+/// A call after fresh, with its fields as they stand in a journal.
 #[derive(Clone, Copy, Debug)]
 pub enum Call<'a> {
     Request(&'a [u8; 56]),

@@ -35,8 +35,9 @@ pub fn run(path: &str, arguments: &[impl AsRef<std::ffi::OsStr>], input: &[u8]) 
     Ok(Ran { output, error: error.join().expect("no thread panics"), status })
 }
 
-/// Gives a program arguments that it does not take while standard input stays open; returns what is not as it should be.
-pub fn ask_usage(path: &str, arguments: &[&str]) -> io::Result<Option<String>> {
+/// Gives a program arguments that it does not take while standard input stays open; it must use these words on standard
+/// error. Returns what is not as it should be.
+pub fn ask_usage(path: &str, arguments: &[&str], words: &str) -> io::Result<Option<String>> {
     let (mut input, mut sender) = io::pipe()?;
     sender.write_all(WAITING)?;
     let mut command = Command::new(path);
@@ -51,11 +52,11 @@ pub fn ask_usage(path: &str, arguments: &[&str]) -> io::Result<Option<String>> {
     let mut left = Vec::new();
     input.read_to_end(&mut left)?;
     let [output, error] = [output, error].map(|thread| thread.join().expect("no thread panics"));
-    let good = output.is_empty() && error.contains("standard input") && left == WAITING && status.code().is_some();
+    let good = output.is_empty() && error.contains(words) && left == WAITING && status.code().is_some();
     let found = || {
         format!(
             "({status}): standard output {output:?} (expected none), standard error {error:?} (expected to speak of \
-             `standard input`), {} bytes of standard input read (expected 0)",
+             `{words}`), {} bytes of standard input read (expected 0)",
             WAITING.len() - left.len()
         )
     };

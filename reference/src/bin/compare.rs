@@ -141,7 +141,8 @@ impl Plan {
 fn ask_programs(plan: &Plan) -> Result<(), String> {
     let mut asked = plan.programs().flat_map(|path| ARGUMENTS.map(|argument| (path, argument)));
     asked.try_for_each(|(path, argument)| {
-        let told = ask_usage(path, &[argument]).unwrap_or_else(|error| stop(&format!("{path}: {error}")));
+        let told =
+            ask_usage(path, &[argument], "standard input").unwrap_or_else(|error| stop(&format!("{path}: {error}")));
         told.map_or(Ok(()), |told| Err(format!("{path} {argument} {told}")))
     })
 }

@@ -46,7 +46,7 @@ fn main() {
         _ => stop(USAGE),
     };
     for arguments in ARGUMENTS {
-        let told = ask_usage(path, arguments).unwrap_or_else(|error| stop(&format!("{path}: {error}")));
+        let told = ask_usage(path, arguments, "DATE NUMBER").unwrap_or_else(|error| stop(&format!("{path}: {error}")));
         if let Some(told) = told {
             fail(&format!("USAGE: {path} {} {told}", arguments.join(" ")));
         }
