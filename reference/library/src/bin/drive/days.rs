@@ -12,17 +12,17 @@ use crate::tally::Tally;
 /// Questions of a seed.
 const QUESTIONS: u64 = 60;
 
-pub enum What {
+enum What {
     Weekday,
     Next,
     Further(u64),
 }
 
 /// What is asked of the calendar.
-pub struct Question<'a> {
-    pub what: What,
-    pub date: u64,
-    pub holidays: &'a [u64],
+struct Question<'a> {
+    what: What,
+    date: u64,
+    holidays: &'a [u64],
 }
 
 impl Question<'_> {
@@ -59,17 +59,18 @@ impl Question<'_> {
         arguments.into_iter().filter(|argument| !argument.1).map(|argument| argument.0).collect()
     }
 
-    /// Asks both sides; returns the number, or what differed.
-    pub fn compare(&self, tally: &mut Tally) -> Result<u64, String> {
+    /// Asks both sides; an error tells what differed.
+    fn compare(&self, tally: &mut Tally) -> Result<(), String> {
         let number = self.both(tally.calls()).map_err(|told| {
             let number = if let What::Further(number) = self.what { format!(", number {number}") } else { "".into() };
             format!("{} (date {}{number}, holidays {:?}): {told}", self.name(), self.date, self.holidays)
         })?;
         tally.number(self.name(), number);
         self.count(tally, number);
-        Ok(number)
+        Ok(())
     }
 
+    /// The number that both sides answer.
     fn both(&self, turn: u64) -> Result<u64, String> {
         let answer = self.answer();
         let odd = 0xdead_beef_0000_0000 + turn;

@@ -74,7 +74,7 @@ fn calls_of(journal: &[u8], rng: &mut Prng) -> Vec<Call> {
     calls
 }
 
-/// Before some requests the same by calendar: one of the two is carried out, so that the list goes its way.
+/// Before some requests the same by calendar; if it is refused, the request itself follows, and the list goes its way.
 fn by_calendar(call: &Call, rng: &mut Prng) -> Option<Call> {
     let Call::Request(request) = call else { return None };
     let (number, holidays) = (days::some_number(rng), days::some_holidays(rng, request.scheduled));
