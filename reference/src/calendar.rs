@@ -1,5 +1,5 @@
-//! Business days (document 02, paper 1). A table holds every date in order with its weekday, counted on from 19000101, a
-//! Monday; all else is looked up in it or found by going through it day by day.
+//! Business days (document 02, paper 1). A table holds every date in order with its weekday, counted on from 19000101,
+//! a Monday; all else is looked up in it or found by going through it day by day.
 
 use std::sync::OnceLock;
 

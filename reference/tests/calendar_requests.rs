@@ -1,4 +1,4 @@
-//! Requests that leave their Scheduled Date to the calendar: their causes in order, and ledger and history side by side.
+//! Requests that leave their Scheduled Date to the calendar: their causes in order, ledger and history side by side.
 
 mod common;
 use std::collections::BTreeMap;

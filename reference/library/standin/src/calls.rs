@@ -9,7 +9,7 @@ use reference::{calendar, table, CalendarRequest, Cause, Ledger, Request};
 /// The longest table.
 const TABLE: usize = 10_970;
 
-/// A changing call: the rate code or the file, and the numbers in the header's order (product among them, and holidays).
+/// A changing call: the rate code or the file, and the numbers in the header's order (product and holidays among them).
 pub struct Call<'a> {
     pub name: &'static str,
     pub bytes: &'a [u8],

@@ -23,9 +23,9 @@ Exit status: 0, or 1 if the two sides differ or refuse a call, 2 for a wrong use
 const COUNTED: &str = "\
 Counted on both sides: copying the 2,436 words into the ledger lent, then the call. The library's call works on the
 words; the reference's is words to its ledger (asking if it is sound), the call, and the ledger back to the words.
-A table or notices start from a journal's bytes, the calendar from numbers, and nothing is copied. The bill asked for is
-the last one held. An exact output is as long as the notices, which the library then makes twice; an ample one is as long
-as a journal with such entries may need, so that they are made once.
+A table or notices start from a journal's bytes, the calendar from numbers, and nothing is copied. The bill asked for
+is the last one held. An exact output is as long as the notices, which the library then makes twice; an ample one is as
+long as a journal with such entries may need, so that they are made once.
 The last two lines for each ledger say how much of this is the copy, and how much of the reference's time is words to
 ledger and back: with many bills nearly all of it, so that the ratio there says little of the call itself.
 Before a call is timed both sides make it once: the number must be 0, and words, output and figures the same; each
