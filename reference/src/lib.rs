@@ -1,8 +1,8 @@
 //! The clearing ledger for Bill Ready and Prepay charges, written a second time.
 //!
 //! It is made from document 01 (the contract), document 02 (later requests) and the readings of them, and shares no
-//! code with the proved engine, so that the two can be held against each other. Names are the documents'. It changes its
-//! ledger in place.
+//! code with the proved engine, so that the two can be held against each other. Names are the documents'. It changes
+//! its ledger in place.
 
 pub mod calendar;
 pub mod cause;
