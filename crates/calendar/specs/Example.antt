@@ -1,4 +1,5 @@
--- Business days as examples: "the dated examples in document 002" have their answers three business days on. Assumes nothing.
+-- Business days as examples. Document 002 has the Scheduled Date on "the following third business day": in document 01's example 20171116 for 20171113.
+-- Assumes nothing.
 use mathlib.Core.Path.{_≡_}
 use mathlib.Core.List.{[], _∷_}
 use Rattle.units.specs.Calendar.{dateOf}

@@ -34,5 +34,5 @@ pub record Paper1 : Type 0 where
   pub dated : (l : Ledger) (q : CalendarRequest) (hs : List ℕ) (room : ℕ) → first (scheduleCauses q hs (l .today)) ≡ Clear
       → SameCall l (calendar q hs room) (request (workedOut q hs (l .today)) room)
   pub due : (l : Ledger) (q : CalendarRequest) (hs : List ℕ) (room : ℕ) → called l (calendar q hs room) .answer ≡ answer.Refused 9 → ⊥
-  -- "the dated examples in document 002": three business days on; holidays between; the last date
+  -- the examples: three business days on, as document 002 has it ("the following third business day"); holidays between; the last date
   pub days : ExampleDays
