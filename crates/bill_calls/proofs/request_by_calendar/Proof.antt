@@ -30,7 +30,8 @@ refused-requires c κs = search needs
 
 returns : tie.Need-returns
 returns c =
-    let l = c .before .before .before .before .before .before .before .before .before .args .l in
+    let start = c .before .before .before .before .before .before .before .before .before in
+    let l = start .args .l in
     let unsound = sym (c .before .before .sound .ensures) ∙ not-true _ (c .before .if1 .taken) in
     rw (c .refused .ensures) (stopped-called (stopped l _ 2 (cause-unsound l _ unsound)) _)
 

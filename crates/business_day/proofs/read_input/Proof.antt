@@ -37,7 +37,9 @@ loop-less : tie.Need-loop-less Inv-loop μ-loop
 loop-less c = omega (arith, more (c .before) .0, more (c .before) .1, c .before .before .before .before .before .fill .kept .0)
 
 loop-again : tie.Need-loop-again Inv-loop μ-loop
-loop-again c = (more (c .before) .1, c .before .before .before .before .before .fill .kept .0 ∙ c .before .before .before .before .before .before .before .before .loop .inv .1)
+loop-again c =
+    let top = c .before .before .before .before .before .before .before .before in
+    (more (c .before) .1, c .before .before .before .before .before .fill .kept .0 ∙ top .loop .inv .1)
 
 same-length-2 : tie.Need-same-length-2 Inv-loop μ-loop
 same-length-2 c = c .before .loop .inv .1

@@ -41,7 +41,8 @@ returns : tie.Need-returns
 unfolding dayOf
 returns c =
     let read = c .before .before .before .before .before .read-holidays .ensures in
-    let all = holidaysOf (c .before .before .before .before .before .before .before .before .before .before .args .s .now) in
+    let start = c .before .before .before .before .before .before .before .before .before .before in
+    let all = holidaysOf (start .args .s .now) in
     c .business-day .ensures
     ∙ further-held _ _ all _ (read .0) (read .1) refl _ _
     ∙ ap₂ (furtherDay all) (c .before .before .before .date-in .ensures) (c .before .before .digit-in .ensures)

@@ -30,10 +30,11 @@ same-length c = search needs
 
 returns : tie.Need-returns
 returns c =
-    let a = c .before .before .before .before .before .before .before .before .before .before .before .before .before .args in
+    let at-day = c .before .before .before .before .before .before .before .before .before .before in
+    let a = at-day .before .before .before .args in
     let w1 = first (a .out .now) 0 _ (omega arith) (c .before .before .before .before .before .before .before .put-digits .ensures) (length-digits _ _) in
     let w2 = next w1 _ (c .before .before .put-bytes .ensures) refl in
-    rw (c .before .before .before .before .before .before .before .before .before .before .d .given .1) (sym (w2 .long), w2 .same)
+    rw (at-day .d .given .1) (sym (w2 .long), w2 .same)
 
 same-length-2 : tie.Need-same-length-2
 same-length-2 c = search needs

@@ -23,16 +23,22 @@ put-digits-requires : tie.Need-put-digits-requires
 put-digits-requires c κs = omega (arith, width (c .before .before .before .before .before .before))
 
 add-put-bytes : tie.Need-add-put-bytes
-add-put-bytes c = omega (arith, width (c .before .before .before .before .before .before .before .before .before .before))
+add-put-bytes c =
+    let at-width = c .before .before .before .before .before .before .before .before .before .before in
+    omega (arith, width at-width)
 
 slice-aggregate-put-bytes-2 : tie.Need-slice-aggregate-put-bytes-2
 slice-aggregate-put-bytes-2 c = search needs
 
 put-bytes-requires-2 : tie.Need-put-bytes-requires-2
-put-bytes-requires-2 c κs = omega (arith, width (c .before .before .before .before .before .before .before .before .before .before .before))
+put-bytes-requires-2 c κs =
+    let at-width = c .before .before .before .before .before .before .before .before .before .before .before in
+    omega (arith, width at-width)
 
 add-result : tie.Need-add-result
-add-result c = omega (arith, width (c .before .before .before .before .before .before .before .before .before .before .before .before .before .before))
+add-result c =
+    let at-width = c .before .before .before .before .before .before .before .before .before .before .before .before .before .before in
+    omega (arith, width at-width)
 
 same-length : tie.Need-same-length
 same-length c = search needs
