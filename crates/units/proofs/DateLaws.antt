@@ -1,5 +1,5 @@
 -- What a date's year, month and day are, and what the date after it is. Assumes nothing.
-use Prim.Native.Nat.{ℕ, suc, _≤_, _<_, _^_}
+use Prim.Native.Nat.{ℕ, suc, _+_, _-_, _≤_, _<_, _^_}
 use mathlib.Core.Path.{_≡_, _∙_}
 use mathlib.Core.Bool.{true, false, _&&_}
 use native.Mathlib.Omega.{arith}
@@ -9,8 +9,9 @@ use Rattle.fields.proofs.BoolLaws.{and-left, and-right, cases}
 use Rattle.rules.specs.declared.Found.the-variants.{At}
 use Rattle.rules.proofs.LeastLaws.{up-to-hit, up-to-skip, up-to-found, up-to-before}
 use Rattle.units.specs.Calendar.{year, month, day, monthDays, isDate}
-use Rattle.units.specs.Days.{lastDate, nextDate}
-use Rattle.units.proofs.MonthLaws.{month-some, month-long}
+use Rattle.units.specs.Days.{firstYear, lastDate, daysOfYears, daysOfMonths, dayNumber, nextDate}
+use Rattle.units.proofs.MonthLaws.{month-some, month-long, months-most}
+use Rattle.units.proofs.YearLaws.{years-most}
 
 pub record Parts (d : ℕ) : Type 0 where
   pub from : 1900 ≤ year d
@@ -59,6 +60,17 @@ date-fits d h = omega (arith, date-last d h)
 -- no date is 00000000
 pub date-some : (d : ℕ) → isDate d ≡ true → 0 < d
 date-some d h = omega (arith, date-parts d h .some)
+
+-- the days of the years and months before a date, and the number of a date, are few
+pub days-before : (d : ℕ) → isDate d ≡ true → daysOfYears (year d - firstYear) + daysOfMonths (year d) (month d - 1) < 600000
+days-before d h =
+    let p = date-parts d h in
+    let m = date-month d h in
+    omega (arith, years-most (year d - firstYear) (omega arith), months-most (year d) (month d - 1) (omega arith))
+
+pub number-few : (d : ℕ) → isDate d ≡ true → dayNumber d < 601000
+unfolding dayNumber
+number-few d h = omega (arith, days-before d h, date-day d h)
 
 -- what the date r after d is: none is between them
 pub record Next (d r : ℕ) : Type 0 where

@@ -1,6 +1,8 @@
--- Days counted from 1 January 1900, of which paper 1 of document 02 has its weekday: "the weekday of a date (1 Monday to 7 Sunday)". Assumes nothing.
+-- Days counted from 1 January 1900, of which paper 1 of document 02 has its weekday, "the weekday of a date (1 Monday to 7 Sunday)", and paper 2 its sixty
+-- days; and its twelve months. Assumes nothing.
 use Prim.Native.Nat.{ℕ, zero, suc, _+_, _-_, _%_}
-use mathlib.Core.Bool.{cond}
+use mathlib.Core.Bool.{Bool, cond}
+use lib.Dec.{eqb, ltb}
 use Rattle.rules.specs.declared.Found.{Found}
 use Rattle.rules.specs.Least.{leastUpTo}
 use Rattle.units.specs.Calendar.{year, month, day, isLeap, monthDays, isDate}
@@ -35,3 +37,15 @@ weekday d = dayNumber d % 7 + 1
 -- the date after d
 unfoldable pub nextDate : ℕ → Found
 nextDate d = leastUpTo isDate (suc d) lastDate
+
+-- paper 2 of document 02: "the same day one year past .. (29 February goes to 28)", as yyyymmdd; past 2998 it is no date
+unfoldable pub yearOn : ℕ → ℕ
+yearOn d = cond (eqb (d % 10000) 229) (d + 9999) (d + 10000)
+
+-- d is after that day of the date from
+abbrev pub yearPast : ℕ → ℕ → Bool
+yearPast from d = ltb (yearOn from) d
+
+-- d is more than so many days past the date from
+unfoldable pub daysPast : ℕ → ℕ → ℕ → Bool
+daysPast n from d = ltb (dayNumber from + n) (dayNumber d)

@@ -1,10 +1,11 @@
-// Days counted from 1 January 1900: the number of a date, its weekday, and the date after it.
+// Days counted from 1 January 1900: the number of a date, its weekday, and the date after it; whether a date is a year
+// or so many days past another.
 ghost use mathlib.Core.Path.{_≡_};
 ghost use mathlib.Core.Bool.{true};
 ghost use Prim.Native.Nat.{_-_, _≤_, _<_};
 ghost use Rattle.rules.specs.declared.Found.the-variants.{At};
 ghost use Rattle.units.specs.Calendar.{isDate};
-ghost use Rattle.units.specs.Days.{lastDate, daysOfYears, daysOfMonths, dayNumber, weekday, nextDate};
+ghost use Rattle.units.specs.Days.{lastDate, daysOfYears, daysOfMonths, dayNumber, weekday, nextDate, yearPast, daysPast};
 use crate::Date;
 
 // The days of a year before each of its months, where it is no leap year.
@@ -70,5 +71,25 @@ impl Date {
             return Date(d / 100 * 100 + 101);
         }
         Date(y * 10000 + 10101)
+    }
+
+    // Whether it is after the same day one year past another date, where 29 February goes to 28.
+    pub fn is_year_past(self, from: Date) -> bool
+        requires { ⌜ isDate (from .0) ≡ true ⌝ }
+        ensures { λ r. ⌜ r ≡ yearPast (from .0) (self .0) ⌝ }
+    {
+        let d = from.0;
+        if d % 10000 == 229 {
+            return d + 9999 < self.0;
+        }
+        d + 10000 < self.0
+    }
+
+    // Whether it is more than n days past another date.
+    pub fn is_days_past(self, n: u64, from: Date) -> bool
+        requires { ⌜ (isDate (self .0) ≡ true) × (isDate (from .0) ≡ true) × (n ≤ 1000) ⌝ }
+        ensures { λ r. ⌜ r ≡ daysPast n (from .0) (self .0) ⌝ }
+    {
+        from.number() + n < self.number()
     }
 }

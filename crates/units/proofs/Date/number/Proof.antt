@@ -1,21 +1,9 @@
 -- `units::Date::number` meets its contract: the days of the years and months before, which are few, and of this month.
-use Prim.Native.Nat.{ℕ, _+_, _-_, _<_}
-use mathlib.Core.Path.{_≡_}
-use mathlib.Core.Bool.{true}
 use native.Mathlib.Omega.{arith}
-use Rattle.units.specs.Calendar.{year, month, isDate}
-use Rattle.units.specs.Days.{firstYear, daysOfYears, daysOfMonths, dayNumber}
-use Rattle.units.proofs.DateLaws.{date-parts, date-month}
-use Rattle.units.proofs.MonthLaws.{months-most}
-use Rattle.units.proofs.YearLaws.{years-most}
+use Rattle.units.specs.Days.{dayNumber}
+use Rattle.units.proofs.DateLaws.{date-parts, date-month, days-before}
 use Rattle.units.proofs.Date.number.Statement.{statement}
 use Rattle.units.proofs.Date.number.Tie as tie
-
-few : (d : ℕ) → isDate d ≡ true → daysOfYears (year d - firstYear) + daysOfMonths (year d) (month d - 1) < 600000
-few d h =
-    let p = date-parts d h in
-    let m = date-month d h in
-    omega (arith, years-most (year d - firstYear) (omega arith), months-most (year d) (month d - 1) (omega arith))
 
 days-before-year-requires : tie.Need-days-before-year-requires
 days-before-year-requires c κs = let p = date-parts (c .args .self .0) (c .pre) in (p .from, p .to)
@@ -24,13 +12,13 @@ days-before-month-requires : tie.Need-days-before-month-requires
 days-before-month-requires c κs = date-month (c .before .args .self .0) (c .before .pre)
 
 add-result : tie.Need-add-result
-add-result c = omega (arith, few (c .before .before .args .self .0) (c .before .before .pre))
+add-result c = omega (arith, days-before (c .before .before .args .self .0) (c .before .before .pre))
 
 sub-result : tie.Need-sub-result
 sub-result c = date-parts (c .before .before .args .self .0) (c .before .before .pre) .some
 
 add-result-2 : tie.Need-add-result-2
-add-result-2 c = omega (arith, few (c .before .before .args .self .0) (c .before .before .pre))
+add-result-2 c = omega (arith, days-before (c .before .before .args .self .0) (c .before .before .pre))
 
 returns : tie.Need-returns
 unfolding dayNumber
