@@ -14,6 +14,7 @@ use types.Kit.{Given}
 use denote.RattleType.{RattleType}
 use denote.Laws.{Is, Tells, Makes, Typed}
 use denote.Array.{Array, array-vals, array-tells, array-typed, array-makes}
+use denote.Memory.{mem}
 use denote.Slice.{Room}
 use denote.Struct.Laws as LL
 use Rattle.ledger.specs.declared.Bill.{Bill}
@@ -54,9 +55,9 @@ module _ {M : Type 1} (𝓤 : URA M) (H : Heap 𝓤) (A : Atoms 𝓤) (W : Given
   pub bills-typed : (xs : List Bill) (v : Val) → Is Bills xs (v ∷ []) → Typed (Bills .mir) (v ∷ [])
   bills-typed xs v is = array-typed B.the-row (λ x vs p. LL.lawful B.the-type B′.the-laws 𝓤 H A W .typed x vs p) 128 xs (v ∷ []) is
 
--- the bytes of a Bill in memory
+-- the bytes of a Bill in memory, as the logic has them of its type
 abbrev pub billSize : ℕ
-billSize = 120
+billSize = mem B.the-row .size
 
 some-room : (m n : ℕ) → m ≡ n → n ≤ 128 → (m < 2 ^ 64) × (m * billSize < 2 ^ 63)
 some-room m n e l = (omega (arith, e, l), omega (arith, e, l))

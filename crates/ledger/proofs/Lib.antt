@@ -5,3 +5,4 @@ pub mod LendArray
 pub mod LentBills
 pub mod BillAtLaws
 pub mod ByWalk
+pub mod RemovalLaws

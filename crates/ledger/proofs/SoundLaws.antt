@@ -22,7 +22,7 @@ use Rattle.ledger.specs.declared.Ledger.{Ledger}
 use Rattle.rules.specs.Lists.{every}
 use Rattle.ledger.specs.Bills.{isRateCode, codeBytes, chargeOf, isPrepay, moved}
 use Rattle.ledger.specs.Books.{Book, book, live, smallCharge}
-use Rattle.ledger.specs.Sound.{isNext, termsTests, soundTerms, balanced, soundAmounts, soundBill, holdsId, distinct, bookTests, sound, soundLedger}
+use Rattle.ledger.specs.Sound.{isNext, soundRemoval, termsTests, soundTerms, balanced, soundAmounts, soundBill, holdsId, distinct, bookTests, sound, soundLedger}
 use Rattle.ledger.proofs.BookLaws.{length-live}
 use Rattle.rules.proofs.ListLaws.{all-on, on-all, every-map}
 
@@ -40,6 +40,7 @@ pub record TermsFacts (t : Terms) : Type 0 where
   pub billing : isDate (t .latest .billing .0) ≡ true
   pub from : isDate (t .latest .from .0) ≡ true
   pub scheduled : isDate (t .latest .scheduled .0) ≡ true
+  pub removal : soundRemoval (t .removal) ≡ true
 
 pub terms-facts : (t : Terms) → soundTerms t ≡ true → TermsFacts t
 unfolding termsTests
@@ -58,6 +59,7 @@ terms-facts t h =
       billing = o .1 .1 .1 .1 .1 .1 .1 .1 .1 .0;
       from = o .1 .1 .1 .1 .1 .1 .1 .1 .1 .1 .0;
       scheduled = o .1 .1 .1 .1 .1 .1 .1 .1 .1 .1 .1 .0;
+      removal = o .1 .1 .1 .1 .1 .1 .1 .1 .1 .1 .1 .1 .0;
     }
 
 pub facts-terms : (t : Terms) → TermsFacts t → soundTerms t ≡ true
@@ -75,7 +77,7 @@ facts-terms t f =
               le-leb _ _ (f .requests),
               (
                 le-leb _ _ (f .sequence),
-                (le-leb _ _ (f .from-one), (le-leb _ _ (f .tracking), (lt-ltb _ _ (f .consumption), (f .billing, (f .from, (f .scheduled, tt)))))),
+                (le-leb _ _ (f .from-one), (le-leb _ _ (f .tracking), (lt-ltb _ _ (f .consumption), (f .billing, (f .from, (f .scheduled, (f .removal, tt))))))),
               ),
             ),
           ),
@@ -85,7 +87,7 @@ facts-terms t f =
 
 -- terms that move, with the latest request of sound ones
 pub moved-facts : (t u : Terms) (sequence requests : ℕ) (cancelled : Bool) → TermsFacts t → TermsFacts u → 1 ≤ requests → requests ≤ sequence → sequence ≤ 999
-    → TermsFacts (moved sequence requests cancelled (u .latest) t)
+    → TermsFacts (moved sequence requests cancelled (u .latest) (t .removal) t)
 moved-facts t u sequence requests cancelled f g a b c = search needs
 
 -- applied plus owed is the charge, which is in its width

@@ -14,6 +14,8 @@ use Rattle.ledger.specs.declared.Product.the-variants as product
 use Rattle.ledger.specs.declared.Posted.{Posted}
 use Rattle.ledger.specs.declared.Posted.the-variants as posted
 use Rattle.ledger.specs.declared.Latest.{Latest}
+use Rattle.ledger.specs.declared.Removal.{Removal}
+use Rattle.ledger.specs.declared.Removal.the-variants.{Never, On}
 use Rattle.ledger.specs.declared.Terms.{Terms}
 use Rattle.ledger.specs.declared.Bill.{Bill}
 use Rattle.ledger.specs.declared.State.{State}
@@ -23,6 +25,10 @@ use Rattle.ledger.specs.declared.State.the-variants.{Open, Issued, Cance
 -- "A bill is identified by Customer Account Number (12 digits) and Bill Key (4).": the bill has this identity
 abbrev pub isOf : Identity → Terms → Bool
 isOf id t = eqb (t .identity .account) (id .account) && eqb (t .identity .key) (id .key)
+
+-- the bill is of this account
+abbrev pub isOfAccount : ℕ → Terms → Bool
+isOfAccount account t = eqb (t .identity .account) account
 
 abbrev pub isLetter : ℕ → Bool
 isLetter x = leb 65 x && leb x 90
@@ -84,9 +90,9 @@ owedOf (posted.BillReady charge) = charge
 owedOf (posted.Prepay charge applied owed) = owed
 
 -- ---- how it changes
--- terms with this sequence, count of requests, mark and latest request
-abbrev pub moved : ℕ → ℕ → Bool → Latest → Terms → Terms
-moved sequence requests cancelled latest t =
+-- terms with this sequence, count of requests, mark, latest request and removal date: whatever changes a bill's terms says so by this
+abbrev pub moved : ℕ → ℕ → Bool → Latest → Removal → Terms → Terms
+moved sequence requests cancelled latest removal t =
     record {
       identity = t .identity;
       code = t .code;
@@ -95,32 +101,59 @@ moved sequence requests cancelled latest t =
       requests = requests;
       cancelled = cancelled;
       latest = latest;
+      removal = removal;
     }
 
--- "A new identity is added with sequence and count 1."
+-- "A new identity is added with sequence and count 1." Paper 2 of document 02: "A bill record gains a removal date, empty until a removal call sets it"
 abbrev pub firstBill : Identity → RateCode → Product → Latest → Bill
 firstBill id code p latest =
     record {
-      terms = record { identity = id; code = code; product = p; sequence = 1; requests = 1; cancelled = false; latest = latest };
+      terms =
+          record {
+            identity = id;
+            code = code;
+            product = p;
+            sequence = 1;
+            requests = 1;
+            cancelled = false;
+            latest = latest;
+            removal = Never;
+          };
       posted = posted.None;
     }
 
 -- "A known one takes the new values, sequence and count each rising by 1; posted amounts stay."
 abbrev pub renewed : Latest → Bill → Bill
 renewed latest b =
-    record { terms = moved (b .terms .sequence + 1) (b .terms .requests + 1) (b .terms .cancelled) latest (b .terms); posted = b .posted }
+    record {
+      terms = moved (b .terms .sequence + 1) (b .terms .requests + 1) (b .terms .cancelled) latest (b .terms .removal) (b .terms);
+      posted = b .posted;
+    }
 
 -- "The group's amounts replace the posted ones; a SUP also raises the sequence by 1"
 abbrev pub posting : Posted → Bool → Bill → Bill
 posting amounts sup b =
     record {
-      terms = moved (cond sup (b .terms .sequence + 1) (b .terms .sequence)) (b .terms .requests) (b .terms .cancelled) (b .terms .latest) (b .terms);
+      terms =
+          moved (cond sup (b .terms .sequence + 1) (b .terms .sequence)) (b .terms .requests) (b .terms .cancelled) (b .terms .latest)
+          (b .terms .removal) (b .terms);
       posted = amounts;
     }
 
 -- Cancel: "marks the bill, its posted amounts become none"
 abbrev pub cancelledBill : Bill → Bill
-cancelledBill b = record { terms = moved (b .terms .sequence) (b .terms .requests) true (b .terms .latest) (b .terms); posted = posted.None }
+cancelledBill b =
+    record {
+      terms = moved (b .terms .sequence) (b .terms .requests) true (b .terms .latest) (b .terms .removal) (b .terms);
+      posted = posted.None;
+    }
+
+-- paper 2 of document 02: "a removal call sets it .., replacing any earlier one"
+abbrev pub removedTerms : Date → Terms → Terms
+removedTerms date t = moved (t .sequence) (t .requests) (t .cancelled) (t .latest) (On date) t
+
+abbrev pub removedBill : Date → Bill → Bill
+removedBill date b = record { terms = removedTerms date (b .terms); posted = b .posted }
 
 -- what stands in a place that no bill was put in yet
 abbrev pub blankBill : Bill
@@ -142,6 +175,7 @@ blankBill =
                   from = record { 0 = 0 };
                   scheduled = record { 0 = 0 };
                 };
+            removal = Never;
           };
       posted = posted.None;
     }

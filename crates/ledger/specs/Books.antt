@@ -1,7 +1,7 @@
 -- The ledger as a book: "today, the next Tracking ID, the next Confirmation Number .. and up to 128 bills in order of first request".
 -- Assumes nothing.
 use Prim.Native.Nat.{ℕ, _+_}
-use mathlib.Core.Bool.{Bool}
+use mathlib.Core.Bool.{Bool, cond}
 use mathlib.Core.List.{List, map, _++_}
 use lib.ListN.{length, take, drop, replicate}
 use Rattle.units.specs.declared.Date.{Date}
@@ -13,7 +13,7 @@ use Rattle.ledger.specs.declared.Ledger.{Ledger}
 use Rattle.ledger.specs.declared.LedgerHeader.{LedgerHeader}
 use Rattle.rules.specs.declared.Found.{Found}
 use Rattle.rules.specs.Lists.{sum, find}
-use Rattle.ledger.specs.Bills.{isOf, chargeOf, blankBill}
+use Rattle.ledger.specs.Bills.{isOf, isOfAccount, chargeOf, removedBill, blankBill}
 use Rattle.ledger.specs.Limits.{ledgerPlaces}
 
 -- what document 01 calls a ledger
@@ -64,6 +64,14 @@ stored l k =
 -- a bill has this identity
 abbrev pub ofId : Identity → Bill → Bool
 ofId id b = isOf id (b .terms)
+
+-- a bill is of this account
+abbrev pub ofAccount : ℕ → Bill → Bool
+ofAccount account b = isOfAccount account (b .terms)
+
+-- paper 2 of document 02: "a removal call sets it on all bills of an account, replacing any earlier one"
+abbrev pub removedOf : ℕ → Date → Bill → Bill
+removedOf account date b = cond (ofAccount account b) (removedBill date b) b
 
 -- the place of the bill with this identity
 abbrev pub placeOf : Identity → List Bill → Found

@@ -13,6 +13,8 @@ use Rattle.units.specs.Calendar.{isDate}
 use Rattle.ledger.specs.declared.Identity.{Identity}
 use Rattle.ledger.specs.declared.Posted.{Posted}
 use Rattle.ledger.specs.declared.Posted.the-variants as posted
+use Rattle.ledger.specs.declared.Removal.{Removal}
+use Rattle.ledger.specs.declared.Removal.the-variants.{Never, On}
 use Rattle.ledger.specs.declared.Terms.{Terms}
 use Rattle.ledger.specs.declared.Bill.{Bill}
 use Rattle.ledger.specs.declared.Ledger.{Ledger}
@@ -24,6 +26,11 @@ use Rattle.ledger.specs.Limits.{ledgerPlaces, lastSequence, lastNumber, 
 -- a next number: "1 to 999,999,999; 1,000,000,000 when used up"
 abbrev pub isNext : ℕ → Bool
 isNext n = leb 1 n && leb n usedUp
+
+-- "dates are dates": the removal date of paper 2 of document 02, if it is not empty
+abbrev pub soundRemoval : Removal → Bool
+soundRemoval Never = true
+soundRemoval (On d) = isDate (d .0)
 
 -- a bill's fields but its posted amounts: widths, ranges and dates
 unfoldable pub termsTests : Terms → List Bool
@@ -40,6 +47,7 @@ termsTests t =
     ∷ isDate (t .latest .billing .0)
     ∷ isDate (t .latest .from .0)
     ∷ isDate (t .latest .scheduled .0)
+    ∷ soundRemoval (t .removal)
     ∷ []
 
 abbrev pub soundTerms : Terms → Bool

@@ -1,10 +1,11 @@
-// One bill: its rate code written, what its amounts count for, its state, and how a request, a posting and a cancel
-// change it.
+// One bill: its rate code written, what its amounts count for, its state, and how a request, a posting, a cancel and a
+// removal change it.
 ghost use mathlib.Core.Path.{_≡_};
 ghost use Prim.Native.Nat.{_+_, _<_, _≤_};
 ghost use lib.ListN.{length};
 ghost use Rattle.fields.specs.Put.{put};
-ghost use Rattle.ledger.specs.Bills.{codeBytes, isPrepay, productByte, chargeOf, appliedOf, owedOf, isOf, isOpen, stateOf, blankBill, firstBill, renewed, posting, cancelledBill};
+ghost use Rattle.ledger.specs.Bills.{codeBytes, isPrepay, productByte, chargeOf, appliedOf, owedOf, isOf, isOpen, stateOf, blankBill, firstBill, renewed, posting, cancelledBill, isOfAccount, removedTerms, removedBill};
+ghost use Rattle.ledger.specs.Books.{removedOf};
 ghost use Rattle.ledger.specs.Limits.{lastSequence};
 use crate::Bill;
 use crate::Identity;
@@ -12,6 +13,7 @@ use crate::Latest;
 use crate::Posted;
 use crate::Product;
 use crate::RateCode;
+use crate::Removal;
 use crate::State;
 use crate::Terms;
 use units::Ccf;
@@ -87,6 +89,12 @@ impl Terms {
         (self.identity.account == id.account) & (self.identity.key == id.key)
     }
 
+    pub fn is_of_account(self, account: u64) -> bool
+        ensures { λ r. ⌜ r ≡ isOfAccount account self ⌝ }
+    {
+        self.identity.account == account
+    }
+
     pub fn is_open(self, today: Date) -> bool
         ensures { λ r. ⌜ r ≡ isOpen today self ⌝ }
     {
@@ -104,6 +112,26 @@ impl Terms {
             return State::Open;
         }
         State::Issued
+    }
+
+    // The terms with this removal date in the place of any earlier one.
+    fn removed(self, date: Date) -> Terms
+        ensures { λ r. ⌜ r ≡ removedTerms date self ⌝ }
+    {
+        let identity = self.identity;
+        let code = self.code;
+        let product = self.product;
+        let latest = self.latest;
+        Terms {
+            identity,
+            code,
+            product,
+            sequence: self.sequence,
+            requests: self.requests,
+            cancelled: self.cancelled,
+            latest,
+            removal: Removal::On(date),
+        }
     }
 }
 
@@ -133,6 +161,7 @@ impl Bill {
                     from: zero,
                     scheduled: zero,
                 },
+                removal: Removal::Never,
             },
             posted: Posted::None,
         }
@@ -151,6 +180,7 @@ impl Bill {
                 requests: 1,
                 cancelled: false,
                 latest,
+                removal: Removal::Never,
             },
             posted: Posted::None,
         }
@@ -195,5 +225,26 @@ impl Bill {
             terms,
             posted: Posted::None,
         }
+    }
+
+    // The bill with this removal date in the place of any earlier one.
+    fn remove(self, date: Date) -> Bill
+        ensures { λ r. ⌜ r ≡ removedBill date self ⌝ }
+    {
+        let old = self.terms;
+        let terms = old.removed(date);
+        let posted = self.posted;
+        Bill { terms, posted }
+    }
+
+    // The same if it is of this account; else the bill as it is.
+    pub fn remove_if_of(self, account: u64, date: Date) -> Bill
+        ensures { λ r. ⌜ r ≡ removedOf account date self ⌝ }
+    {
+        let terms = self.terms;
+        if terms.is_of_account(account) {
+            return self.remove(date);
+        }
+        self
     }
 }

@@ -49,6 +49,12 @@ pub enum Posted {
     },
 }
 
+// When a bill's account was removed, if it was: paper 2 of document 02.
+pub enum Removal {
+    Never,
+    On(Date),
+}
+
 // What a bill has from its latest request.
 pub struct Latest {
     pub tracking: u64,
@@ -67,6 +73,7 @@ pub struct Terms {
     pub requests: u64,
     pub cancelled: bool,
     pub latest: Latest,
+    pub removal: Removal,
 }
 
 pub struct Bill {

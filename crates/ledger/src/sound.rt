@@ -1,10 +1,11 @@
 // When the parts of a ledger are sound. The tests are strict (`&`), in the order of the definition.
 ghost use mathlib.Core.Path.{_≡_};
 ghost use Rattle.ledger.specs.Bills.{isLetter, isRateCode, codeBytes};
-ghost use Rattle.ledger.specs.Sound.{isNext, soundTerms, balanced, soundAmounts, soundBill};
+ghost use Rattle.ledger.specs.Sound.{isNext, soundRemoval, soundTerms, balanced, soundAmounts, soundBill};
 use crate::Bill;
 use crate::Posted;
 use crate::RateCode;
+use crate::Removal;
 use crate::Terms;
 use units::Cents;
 
@@ -33,6 +34,18 @@ pub fn is_next(n: u64) -> bool
     (1 <= n) & (n <= crate::USED_UP)
 }
 
+impl Removal {
+    // Whether it is empty or a date.
+    pub fn sound(self) -> bool
+        ensures { λ r. ⌜ r ≡ soundRemoval self ⌝ }
+    {
+        match self {
+            Removal::Never => true,
+            Removal::On(d) => d.valid(),
+        }
+    }
+}
+
 impl Terms {
     // Whether every field but the posted amounts is in its width and range.
     pub fn sound(self) -> bool
@@ -41,6 +54,7 @@ impl Terms {
         let id = self.identity;
         let code = self.code;
         let latest = self.latest;
+        let removal = self.removal;
         (id.account < 1000000000000)
             & (id.key < 10000)
             & code.valid()
@@ -53,6 +67,7 @@ impl Terms {
             & latest.billing.valid()
             & latest.from.valid()
             & latest.scheduled.valid()
+            & removal.sound()
     }
 }
 

@@ -1,8 +1,10 @@
 -- A ledger's header and the bills at its places, and the struct after a change of one place. Assumes nothing.
-use Prim.Native.Nat.{ℕ, _+_}
+use Prim.Native.Nat.{ℕ, zero, suc, _+_}
 use mathlib.Core.Bool.{cond}
+use mathlib.Core.List.{List, [], _∷_}
 use lib.Dec.{ltb}
 use lib.ListN.{getD, set}
+use Rattle.units.specs.declared.Date.{Date}
 use Rattle.ledger.specs.declared.Bill.{Bill}
 use Rattle.ledger.specs.declared.Ledger.{Ledger}
 use Rattle.ledger.specs.declared.LedgerHeader.{LedgerHeader}
@@ -10,7 +12,7 @@ use Rattle.ledger.specs.declared.Update.{Update}
 use Rattle.rules.specs.declared.Found.{Found}
 use Rattle.rules.specs.declared.Found.the-variants.{At, Nothing}
 use Rattle.ledger.specs.Bills.{blankBill}
-use Rattle.ledger.specs.Books.{withBills}
+use Rattle.ledger.specs.Books.{withBills, removedOf}
 use Rattle.ledger.specs.Limits.{ledgerPlaces}
 
 -- the bill at a place of the struct
@@ -46,3 +48,13 @@ within i = cond (ltb i ledgerPlaces) i 127
 abbrev pub placeFor : Found → ℕ → ℕ
 placeFor (At p) count = within p
 placeFor Nothing count = within count
+
+-- with f applied to each of the first n bills
+abbrev pub mapFirst : (Bill → Bill) → ℕ → List Bill → List Bill
+mapFirst f zero bs = bs
+mapFirst f (suc n) [] = []
+mapFirst f (suc n) (b ∷ bs) = f b ∷ mapFirst f n bs
+
+-- with this removal date on those of the first n bills that are of the account
+abbrev pub removedFirst : ℕ → ℕ → Date → Ledger → Ledger
+removedFirst n account date l = withBills (headerOf l) (mapFirst (removedOf account date) n (l .bills))

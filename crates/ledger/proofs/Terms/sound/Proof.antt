@@ -22,18 +22,22 @@ valid-requires-3 c κs = search needs
 valid-requires-4 : tie.Need-valid-requires-4
 valid-requires-4 c κs = search needs
 
+sound-requires : tie.Need-sound-requires
+sound-requires c κs = search needs
+
 returns : tie.Need-returns
 unfolding termsTests
 returns c =
-    let at-valid = c .before .before .before .before .before .before .before .before .before in
+    let at-valid = c .before .before .before .before .before .before .before .before .before .before in
     let start = at-valid .before .before .before .before .before .before in
     let t = start .args .self in
     rw (
       at-valid .valid .ensures,
-      c .before .before .before .fits2 .ensures,
-      c .before .before .valid2 .ensures,
-      c .before .valid3 .ensures,
-      c .valid4 .ensures,
+      c .before .before .before .before .fits2 .ensures,
+      c .before .before .before .valid2 .ensures,
+      c .before .before .valid3 .ensures,
+      c .before .valid4 .ensures,
+      c .sound .ensures,
     )
     (all-joined (fits 12 (t .identity .account)) (drop 1 (termsTests t)))
 
@@ -46,4 +50,5 @@ sound-spec =
     valid-requires-2
     valid-requires-3
     valid-requires-4
+    sound-requires
     returns)
