@@ -19,14 +19,13 @@ use Rattle.ledger.specs.declared.Ledger.{Ledger}
 use Rattle.ledger.specs.declared.LedgerHeader.{LedgerHeader}
 use Rattle.rules.specs.Lists.{every}
 use Rattle.ledger.specs.Bills.{blankBill}
-use Rattle.ledger.specs.Books.{ofId}
+use Rattle.ledger.specs.Books.{ofId, ofAccount}
 use Rattle.ledger.specs.parts.Places.{billAt, headerOf, replaced, withHeader}
 use Rattle.ledger.proofs.Bill.{the-row}
-use Rattle.words.specs.Layout.{billWords, billsWords, headWords, ledgerWords, holdsCode, holdsBill, holdsBills, holdsLedger, codeIn, termsIn, billIn, billsIn, ledgerIn, ledgerOf, byteCode}
+use Rattle.words.specs.Layout.{placeSize, ledgerSize, billWords, billsWords, headWords, ledgerWords, holdsCode, holdsBill, holdsBills, holdsLedger, removalIn, codeIn, termsIn, billIn, billsIn, ledgerIn, ledgerOf, byteCode, removalSaid, billSaid}
 use Rattle.units.specs.Calendar.{dateOf}
-use Rattle.words.proofs.WordLaws.{length-bill, words-long, words-bills, of-words, words-ledger, holds-words, ledger-words}
+use Rattle.words.proofs.WordLaws.{four-bytes, removal-read, length-bill, words-long, words-bills, of-words, words-ledger, holds-words, ledger-words}
 use Rattle.words.proofs.WordPlaceLaws.{place-at, next-place}
-use Rattle.words.proofs.ToldLaws.{four-bytes}
 
 -- ---- lists
 getD-drop : (ws : List ℕ) (n i : ℕ) → getD (drop n ws) i 0 ≡ getD ws (n + i) 0
@@ -52,42 +51,42 @@ put-start : (xs ws ys : List ℕ) → length ys ≡ length xs → put (xs ++ ws)
 unfolding put
 put-start xs ws ys e = ap (λ (l : List ℕ). ys ++ l) (drop-at xs ws (0 + length ys) (omega arith))
 
-put-bills : (bs : List Bill) (p : ℕ) (b : Bill) → p < length bs → put (billsWords bs) (19 * p) (billWords b) ≡ billsWords (set bs p b)
+put-bills : (bs : List Bill) (p : ℕ) (b : Bill) → p < length bs → put (billsWords bs) (placeSize * p) (billWords b) ≡ billsWords (set bs p b)
 unfolding billsWords
 put-bills [] p b h = absurd (omega arith)
 put-bills (x ∷ bs) zero b h = put-start (billWords x) (billsWords bs) (billWords b) (length-bill b ∙ sym (length-bill x))
 put-bills (x ∷ bs) (suc p) b h =
-    let e : 19 * suc p ≡ length (billWords x) + 19 * p = omega (arith, length-bill x) in
-    rw e (put-past (billWords x) (billsWords bs) (19 * p) (billWords b) ∙ ap (λ (l : List ℕ). billWords x ++ l) (put-bills bs p b (omega arith)))
+    let e : placeSize * suc p ≡ length (billWords x) + placeSize * p = omega (arith, length-bill x) in
+    rw e (put-past (billWords x) (billsWords bs) (placeSize * p) (billWords b) ∙ ap (λ (l : List ℕ). billWords x ++ l) (put-bills bs p b (omega arith)))
 
 -- a place's words put are those of the ledger with the bill replaced
-pub put-place : (l : Ledger) (p : ℕ) (b : Bill) → p < length (l .bills) → put (ledgerWords l) (4 + 19 * p) (billWords b) ≡ ledgerWords (replaced l p b)
+pub put-place : (l : Ledger) (p : ℕ) (b : Bill) → p < length (l .bills) → put (ledgerWords l) (4 + placeSize * p) (billWords b) ≡ ledgerWords (replaced l p b)
 unfolding ledgerWords headWords
 put-place l p b h =
-    put-past (headWords l) (billsWords (l .bills)) (19 * p) (billWords b) ∙ ap (λ (ws : List ℕ). headWords l ++ ws) (put-bills (l .bills) p b h)
+    put-past (headWords l) (billsWords (l .bills)) (placeSize * p) (billWords b) ∙ ap (λ (ws : List ℕ). headWords l ++ ws) (put-bills (l .bills) p b h)
 
 -- ---- what the words' places hold
 length-in : (n : ℕ) (ws : List ℕ) → length (billsIn n ws) ≡ n
 unfolding billsIn
 length-in zero ws = refl
-length-in (suc n) ws = ap suc (length-in n (drop 19 ws))
+length-in (suc n) ws = ap suc (length-in n (drop placeSize ws))
 
-in-at : (n : ℕ) (ws : List ℕ) (i : ℕ) (d : Bill) → i < n → getD (billsIn n ws) i d ≡ billIn (drop (19 * i) ws)
+in-at : (n : ℕ) (ws : List ℕ) (i : ℕ) (d : Bill) → i < n → getD (billsIn n ws) i d ≡ billIn (drop (placeSize * i) ws)
 unfolding billsIn
 in-at zero ws i d h = absurd (not-suc-le-zero h)
 in-at (suc n) ws zero d h = refl
-in-at (suc n) ws (suc i) d h = in-at n (drop 19 ws) i d (le-of-suc-le-suc h) ∙ ap billIn (next-place ws i)
+in-at (suc n) ws (suc i) d h = in-at n (drop placeSize ws) i d (le-of-suc-le-suc h) ∙ ap billIn (next-place ws i)
 
-bytes-in : (ws : List ℕ) → holdsBill ws ≡ true → byteCode (billIn ws) ≡ true
+said-in : (ws : List ℕ) → holdsBill ws ≡ true → billSaid (billIn ws) ≡ true
 unfolding holdsBill billIn termsIn codeIn
-bytes-in ws h = and-left (holdsCode (getD ws 2 0) (getD ws 3 0) (getD ws 4 0) (getD ws 5 0)) _ h
+said-in ws h = rw (and-left (holdsCode (getD ws 2 0) (getD ws 3 0) (getD ws 4 0) (getD ws 5 0)) _ h) (removal-read (getD ws 19 0))
 
-all-bytes : (n : ℕ) (ws : List ℕ) → holdsBills n ws ≡ true → every byteCode (billsIn n ws) ≡ true
+all-said : (n : ℕ) (ws : List ℕ) → holdsBills n ws ≡ true → every billSaid (billsIn n ws) ≡ true
 unfolding holdsBills billsIn
-all-bytes zero ws h = refl
-all-bytes (suc n) ws h =
-    rw (bytes-in ws (and-left (holdsBill ws) (holdsBills n (drop 19 ws)) h))
-    (all-bytes n (drop 19 ws) (and-right (holdsBill ws) (holdsBills n (drop 19 ws)) h))
+all-said zero ws h = refl
+all-said (suc n) ws h =
+    rw (said-in ws (and-left (holdsBill ws) (holdsBills n (drop placeSize ws)) h))
+    (all-said n (drop placeSize ws) (and-right (holdsBill ws) (holdsBills n (drop placeSize ws)) h))
 
 -- what a function is told of a bill says that its code is bytes
 pub told-code : (b : Bill) (vs : List Val) → Is the-row b vs → byteCode b ≡ true
@@ -101,9 +100,9 @@ module _ (ws : List ℕ) (h : holdsLedger ws ≡ true) where
   unfolding ledgerIn
   places-of = ap (λ (l : Ledger). length (l .bills)) (of-words ws h) ∙ length-in 128 (drop 4 ws)
 
-  bytes-of : every byteCode (ledgerOf ws .bills) ≡ true
+  said-of : every billSaid (ledgerOf ws .bills) ≡ true
   unfolding ledgerIn
-  bytes-of = ap (λ (l : Ledger). every byteCode (l .bills)) (of-words ws h) ∙ all-bytes 128 (drop 4 ws) (words-bills ws h)
+  said-of = ap (λ (l : Ledger). every billSaid (l .bills)) (of-words ws h) ∙ all-said 128 (drop 4 ws) (words-bills ws h)
 
   -- the header
   pub header-of : headerOf (ledgerOf ws) ≡ record { today = dateOf (getD ws 0 0); tracking = getD ws 1 0; confirmation = getD ws 2 0; count = getD ws 3 0 }
@@ -111,41 +110,51 @@ module _ (ws : List ℕ) (h : holdsLedger ws ≡ true) where
   header-of = ap headerOf (of-words ws h)
 
   -- the bill at a place
-  pub bill-of : (p : ℕ) → p < 128 → billIn (drop (4 + 19 * p) ws) ≡ billAt (ledgerOf ws) p
+  pub bill-of : (p : ℕ) → p < 128 → billIn (drop (4 + placeSize * p) ws) ≡ billAt (ledgerOf ws) p
   unfolding ledgerIn
   bill-of p k =
       sym (ap (λ (l : Ledger). billAt l p) (of-words ws h) ∙ in-at 128 (drop 4 ws) p blankBill k ∙ ap billIn (place-at ws p))
 
-  -- the words of another struct of 128 places whose codes are bytes
-  holds-as : (us : List ℕ) (l : Ledger) → length (l .bills) ≡ 128 → every byteCode (l .bills) ≡ true → us ≡ ledgerWords l
+  -- its removal date is said by its word
+  pub removal-said : (p : ℕ) → p < 128 → removalSaid (billAt (ledgerOf ws) p .terms .removal) ≡ true
+  unfolding billIn termsIn
+  removal-said p k =
+      ap (λ (b : Bill). removalSaid (b .terms .removal)) (sym (bill-of p k)) ∙ removal-read (getD (drop (4 + placeSize * p) ws) 19 0)
+
+  -- the words of another struct of 128 places whose bills are said by words
+  holds-as : (us : List ℕ) (l : Ledger) → length (l .bills) ≡ 128 → every billSaid (l .bills) ≡ true → us ≡ ledgerWords l
       → (holdsLedger us ≡ true) × (ledgerOf us ≡ l)
   holds-as us l k b e = (ap holdsLedger e ∙ holds-words l k b, ap ledgerOf e ∙ ledger-words l k b)
 
-  pub bill-put : (p : ℕ) (b : Bill) (us : List ℕ) → p < 128 → byteCode b ≡ true → us ≡ put ws (4 + 19 * p) (billWords b)
+  pub bill-put : (p : ℕ) (b : Bill) (us : List ℕ) → p < 128 → billSaid b ≡ true → us ≡ put ws (4 + placeSize * p) (billWords b)
       → (holdsLedger us ≡ true) × (ledgerOf us ≡ replaced (ledgerOf ws) p b)
   bill-put p b us k c e =
       let l : Ledger = ledgerOf ws in
-      holds-as us (replaced l p b) (length-set (l .bills) p b ∙ places-of) (every-set byteCode (l .bills) p b bytes-of c)
-      (e ∙ ap (λ (xs : List ℕ). put xs (4 + 19 * p) (billWords b)) (sym (words-ledger ws h)) ∙ put-place l p b (omega (arith, places-of)))
+      holds-as us (replaced l p b) (length-set (l .bills) p b ∙ places-of) (every-set billSaid (l .bills) p b said-of c)
+      (e ∙ ap (λ (xs : List ℕ). put xs (4 + placeSize * p) (billWords b)) (sym (words-ledger ws h)) ∙ put-place l p b (omega (arith, places-of)))
 
   -- the identity at a place
   pub same-of : (id : Identity) (p : ℕ) → p < 128
-      → ofId id (billAt (ledgerOf ws) p) ≡ (eqb (getD ws (4 + 19 * p) 0) (id .account) && eqb (getD ws (4 + 19 * p + 1) 0) (id .key))
+      → ofId id (billAt (ledgerOf ws) p) ≡ (eqb (getD ws (4 + placeSize * p) 0) (id .account) && eqb (getD ws (4 + placeSize * p + 1) 0) (id .key))
   unfolding billIn termsIn
   same-of id p k =
       ap (ofId id) (sym (bill-of p k))
       ∙ ap₂ (λ (x y : ℕ). eqb x (id .account) && eqb y (id .key))
-      (getD-drop ws (4 + 19 * p) 0 ∙ ap (λ (i : ℕ). getD ws i 0) (omega arith))
-      (getD-drop ws (4 + 19 * p) 1)
+      (getD-drop ws (4 + placeSize * p) 0 ∙ ap (λ (i : ℕ). getD ws i 0) (omega arith))
+      (getD-drop ws (4 + placeSize * p) 1)
 
   pub identity-of : (p : ℕ) → p < 128
-      → record { account = getD ws (4 + 19 * p) 0; key = getD ws (4 + 19 * p + 1) 0 } ≡ billAt (ledgerOf ws) p .terms .identity
+      → record { account = getD ws (4 + placeSize * p) 0; key = getD ws (4 + placeSize * p + 1) 0 } ≡ billAt (ledgerOf ws) p .terms .identity
   unfolding billIn termsIn
   identity-of p k =
       ap₂ (λ (x y : ℕ). record { account = x; key = y })
-      (ap (λ (i : ℕ). getD ws i 0) (omega arith) ∙ sym (getD-drop ws (4 + 19 * p) 0))
-      (sym (getD-drop ws (4 + 19 * p) 1))
+      (ap (λ (i : ℕ). getD ws i 0) (omega arith) ∙ sym (getD-drop ws (4 + placeSize * p) 0))
+      (sym (getD-drop ws (4 + placeSize * p) 1))
       ∙ ap (λ (b : Bill). b .terms .identity) (bill-of p k)
+
+  -- the account at a place
+  pub account-of : (account p : ℕ) → p < 128 → ofAccount account (billAt (ledgerOf ws) p) ≡ eqb (getD ws (4 + placeSize * p) 0) account
+  account-of account p k = ap (λ (id : Identity). eqb (id .account) account) (sym (identity-of p k))
 
 -- the four words of the header, stored one by one
 four-stored : (ws : List ℕ) (a b c d : ℕ) → 4 ≤ length ws → set (set (set (set ws 0 a) 1 b) 2 c) 3 d ≡ a ∷ b ∷ c ∷ d ∷ drop 4 ws
@@ -162,8 +171,8 @@ module _ (ws : List ℕ) (h : holdsLedger ws ≡ true) (t : LedgerHeader) where
   headed-holds : holdsLedger headed ≡ true
   unfolding holdsLedger
   headed-holds =
-      let e : length headed ≡ 2436 = omega (arith, length-drop 4 ws, words-long ws h) in
-      rw (eq-eqb (length headed) 2436 e) (words-bills ws h)
+      let e : length headed ≡ ledgerSize = omega (arith, length-drop 4 ws, words-long ws h) in
+      rw (eq-eqb (length headed) ledgerSize e) (words-bills ws h)
 
   headed-is : ledgerOf headed ≡ withHeader (ledgerOf ws) t
   unfolding ledgerIn

@@ -6,7 +6,7 @@ ghost use lib.ListN.{take};
 ghost use Rattle.rules.specs.Lists.{every, find};
 ghost use Rattle.ledger.specs.Books.{ofId, smallCharge, totalOf};
 ghost use Rattle.ledger.specs.parts.Places.{billAt, headerOf, replaced, updated, withHeader};
-ghost use Rattle.words.specs.Layout.{holdsLedger, ledgerOf};
+ghost use Rattle.words.specs.Layout.{holdsLedger, ledgerOf, removalSaid};
 ghost use Rattle.ledger.specs.Limits.{ledgerPlaces};
 use ledger::Bill;
 use ledger::Identity;
@@ -51,9 +51,9 @@ pub fn bill_at(ws: &[u64], p: usize) -> Bill
     words::bill_in(ws, HEADER_SIZE + PLACE_SIZE * p)
 }
 
-// Stores a bill at place p.
+// Stores a bill at place p: its removal date is not 0, which stands for an empty one.
 pub fn put_bill(ws: &mut [u64], p: usize, b: Bill)
-    requires { ⌜ (holdsLedger (now ws) ≡ true) × (p < ledgerPlaces) ⌝ }
+    requires { ⌜ (holdsLedger (now ws) ≡ true) × (p < ledgerPlaces) × (removalSaid (b .terms .removal) ≡ true) ⌝ }
     ensures { λ _. ⌜ (holdsLedger (now (ws .exit)) ≡ true) × (ledgerOf (now (ws .exit)) ≡ replaced (ledgerOf (now (ws .entry))) p b) ⌝ }
 {
     words::put_bill(ws, HEADER_SIZE + PLACE_SIZE * p, b);
@@ -95,7 +95,7 @@ pub fn total(ws: &[u64], n: usize) -> Cents
 
 // Stores a header, and a bill at place p.
 pub fn update(ws: &mut [u64], p: usize, u: Update)
-    requires { ⌜ (holdsLedger (now ws) ≡ true) × (p < ledgerPlaces) ⌝ }
+    requires { ⌜ (holdsLedger (now ws) ≡ true) × (p < ledgerPlaces) × (removalSaid (u .bill .terms .removal) ≡ true) ⌝ }
     ensures { λ _. ⌜ (holdsLedger (now (ws .exit)) ≡ true) × (ledgerOf (now (ws .exit)) ≡ updated (ledgerOf (now (ws .entry))) p u) ⌝ }
 {
     let b = u.bill;

@@ -10,28 +10,28 @@ use Rattle.ledger.specs.declared.Bill.{Bill}
 use Rattle.ledger.specs.declared.Ledger.{Ledger}
 use Rattle.rules.specs.Lists.{every}
 use Rattle.ledger.specs.Bills.{blankBill}
-use Rattle.words.specs.Layout.{byteCode, billWords, ledgerWords, ledgerOf}
+use Rattle.words.specs.Layout.{placeSize, ledgerSize, billSaid, billWords, ledgerWords, ledgerOf}
 use Rattle.words.proofs.WordLaws.{ledger-words}
 use Rattle.words.proofs.WordPlaceLaws.{written, written-more, written-all}
 
-blank-bytes : (n : ℕ) → every byteCode (replicate n blankBill) ≡ true
-blank-bytes zero = refl
-blank-bytes (suc n) = blank-bytes n
+blank-said : (n : ℕ) → every billSaid (replicate n blankBill) ≡ true
+blank-said zero = refl
+blank-said (suc n) = blank-said n
 
 module _ (l : Ledger) (e : l .bills ≡ replicate 128 blankBill) where
   long : length (l .bills) ≡ 128
   long = ap length e ∙ length-replicate 128 blankBill
 
   -- one place more
-  pub blank-more : (ws us vs : List ℕ) (i : ℕ) (b : Bill) → i < 128 → b ≡ blankBill → us ≡ written l i ws → vs ≡ put us (4 + 19 * i) (billWords b)
+  pub blank-more : (ws us vs : List ℕ) (i : ℕ) (b : Bill) → i < 128 → b ≡ blankBill → us ≡ written l i ws → vs ≡ put us (4 + placeSize * i) (billWords b)
       → vs ≡ written l (i + 1) ws
   blank-more ws us vs i b h k p q =
       let d : b ≡ getD (l .bills) i blankBill =
       k ∙ sym (ap (λ (bs : List Bill). getD bs i blankBill) e ∙ getD-replicate 128 i blankBill blankBill h) in
-      written-more l ws i blankBill us vs (omega (arith, long)) p (q ∙ ap (λ (x : Bill). put us (4 + 19 * i) (billWords x)) d)
+      written-more l ws i blankBill us vs (omega (arith, long)) p (q ∙ ap (λ (x : Bill). put us (4 + placeSize * i) (billWords x)) d)
 
   -- all of them
-  pub blank-all : (ws us : List ℕ) (i : ℕ) → length ws ≡ 2436 → 128 ≤ i → us ≡ written l i ws → (us ≡ ledgerWords l) × (ledgerOf us ≡ l)
+  pub blank-all : (ws us : List ℕ) (i : ℕ) → length ws ≡ ledgerSize → 128 ≤ i → us ≡ written l i ws → (us ≡ ledgerWords l) × (ledgerOf us ≡ l)
   blank-all ws us i k h p =
       let w : us ≡ ledgerWords l = p ∙ written-all l ws i (omega (arith, long)) (omega arith) in
-      (w, ap ledgerOf w ∙ ledger-words l long (ap (every byteCode) e ∙ blank-bytes 128))
+      (w, ap ledgerOf w ∙ ledger-words l long (ap (every billSaid) e ∙ blank-said 128))

@@ -7,18 +7,20 @@ use native.Mathlib.Omega.{arith}
 use lib.Dec.{leb, ltb, eqb}
 use lib.ListN.{length, take, drop, getD, length-append, length-drop, take-append-drop}
 use lib.Seq.{drop-cons, drop-at}
-use borrow.Author.Tests.{eqb-true, leb-true, ltb-true, eqb-false, eq-eqb}
+use borrow.Author.Tests.{eqb-true, leb-true, ltb-true, eqb-false, eq-eqb, not-true, lt-ltb}
 use Rattle.fields.proofs.BoolLaws.{and-left, and-right, cases}
 use Rattle.ledger.specs.declared.Product.{Product}
 use Rattle.ledger.specs.declared.Product.the-variants as product
 use Rattle.ledger.specs.declared.Posted.{Posted}
 use Rattle.ledger.specs.declared.Posted.the-variants as posted
+use Rattle.ledger.specs.declared.Removal.{Removal}
+use Rattle.ledger.specs.declared.Removal.the-variants.{Never, On}
 use Rattle.ledger.specs.declared.Bill.{Bill}
 use Rattle.ledger.specs.declared.Ledger.{Ledger}
 use Rattle.rules.specs.Lists.{every}
 use Rattle.ledger.specs.Bills.{productByte, productOf}
 use Rattle.ledger.specs.Sound.{soundLedger}
-use Rattle.words.specs.Layout.{markWord, postedWords, termsWords, billWords, billsWords, headWords, ledgerWords, holdsPosted, holdsCode, holdsBill, holdsBills, holdsLedger, postedIn, codeIn, termsIn, billIn, billsIn, ledgerIn, noLedger, ledgerOf, byteCode}
+use Rattle.words.specs.Layout.{placeSize, ledgerSize, markWord, postedWords, removalWord, lastWords, termsWords, billWords, billsWords, headWords, ledgerWords, holdsPosted, holdsCode, holdsBill, holdsBills, holdsLedger, postedIn, removalIn, codeIn, termsIn, billIn, billsIn, ledgerIn, noLedger, ledgerOf, byteCode, removalSaid, billSaid}
 
 -- ---- one place
 -- n elements from index i on, one by one
@@ -69,6 +71,9 @@ posted-words k c a o h =
     ))
     (λ f. rw (eqb-true k 2 f)))
 
+removal-word : (w : ℕ) → removalWord (removalIn w) ≡ w
+removal-word w = cases (eqb w 0) (λ e. rw e (sym (eqb-true w 0 e))) (λ e. rw e)
+
 -- what the words of a place say, test by test
 record Place (ws : List ℕ) : Type 0 where
   code : holdsCode (getD ws 2 0) (getD ws 3 0) (getD ws 4 0) (getD ws 5 0) ≡ true
@@ -99,8 +104,11 @@ code-bytes ws h =
     let r = and-right b (c && d) q in
     (ltb-true _ _ (and-left a (b && (c && d)) p), ltb-true _ _ (and-left b (c && d) q), ltb-true _ _ (and-left c d r), ltb-true _ _ (and-right c d r))
 
+pub four-bytes : (a b c d : ℕ) → a < 256 → b < 256 → c < 256 → d < 256 → holdsCode a b c d ≡ true
+four-bytes a b c d h i j k = rw (lt-ltb a 256 h, lt-ltb b 256 i, lt-ltb c 256 j, lt-ltb d 256 k)
+
 -- the bill of a place's words has those words
-bill-words : (ws : List ℕ) → holdsBill ws ≡ true → 19 ≤ length ws → billWords (billIn ws) ≡ take 19 ws
+bill-words : (ws : List ℕ) → holdsBill ws ≡ true → placeSize ≤ length ws → billWords (billIn ws) ≡ take placeSize ws
 unfolding billWords billIn termsIn termsWords codeIn
 bill-words ws h k =
     let p : Place ws = place ws h in
@@ -108,19 +116,23 @@ bill-words ws h k =
       product-word (getD ws 6 0) (p .product),
       mark-word (getD ws 9 0) (p .cancelled),
       posted-words (getD ws 15 0) (getD ws 16 0) (getD ws 17 0) (getD ws 18 0) (p .posted),
+      removal-word (getD ws 19 0),
     )
-    (reads-part 19 0 ws (omega arith))
+    (reads-part placeSize 0 ws (omega arith))
 
-pub length-posted : (p : Posted) → length (postedWords p) ≡ 4
+length-posted : (p : Posted) → length (postedWords p) ≡ 4
 length-posted posted.None = refl
 length-posted (posted.BillReady charge) = refl
 length-posted (posted.Prepay charge applied owed) = refl
 
-pub length-bill : (b : Bill) → length (billWords b) ≡ 19
-unfolding billWords termsWords
-length-bill b = rw (length-posted (b .posted))
+pub length-last : (p : Posted) (r : Removal) → length (lastWords p r) ≡ 5
+length-last p r = simp length-append (omega (arith, length-posted p))
 
--- a product, a mark and the posted amounts are read back from their words, which are those of a place
+pub length-bill : (b : Bill) → length (billWords b) ≡ placeSize
+unfolding billWords termsWords
+length-bill b = rw (length-last (b .posted) (b .terms .removal))
+
+-- a product, a mark, the posted amounts and a removal date are read back from their words, which are those of a place
 product-back : (p : Product) → (productOf (productByte p) ≡ p) × ((eqb (productByte p) 66 || eqb (productByte p) 80) ≡ true)
 product-back product.BillReady = (refl, refl)
 product-back product.Prepay = (refl, refl)
@@ -129,80 +141,93 @@ mark-back : (m : Bool) → (eqb (markWord m) 1 ≡ m) × (leb (markWord m) 1 ≡
 mark-back true = (refl, refl)
 mark-back false = (refl, refl)
 
-posted-back : (p : Posted) (ws : List ℕ) →
-    let k = getD (postedWords p ++ ws) 0 0 in
-    let c = getD (postedWords p ++ ws) 1 0 in
-    let a = getD (postedWords p ++ ws) 2 0 in
-    let o = getD (postedWords p ++ ws) 3 0 in
-    (postedIn k c a o ≡ p) × (holdsPosted k c a o ≡ true)
-posted-back posted.None ws = (refl, refl)
-posted-back (posted.BillReady charge) ws = (refl, refl)
-posted-back (posted.Prepay charge applied owed) ws = (refl, refl)
+removal-back : (r : Removal) → removalSaid r ≡ true → removalIn (removalWord r) ≡ r
+removal-back Never h = refl
+removal-back (On d) h = rw (not-true (eqb (d .0) 0) h)
 
--- the bill of a bill's words is the bill
-bill-in : (b : Bill) (ws : List ℕ) → billIn (billWords b ++ ws) ≡ b
+-- a removal date that was read from a word is said by it
+pub removal-read : (w : ℕ) → removalSaid (removalIn w) ≡ true
+removal-read w = cases (eqb w 0) (λ e. rw e) (λ e. rw (e, e))
+
+-- the amounts and the removal date at the end of a place
+last-posted : (p : Posted) (r : Removal) (ws : List ℕ) →
+    let w = lastWords p r ++ ws in
+    (postedIn (getD w 0 0) (getD w 1 0) (getD w 2 0) (getD w 3 0) ≡ p)
+    × (holdsPosted (getD w 0 0) (getD w 1 0) (getD w 2 0) (getD w 3 0) ≡ true)
+    × (getD w 4 0 ≡ removalWord r)
+last-posted posted.None r ws = (refl, refl, refl)
+last-posted (posted.BillReady charge) r ws = (refl, refl, refl)
+last-posted (posted.Prepay charge applied owed) r ws = (refl, refl, refl)
+
+-- the bill of a bill's words is the bill, if they say its removal date
+bill-in : (b : Bill) (ws : List ℕ) → removalSaid (b .terms .removal) ≡ true → billIn (billWords b ++ ws) ≡ b
 unfolding billWords billIn termsIn termsWords codeIn
-bill-in b ws = rw (product-back (b .terms .product) .0, mark-back (b .terms .cancelled) .0, posted-back (b .posted) ws .0)
+bill-in b ws h =
+    let last = last-posted (b .posted) (b .terms .removal) ws in
+    rw (product-back (b .terms .product) .0, mark-back (b .terms .cancelled) .0, last .0, last .2, removal-back (b .terms .removal) h)
 
 -- and the words are those of a place, if its code is bytes
 bill-holds : (b : Bill) (ws : List ℕ) → byteCode b ≡ true → holdsBill (billWords b ++ ws) ≡ true
 unfolding billWords holdsBill termsWords
-bill-holds b ws h = rw (h, product-back (b .terms .product) .1, mark-back (b .terms .cancelled) .1, posted-back (b .posted) ws .1)
+bill-holds b ws h =
+    rw (h, product-back (b .terms .product) .1, mark-back (b .terms .cancelled) .1, last-posted (b .posted) (b .terms .removal) ws .1)
 
 -- ---- the places, one after the other
-pub length-bills : (bs : List Bill) → length (billsWords bs) ≡ 19 * length bs
+pub length-bills : (bs : List Bill) → length (billsWords bs) ≡ placeSize * length bs
 unfolding billsWords
 length-bills [] = refl
 length-bills (b ∷ bs) = simp length-append (omega (arith, length-bill b, length-bills bs))
 
-drop-bill : (b : Bill) (ws : List ℕ) → drop 19 (billWords b ++ ws) ≡ ws
-drop-bill b ws = drop-at (billWords b) ws 19 (length-bill b)
+drop-bill : (b : Bill) (ws : List ℕ) → drop placeSize (billWords b ++ ws) ≡ ws
+drop-bill b ws = drop-at (billWords b) ws placeSize (length-bill b)
 
-bills-in : (bs : List Bill) → billsIn (length bs) (billsWords bs) ≡ bs
+bills-in : (bs : List Bill) → every billSaid bs ≡ true → billsIn (length bs) (billsWords bs) ≡ bs
 unfolding billsIn billsWords
-bills-in [] = refl
-bills-in (b ∷ bs) =
-    ap₂ (λ (x : Bill) (xs : List Bill). x ∷ xs) (bill-in b (billsWords bs))
-    (ap (billsIn (length bs)) (drop-bill b (billsWords bs)) ∙ bills-in bs)
+bills-in [] h = refl
+bills-in (b ∷ bs) h =
+    let said = and-right (byteCode b) (removalSaid (b .terms .removal)) (and-left (billSaid b) (every billSaid bs) h) in
+    ap₂ (λ (x : Bill) (xs : List Bill). x ∷ xs) (bill-in b (billsWords bs) said)
+    (ap (billsIn (length bs)) (drop-bill b (billsWords bs)) ∙ bills-in bs (and-right (billSaid b) (every billSaid bs) h))
 
-bills-hold : (bs : List Bill) → every byteCode bs ≡ true → holdsBills (length bs) (billsWords bs) ≡ true
+bills-hold : (bs : List Bill) → every billSaid bs ≡ true → holdsBills (length bs) (billsWords bs) ≡ true
 unfolding holdsBills billsWords
 bills-hold [] h = refl
 bills-hold (b ∷ bs) h =
-    rw (bill-holds b (billsWords bs) (and-left (byteCode b) (every byteCode bs) h))
-    (ap (holdsBills (length bs)) (drop-bill b (billsWords bs)) ∙ bills-hold bs (and-right (byteCode b) (every byteCode bs) h))
+    let code = and-left (byteCode b) (removalSaid (b .terms .removal)) (and-left (billSaid b) (every billSaid bs) h) in
+    rw (bill-holds b (billsWords bs) code)
+    (ap (holdsBills (length bs)) (drop-bill b (billsWords bs)) ∙ bills-hold bs (and-right (billSaid b) (every billSaid bs) h))
 
-bills-words : (n : ℕ) (ws : List ℕ) → holdsBills n ws ≡ true → length ws ≡ 19 * n → billsWords (billsIn n ws) ≡ ws
+bills-words : (n : ℕ) (ws : List ℕ) → holdsBills n ws ≡ true → length ws ≡ placeSize * n → billsWords (billsIn n ws) ≡ ws
 unfolding holdsBills billsIn billsWords
 bills-words zero [] h k = refl
 bills-words zero (w ∷ ws) h k = absurd (omega arith)
 bills-words (suc n) ws h k =
     ap₂ (λ (x xs : List ℕ). x ++ xs)
-    (bill-words ws (and-left (holdsBill ws) (holdsBills n (drop 19 ws)) h) (omega arith))
-    (bills-words n (drop 19 ws) (and-right (holdsBill ws) (holdsBills n (drop 19 ws)) h) (rw length-drop (omega arith)))
-    ∙ take-append-drop 19 ws
+    (bill-words ws (and-left (holdsBill ws) (holdsBills n (drop placeSize ws)) h) (omega arith))
+    (bills-words n (drop placeSize ws) (and-right (holdsBill ws) (holdsBills n (drop placeSize ws)) h) (rw length-drop (omega arith)))
+    ∙ take-append-drop placeSize ws
 
 -- ---- the ledger
-pub length-words : (l : Ledger) → length (l .bills) ≡ 128 → length (ledgerWords l) ≡ 2436
+pub length-words : (l : Ledger) → length (l .bills) ≡ 128 → length (ledgerWords l) ≡ ledgerSize
 unfolding ledgerWords headWords
 length-words l h = omega (arith, length-bills (l .bills))
 
 -- words that are those of a ledger
 module _ (ws : List ℕ) (h : holdsLedger ws ≡ true) where
-  pub words-long : length ws ≡ 2436
+  pub words-long : length ws ≡ ledgerSize
   unfolding holdsLedger
-  words-long = eqb-true (length ws) 2436 (and-left (eqb (length ws) 2436) (holdsBills 128 (drop 4 ws)) h)
+  words-long = eqb-true (length ws) ledgerSize (and-left (eqb (length ws) ledgerSize) (holdsBills 128 (drop 4 ws)) h)
 
   pub words-bills : holdsBills 128 (drop 4 ws) ≡ true
   unfolding holdsLedger
-  words-bills = and-right (eqb (length ws) 2436) (holdsBills 128 (drop 4 ws)) h
+  words-bills = and-right (eqb (length ws) ledgerSize) (holdsBills 128 (drop 4 ws)) h
 
   pub of-words : ledgerOf ws ≡ ledgerIn ws
   unfolding ledgerOf
   of-words = rw h
 
 -- words to ledger and back
-ledger-in-words : (ws : List ℕ) → length ws ≡ 2436 → holdsBills 128 (drop 4 ws) ≡ true → ledgerWords (ledgerIn ws) ≡ ws
+ledger-in-words : (ws : List ℕ) → length ws ≡ ledgerSize → holdsBills 128 (drop 4 ws) ≡ true → ledgerWords (ledgerIn ws) ≡ ws
 unfolding ledgerWords headWords ledgerIn
 ledger-in-words ws h k =
     ap₂ (λ (x xs : List ℕ). x ++ xs) (reads-part 4 0 ws (omega arith))
@@ -214,20 +239,20 @@ words-ledger ws h = ap ledgerWords (of-words ws h) ∙ ledger-in-words ws (words
 
 -- ledger to words and back
 module _ (l : Ledger) (k : length (l .bills) ≡ 128) where
-  places-hold : every byteCode (l .bills) ≡ true → holdsBills 128 (drop 4 (ledgerWords l)) ≡ true
+  places-hold : every billSaid (l .bills) ≡ true → holdsBills 128 (drop 4 (ledgerWords l)) ≡ true
   unfolding ledgerWords headWords
   places-hold h = ap (λ (n : ℕ). holdsBills n (billsWords (l .bills))) (sym k) ∙ bills-hold (l .bills) h
 
-  pub holds-words : every byteCode (l .bills) ≡ true → holdsLedger (ledgerWords l) ≡ true
+  pub holds-words : every billSaid (l .bills) ≡ true → holdsLedger (ledgerWords l) ≡ true
   unfolding holdsLedger
-  holds-words h = rw (eq-eqb (length (ledgerWords l)) 2436 (length-words l k)) (places-hold h)
+  holds-words h = rw (eq-eqb (length (ledgerWords l)) ledgerSize (length-words l k)) (places-hold h)
 
-  ledger-in : ledgerIn (ledgerWords l) ≡ l
+  ledger-in : every billSaid (l .bills) ≡ true → ledgerIn (ledgerWords l) ≡ l
   unfolding ledgerIn ledgerWords headWords
-  ledger-in = rw (ap (λ (n : ℕ). billsIn n (billsWords (l .bills))) (sym k) ∙ bills-in (l .bills))
+  ledger-in h = rw (ap (λ (n : ℕ). billsIn n (billsWords (l .bills))) (sym k) ∙ bills-in (l .bills) h)
 
-  pub ledger-words : every byteCode (l .bills) ≡ true → ledgerOf (ledgerWords l) ≡ l
-  ledger-words h = of-words (ledgerWords l) (holds-words h) ∙ ledger-in
+  pub ledger-words : every billSaid (l .bills) ≡ true → ledgerOf (ledgerWords l) ≡ l
+  ledger-words h = of-words (ledgerWords l) (holds-words h) ∙ ledger-in h
 
 -- words of no ledger give one that is not sound
 no-sound : soundLedger noLedger ≡ false

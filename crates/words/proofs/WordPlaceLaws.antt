@@ -13,84 +13,48 @@ use Rattle.fields.proofs.PutLaws.{first, next}
 use Rattle.fields.proofs.BoolLaws.{and-left, and-right}
 use Rattle.ledger.specs.declared.Bill.{Bill}
 use Rattle.ledger.specs.declared.Ledger.{Ledger}
-use Rattle.words.specs.Layout.{termsWords, latestWords, postedWords, billWords, billsWords, headWords, ledgerWords, holdsBill, holdsBills, billIn, billsIn, ledgerIn}
-use Rattle.units.specs.Calendar.{dateOf}
-use Rattle.words.proofs.WordLaws.{length-posted, length-bill, length-bills}
+use Rattle.words.specs.Layout.{placeSize, termsWords, latestWords, lastWords, billWords, billsWords, headWords, ledgerWords, holdsBill, holdsBills}
+use Rattle.words.proofs.WordLaws.{length-last, length-bill, length-bills}
 
 -- what a part that reaches to the end holds
 pub rest : (ws : List ℕ) (at : ℕ) → take (length ws - at) (drop at ws) ≡ drop at ws
 rest ws at = take-all (length ws - at) (drop at ws) (omega (arith, length-drop at ws))
 
 -- place i of the words from the fifth on
-pub place-at : (ws : List ℕ) (i : ℕ) → drop (19 * i) (drop 4 ws) ≡ drop (4 + 19 * i) ws
-place-at ws i = drop-drop (19 * i) 4 ws
+pub place-at : (ws : List ℕ) (i : ℕ) → drop (placeSize * i) (drop 4 ws) ≡ drop (4 + placeSize * i) ws
+place-at ws i = drop-drop (placeSize * i) 4 ws
 
-pub next-place : (ws : List ℕ) (i : ℕ) → drop (19 * i) (drop 19 ws) ≡ drop (19 * suc i) ws
+pub next-place : (ws : List ℕ) (i : ℕ) → drop (placeSize * i) (drop placeSize ws) ≡ drop (placeSize * suc i) ws
 next-place ws i =
-    let e : 19 + 19 * i ≡ 19 * suc i = omega arith in
-    drop-drop (19 * i) 19 ws ∙ ap (λ (k : ℕ). drop k ws) e
+    let e : placeSize + placeSize * i ≡ placeSize * suc i = omega arith in
+    drop-drop (placeSize * i) placeSize ws ∙ ap (λ (k : ℕ). drop k ws) e
 
 -- ---- read
 -- the tests of one place more
-holds-suc : (i : ℕ) (ws : List ℕ) → holdsBills (suc i) ws ≡ (holdsBills i ws && holdsBill (drop (19 * i) ws))
+holds-suc : (i : ℕ) (ws : List ℕ) → holdsBills (suc i) ws ≡ (holdsBills i ws && holdsBill (drop (placeSize * i) ws))
 unfolding holdsBills
 holds-suc zero ws = and-true (holdsBill ws)
 holds-suc (suc i) ws =
-    ap (λ (b : Bool). holdsBill ws && b) (holds-suc i (drop 19 ws) ∙ ap (λ (k : List ℕ). holdsBills i (drop 19 ws) && holdsBill k) (next-place ws i))
-    ∙ sym (and-assoc (holdsBill ws) (holdsBills i (drop 19 ws)) (holdsBill (drop (19 * suc i) ws)))
+    ap (λ (b : Bool). holdsBill ws && b) (holds-suc i (drop placeSize ws) ∙ ap (λ (k : List ℕ). holdsBills i (drop placeSize ws) && holdsBill k) (next-place ws i))
+    ∙ sym (and-assoc (holdsBill ws) (holdsBills i (drop placeSize ws)) (holdsBill (drop (placeSize * suc i) ws)))
 
-pub holds-more : (ws : List ℕ) (i : ℕ) → (holdsBills i (drop 4 ws) && holdsBill (drop (4 + 19 * i) ws)) ≡ holdsBills (i + 1) (drop 4 ws)
+pub holds-more : (ws : List ℕ) (i : ℕ) → (holdsBills i (drop 4 ws) && holdsBill (drop (4 + placeSize * i) ws)) ≡ holdsBills (i + 1) (drop 4 ws)
 holds-more ws i =
     sym (ap (λ (n : ℕ). holdsBills n (drop 4 ws)) (add-one i)
     ∙ holds-suc i (drop 4 ws)
     ∙ ap (λ (k : List ℕ). holdsBills i (drop 4 ws) && holdsBill k) (place-at ws i))
 
 -- where all places pass, each does
-holds-each : (n : ℕ) (ws : List ℕ) (i : ℕ) → holdsBills n ws ≡ true → i < n → holdsBill (drop (19 * i) ws) ≡ true
+holds-each : (n : ℕ) (ws : List ℕ) (i : ℕ) → holdsBills n ws ≡ true → i < n → holdsBill (drop (placeSize * i) ws) ≡ true
 unfolding holdsBills
 holds-each zero ws i h k = absurd (not-suc-le-zero k)
-holds-each (suc n) ws zero h k = and-left (holdsBill ws) (holdsBills n (drop 19 ws)) h
+holds-each (suc n) ws zero h k = and-left (holdsBill ws) (holdsBills n (drop placeSize ws)) h
 holds-each (suc n) ws (suc i) h k =
     ap holdsBill (sym (next-place ws i))
-    ∙ holds-each n (drop 19 ws) i (and-right (holdsBill ws) (holdsBills n (drop 19 ws)) h) (le-of-suc-le-suc k)
+    ∙ holds-each n (drop placeSize ws) i (and-right (holdsBill ws) (holdsBills n (drop placeSize ws)) h) (le-of-suc-le-suc k)
 
-pub holds-at : (ws : List ℕ) (i : ℕ) → holdsBills 128 (drop 4 ws) ≡ true → i < 128 → holdsBill (drop (4 + 19 * i) ws) ≡ true
+pub holds-at : (ws : List ℕ) (i : ℕ) → holdsBills 128 (drop 4 ws) ≡ true → i < 128 → holdsBill (drop (4 + placeSize * i) ws) ≡ true
 holds-at ws i h k = ap holdsBill (sym (place-at ws i)) ∙ holds-each 128 (drop 4 ws) i h k
-
--- the bills of one place more
-in-suc : (i : ℕ) (ws : List ℕ) → billsIn (suc i) ws ≡ billsIn i ws ++ (billIn (drop (19 * i) ws) ∷ [])
-unfolding billsIn
-in-suc zero ws = refl
-in-suc (suc i) ws =
-    ap (λ (bs : List Bill). billIn ws ∷ bs)
-    (in-suc i (drop 19 ws) ∙ ap (λ (k : List ℕ). billsIn i (drop 19 ws) ++ (billIn k ∷ [])) (next-place ws i))
-
--- l has the four words' fields and, in its first i places, the bills of the first i places of the words
-pub record Built (ws : List ℕ) (l : Ledger) (i : ℕ) : Type 0 where
-  pub within : i ≤ 128
-  pub today : l .today ≡ dateOf (getD ws 0 0)
-  pub tracking : l .«next_tracking» ≡ getD ws 1 0
-  pub confirmation : l .«next_confirmation» ≡ getD ws 2 0
-  pub count : l .count ≡ getD ws 3 0
-  pub long : length (l .bills) ≡ 128
-  pub done : take i (l .bills) ≡ billsIn i (drop 4 ws)
-
-pub built-more : (ws : List ℕ) (bs : List Bill) (i : ℕ) (b : Bill) → i < length bs → take i bs ≡ billsIn i (drop 4 ws)
-    → b ≡ billIn (drop (4 + 19 * i) ws) → take (i + 1) (set bs i b) ≡ billsIn (i + 1) (drop 4 ws)
-built-more ws bs i b h e f =
-    ap (λ (n : ℕ). take n (set bs i b)) (add-one i)
-    ∙ take-suc-set bs i b h
-    ∙ ap₂ (λ (x : List Bill) (y : Bill). x ++ (y ∷ [])) e (f ∙ ap billIn (sym (place-at ws i)))
-    ∙ sym (in-suc i (drop 4 ws))
-    ∙ ap (λ (n : ℕ). billsIn n (drop 4 ws)) (sym (add-one i))
-
-pub built-all : (ws : List ℕ) (l : Ledger) (i : ℕ) → Built ws l i → 128 ≤ i → l ≡ ledgerIn ws
-unfolding ledgerIn
-built-all ws l i b h =
-    let e : i ≡ 128 = omega (arith, b .within) in
-    let f : l .bills ≡ billsIn 128 (drop 4 ws) =
-    sym (take-all i (l .bills) (omega (arith, b .long))) ∙ b .done ∙ ap (λ (n : ℕ). billsIn n (drop 4 ws)) e in
-    rw (← b .today, ← b .tracking, ← b .confirmation, ← b .count, ← f)
 
 -- ---- written
 words-append : (bs cs : List Bill) → billsWords (bs ++ cs) ≡ billsWords bs ++ billsWords cs
@@ -126,9 +90,9 @@ done l i = headWords l ++ billsWords (take i (l .bills))
 
 -- they are written, and what stood after them still stands there
 abbrev pub written : Ledger → ℕ → List ℕ → List ℕ
-written l i ws = done l i ++ drop (4 + 19 * i) ws
+written l i ws = done l i ++ drop (4 + placeSize * i) ws
 
-length-done : (l : Ledger) (i : ℕ) → i ≤ length (l .bills) → length (done l i) ≡ 4 + 19 * i
+length-done : (l : Ledger) (i : ℕ) → i ≤ length (l .bills) → length (done l i) ≡ 4 + placeSize * i
 unfolding done headWords
 length-done l i h = omega (arith, length-bills (take i (l .bills)), length-take-le i (l .bills) h)
 
@@ -140,23 +104,23 @@ done-more l i d h =
 
 module _ (l : Ledger) (ws : List ℕ) where
   pub written-more : (i : ℕ) (d : Bill) (us vs : List ℕ) → i < length (l .bills) → us ≡ written l i ws
-      → vs ≡ put us (4 + 19 * i) (billWords (getD (l .bills) i d)) → vs ≡ written l (i + 1) ws
+      → vs ≡ put us (4 + placeSize * i) (billWords (getD (l .bills) i d)) → vs ≡ written l (i + 1) ws
   written-more i d us vs h e f =
       let b : Bill = getD (l .bills) i d in
-      let k : 4 + 19 * i + 19 ≡ 4 + 19 * (i + 1) = omega arith in
+      let k : 4 + placeSize * i + placeSize ≡ 4 + placeSize * (i + 1) = omega arith in
       f
-      ∙ ap (λ (xs : List ℕ). put xs (4 + 19 * i) (billWords b)) e
-      ∙ put-after (done l i) (billWords b) ws (4 + 19 * i) 19 (length-done l i (omega arith)) (length-bill b)
+      ∙ ap (λ (xs : List ℕ). put xs (4 + placeSize * i) (billWords b)) e
+      ∙ put-after (done l i) (billWords b) ws (4 + placeSize * i) placeSize (length-done l i (omega arith)) (length-bill b)
       ∙ ap₂ (λ (x : List ℕ) (n : ℕ). x ++ drop n ws) (sym (done-more l i d h)) k
 
-  pub written-all : (i : ℕ) → length (l .bills) ≤ i → length ws ≤ 4 + 19 * i → written l i ws ≡ ledgerWords l
+  pub written-all : (i : ℕ) → length (l .bills) ≤ i → length ws ≤ 4 + placeSize * i → written l i ws ≡ ledgerWords l
   unfolding ledgerWords done
   written-all i h k =
       ap₂ (λ (x : List Bill) (y : List ℕ). (headWords l ++ billsWords x) ++ y) (take-all i (l .bills) h) (drop-of-length-le ws k)
       ∙ append-nil (headWords l ++ billsWords (l .bills))
 
--- place i stands from word 4 + 19 * i on
-pub place-words : (l : Ledger) (i : ℕ) (d : Bill) → i < length (l .bills) → part (ledgerWords l) (4 + 19 * i) 19 ≡ billWords (getD (l .bills) i d)
+-- place i stands from word 4 + placeSize * i on
+pub place-words : (l : Ledger) (i : ℕ) (d : Bill) → i < length (l .bills) → part (ledgerWords l) (4 + placeSize * i) placeSize ≡ billWords (getD (l .bills) i d)
 unfolding part ledgerWords done billsWords
 place-words l i d h =
     let b : Bill = getD (l .bills) i d in
@@ -165,17 +129,17 @@ place-words l i d h =
     ap (λ (bs : List Bill). headWords l ++ billsWords bs) (split-at (l .bills) i d h)
     ∙ ap (λ (ws : List ℕ). headWords l ++ ws) (words-append (take i (l .bills)) (b ∷ drop (suc i) (l .bills)))
     ∙ sym (append-assoc (headWords l) (billsWords (take i (l .bills))) (billWords b ++ r)) in
-    ap (λ (ws : List ℕ). take 19 (drop (4 + 19 * i) ws)) e
-    ∙ ap (take 19) (drop-at (done l i) (billWords b ++ r) (4 + 19 * i) (length-done l i (omega arith)))
-    ∙ take-at (billWords b) r 19 (length-bill b)
+    ap (λ (ws : List ℕ). take placeSize (drop (4 + placeSize * i) ws)) e
+    ∙ ap (take placeSize) (drop-at (done l i) (billWords b ++ r) (4 + placeSize * i) (length-done l i (omega arith)))
+    ∙ take-at (billWords b) r placeSize (length-bill b)
 
 -- a place written in three parts
 pub put-parts : (b : Bill) (at : ℕ) (ws us vs xs : List ℕ) → at ≤ length ws → us ≡ put ws at (termsWords (b .terms))
-    → vs ≡ put us (at + 10) (latestWords (b .terms .latest)) → xs ≡ put vs (at + 15) (postedWords (b .posted)) → xs ≡ put ws at (billWords b)
+    → vs ≡ put us (at + 10) (latestWords (b .terms .latest)) → xs ≡ put vs (at + 15) (lastWords (b .posted) (b .terms .removal)) → xs ≡ put ws at (billWords b)
 unfolding billWords termsWords
 put-parts b at ws us vs xs h e f g =
-    next (next (first ws at (termsWords (b .terms)) h e refl) (latestWords (b .terms .latest)) f refl) (postedWords (b .posted)) g
-    (length-posted (b .posted)) .same
+    next (next (first ws at (termsWords (b .terms)) h e refl) (latestWords (b .terms .latest)) f refl) (lastWords (b .posted) (b .terms .removal)) g
+    (length-last (b .posted) (b .terms .removal)) .same
 
 -- the four words, stored one by one
 four-stored : (ws us : List ℕ) (a b c d : ℕ) → 4 ≤ length ws → us ≡ set (set (set (set ws 0 a) 1 b) 2 c) 3 d → us ≡ a ∷ b ∷ c ∷ d ∷ drop 4 us

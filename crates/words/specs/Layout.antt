@@ -1,9 +1,9 @@
--- A ledger as 2436 words of 64 bits: today (yyyymmdd), the next Tracking ID, the next Confirmation Number, the count of bills, and then 128
--- places of 19 words each, place i from word 4 + 19 * i on. In a place: 0 account, 1 key, 2 to 5 the rate code's four bytes, 6 product (66 B,
+-- A ledger as 2564 words of 64 bits: today (yyyymmdd), the next Tracking ID, the next Confirmation Number, the count of bills, and then 128
+-- places of 20 words each, place i from word 4 + 20 * i on. In a place: 0 account, 1 key, 2 to 5 the rate code's four bytes, 6 product (66 B,
 -- 80 P), 7 sequence, 8 count of requests, 9 cancelled (0 or 1), 10 Tracking ID, 11 consumption, 12 Billing Date, 13 From Date, 14 Scheduled
--- Date, 15 kind of posted amounts (0 none, 1 Bill Ready, 2 Prepay), 16 charge, 17 applied, 18 owed. Assumes nothing.
+-- Date, 15 kind of posted amounts (0 none, 1 Bill Ready, 2 Prepay), 16 charge, 17 applied, 18 owed, 19 removal date (0 empty). Assumes nothing.
 use Prim.Native.Nat.{ℕ, zero, suc}
-use mathlib.Core.Bool.{Bool, true, cond, _&&_, _||_}
+use mathlib.Core.Bool.{Bool, true, cond, not, _&&_, _||_}
 use mathlib.Core.List.{List, [], _∷_, _++_}
 use lib.Dec.{leb, ltb, eqb}
 use lib.ListN.{length, drop, getD, replicate}
@@ -13,6 +13,8 @@ use Rattle.ledger.specs.declared.Product.the-variants as product
 use Rattle.ledger.specs.declared.Posted.{Posted}
 use Rattle.ledger.specs.declared.Posted.the-variants as posted
 use Rattle.ledger.specs.declared.Latest.{Latest}
+use Rattle.ledger.specs.declared.Removal.{Removal}
+use Rattle.ledger.specs.declared.Removal.the-variants.{Never, On}
 use Rattle.ledger.specs.declared.Terms.{Terms}
 use Rattle.ledger.specs.declared.Bill.{Bill}
 use Rattle.ledger.specs.declared.Ledger.{Ledger}
@@ -24,10 +26,10 @@ abbrev pub headerSize : ℕ
 headerSize = 4
 
 abbrev pub placeSize : ℕ
-placeSize = 19
+placeSize = 20
 
 abbrev pub ledgerSize : ℕ
-ledgerSize = 2436
+ledgerSize = 2564
 
 -- ---- a ledger's words
 -- 9: cancelled, 0 or 1
@@ -59,9 +61,18 @@ termsWords t =
 abbrev pub latestWords : Latest → List ℕ
 latestWords r = r .tracking ∷ r .consumption .0 ∷ r .billing .0 ∷ r .from .0 ∷ r .scheduled .0 ∷ []
 
--- a place's 19 words
+-- 19: the removal date, 0 where it is empty
+abbrev pub removalWord : Removal → ℕ
+removalWord Never = 0
+removalWord (On d) = d .0
+
+-- 15 to 19
+abbrev pub lastWords : Posted → Removal → List ℕ
+lastWords p r = postedWords p ++ (removalWord r ∷ [])
+
+-- a place's 20 words
 unfoldable pub billWords : Bill → List ℕ
-billWords b = termsWords (b .terms) ++ latestWords (b .terms .latest) ++ postedWords (b .posted)
+billWords b = termsWords (b .terms) ++ latestWords (b .terms .latest) ++ lastWords (b .posted) (b .terms .removal)
 
 -- the words of some places, one place after the other
 unfoldable pub billsWords : List Bill → List ℕ
@@ -87,7 +98,7 @@ holdsPosted kind charge applied owed =
 abbrev pub holdsCode : ℕ → ℕ → ℕ → ℕ → Bool
 holdsCode first second tens ones = ltb first 256 && (ltb second 256 && (ltb tens 256 && ltb ones 256))
 
--- these words start with the 19 of a place: the code's words are bytes, the product is 66 or 80, cancelled is 0 or 1
+-- these words start with the 20 of a place: the code's words are bytes, the product is 66 or 80, cancelled is 0 or 1
 unfoldable pub holdsBill : List ℕ → Bool
 holdsBill ws =
     holdsCode (getD ws 2 0) (getD ws 3 0) (getD ws 4 0) (getD ws 5 0)
@@ -100,7 +111,7 @@ unfoldable pub holdsBills : ℕ → List ℕ → Bool
 holdsBills zero ws = true
 holdsBills (suc n) ws = holdsBill ws && holdsBills n (drop placeSize ws)
 
--- 2436 words whose 128 places are each a place
+-- 2564 words whose 128 places are each a place
 unfoldable pub holdsLedger : List ℕ → Bool
 holdsLedger ws = eqb (length ws) ledgerSize && holdsBills ledgerPlaces (drop headerSize ws)
 
@@ -123,11 +134,15 @@ latestIn ws =
       scheduled = dateOf (getD ws 14 0);
     }
 
+-- word 19 of a place
+abbrev pub removalIn : ℕ → Removal
+removalIn w = cond (eqb w 0) Never (On (dateOf w))
+
 -- words 2 to 5 of a place
 unfoldable pub codeIn : List ℕ → RateCode
 codeIn ws = record { first = getD ws 2 0; second = getD ws 3 0; tens = getD ws 4 0; ones = getD ws 5 0 }
 
--- words 0 to 14 of a place
+-- words 0 to 14 and 19 of a place
 unfoldable pub termsIn : List ℕ → Terms
 termsIn ws =
     record {
@@ -138,9 +153,10 @@ termsIn ws =
       requests = getD ws 8 0;
       cancelled = eqb (getD ws 9 0) 1;
       latest = latestIn ws;
+      removal = removalIn (getD ws 19 0);
     }
 
--- the bill of the first 19 of these words, word by word
+-- the bill of the first 20 of these words, word by word
 unfoldable pub billIn : List ℕ → Bill
 billIn ws =
     record { terms = termsIn ws; posted = postedIn (getD ws 15 0) (getD ws 16 0) (getD ws 17 0) (getD ws 18 0) }
@@ -150,7 +166,7 @@ unfoldable pub billsIn : ℕ → List ℕ → List Bill
 billsIn zero ws = []
 billsIn (suc n) ws = billIn ws ∷ billsIn n (drop placeSize ws)
 
--- the ledger of 2436 words, word by word
+-- the ledger of 2564 words, word by word
 unfoldable pub ledgerIn : List ℕ → Ledger
 ledgerIn ws =
     record {
@@ -169,6 +185,14 @@ noLedger = record { today = dateOf 0; «next_tracking» = 0; «next_confirmation
 unfoldable pub ledgerOf : List ℕ → Ledger
 ledgerOf ws = cond (holdsLedger ws) (ledgerIn ws) noLedger
 
--- ---- which ledgers have words that say all of them: each place's code is four bytes, as in every ledger of the code
+-- ---- which ledgers have words that say all of them: each place's code is four bytes, as in every ledger of the code, and no removal date is 0, which
+-- stands for an empty one
 abbrev pub byteCode : Bill → Bool
 byteCode b = holdsCode (b .terms .code .first) (b .terms .code .second) (b .terms .code .tens) (b .terms .code .ones)
+
+abbrev pub removalSaid : Removal → Bool
+removalSaid Never = true
+removalSaid (On d) = not (eqb (d .0) 0)
+
+abbrev pub billSaid : Bill → Bool
+billSaid b = byteCode b && removalSaid (b .terms .removal)

@@ -2,10 +2,11 @@
 ghost use mathlib.Core.Path.{_≡_};
 ghost use mathlib.Core.Bool.{true};
 ghost use Prim.Native.Nat.{_+_, _≤_, _<_};
+ghost use mathlib.Core.List.{[], _∷_, _++_};
 ghost use lib.ListN.{length, drop};
 ghost use Rattle.fields.specs.Put.{put};
 ghost use Rattle.ledger.specs.Books.{emptyLedger};
-ghost use Rattle.words.specs.Layout.{placeSize, ledgerSize, markWord, termsWords, latestWords, postedWords, billWords, ledgerWords, holdsCode, holdsPosted, holdsBill, holdsLedger, postedIn, codeIn, latestIn, termsIn, billIn, ledgerOf};
+ghost use Rattle.words.specs.Layout.{placeSize, ledgerSize, markWord, termsWords, latestWords, postedWords, removalWord, billWords, ledgerWords, holdsCode, holdsPosted, holdsBill, holdsLedger, postedIn, codeIn, latestIn, removalIn, termsIn, billIn, ledgerOf};
 ghost use Rattle.ledger.specs.Bills.{productOf};
 ghost use Rattle.units.specs.Calendar.{dateOf};
 use ledger::Bill;
@@ -14,6 +15,7 @@ use ledger::Latest;
 use ledger::Posted;
 use ledger::Product;
 use ledger::RateCode;
+use ledger::Removal;
 use ledger::Terms;
 use units::Ccf;
 use units::Cents;
@@ -22,9 +24,9 @@ use units::Date;
 // How many words stand before the first place, how many a place has, how many places there are, and how many words a ledger has.
 pub const HEADER_SIZE: usize = 4;
 
-pub const PLACE_SIZE: usize = 19;
+pub const PLACE_SIZE: usize = 20;
 
-pub const LEDGER_SIZE: usize = 2436;
+pub const LEDGER_SIZE: usize = 2564;
 
 // ---- which words are those of a ledger
 // Whether four words are bytes.
@@ -112,6 +114,16 @@ fn latest_in(w: &[u64]) -> Latest
     }
 }
 
+// The removal date of a word: 0 is none.
+fn removal_in(w: u64) -> Removal
+    ensures { λ r. ⌜ r ≡ removalIn w ⌝ }
+{
+    if w == 0 {
+        return Removal::Never;
+    }
+    Removal::On(Date(w))
+}
+
 // A word that is a byte.
 fn byte(w: u64) -> u8
     requires { ⌜ w < 256 ⌝ }
@@ -143,6 +155,7 @@ fn terms_in(w: &[u64]) -> Terms
     let code = code_in(w);
     let product = product_in(w[6]);
     let latest = latest_in(w);
+    let removal = removal_in(w[19]);
     Terms {
         identity: Identity {
             account: w[0],
@@ -154,10 +167,11 @@ fn terms_in(w: &[u64]) -> Terms
         requests: w[8],
         cancelled: w[9] == 1,
         latest,
+        removal,
     }
 }
 
-// The bill of the 19 words from index `at` on.
+// The bill of the 20 words from index `at` on.
 pub fn bill_in(words: &[u64], at: usize) -> Bill
     requires { ⌜ at + placeSize ≤ length (now words) ⌝ }
     requires { ⌜ holdsBill (drop at (now words)) ≡ true ⌝ }
@@ -196,18 +210,28 @@ fn wide(x: u8) -> u64
     x as u64
 }
 
-// Words 15 to 18 of a place.
-fn posted_words(p: Posted) -> [u64; 4]
-    ensures { λ r. ⌜ r ≡ postedWords p ⌝ }
+// Word 19 of a place.
+fn removal_word(r: Removal) -> u64
+    ensures { λ w. ⌜ w ≡ removalWord r ⌝ }
+{
+    match r {
+        Removal::Never => 0,
+        Removal::On(d) => d.0,
+    }
+}
+
+// Words 15 to 19 of a place.
+fn last_words(p: Posted, removal: u64) -> [u64; 5]
+    ensures { λ r. ⌜ r ≡ postedWords p ++ (removal ∷ []) ⌝ }
 {
     match p {
-        Posted::None => [0, 0, 0, 0],
-        Posted::BillReady(charge) => [1, charge.0, 0, 0],
+        Posted::None => [0, 0, 0, 0, removal],
+        Posted::BillReady(charge) => [1, charge.0, 0, 0, removal],
         Posted::Prepay {
             charge,
             applied,
             owed,
-        } => [2, charge.0, applied.0, owed.0],
+        } => [2, charge.0, applied.0, owed.0, removal],
     }
 }
 
@@ -243,7 +267,7 @@ fn terms_words(t: Terms) -> [u64; 10]
     ]
 }
 
-// Writes a place's 19 words into words from index `at` on.
+// Writes a place's 20 words into words from index `at` on.
 pub fn put_bill(words: &mut [u64], at: usize, b: Bill)
     requires { ⌜ at + placeSize ≤ length (now words) ⌝ }
     ensures { λ _. ⌜ now (words .exit) ≡ put (now (words .entry)) at (billWords b) ⌝ }
@@ -253,7 +277,8 @@ pub fn put_bill(words: &mut [u64], at: usize, b: Bill)
     let p = b.posted;
     let first = terms_words(t);
     let second = latest_words(r);
-    let third = posted_words(p);
+    let removal = t.removal;
+    let third = last_words(p, removal_word(removal));
     put_words(words, at, &first);
     put_words(words, at + 10, &second);
     put_words(words, at + 15, &third);

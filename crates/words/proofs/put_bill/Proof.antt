@@ -1,8 +1,11 @@
 -- `words::put_bill` meets its contract: the three parts stand one after the other.
 use borrow.Author.Needs.{needs}
 use native.Mathlib.Omega.{arith}
+use Prim.Native.Nat.{ℕ}
 use mathlib.Core.Path.{ap, _∙_}
+use mathlib.Core.List.{[], _∷_, _++_}
 use Rattle.fields.specs.Put.{put}
+use Rattle.words.specs.Layout.{postedWords}
 use Rattle.words.proofs.WordPlaceLaws.{put-parts}
 use Rattle.words.proofs.put_bill.Statement.{statement}
 use Rattle.words.proofs.put_bill.Tie as tie
@@ -13,8 +16,11 @@ terms-words-requires c κs = search needs
 latest-words-requires : tie.Need-latest-words-requires
 latest-words-requires c κs = search needs
 
-posted-words-requires : tie.Need-posted-words-requires
-posted-words-requires c κs = search needs
+removal-word-requires : tie.Need-removal-word-requires
+removal-word-requires c κs = search needs
+
+last-words-requires : tie.Need-last-words-requires
+last-words-requires c κs = search needs
 
 slice-aggregate-put-words : tie.Need-slice-aggregate-put-words
 slice-aggregate-put-words c = search needs
@@ -46,14 +52,15 @@ same-length c = search needs
 returns : tie.Need-returns
 returns c =
     let at-put-words = c .before .before .before .before .before .before .before .before .before .before .before .before in
-    let at-posted-words = at-put-words .before .before .before in
-    let at-latest-words = at-posted-words .before in
+    let at-last-words = at-put-words .before .before .before in
+    let at-removal-word = at-last-words .before in
+    let at-latest-words = at-removal-word .before in
     let at-terms-words = at-latest-words .before in
     let start = at-terms-words .before .before .before .before in
     put-parts (start .args .b) (start .args .at) (start .args .words .now) (at-put-words .put-words .last .0) (c .before .before .before .before .before .before .before .put-words2 .last .0) (c .before .before .put-words3 .last .0) (omega arith)
     (at-put-words .put-words .ensures ∙ ap (put _ _) (at-terms-words .terms-words .ensures))
     (c .before .before .before .before .before .before .before .put-words2 .ensures ∙ ap (put _ _) (at-latest-words .latest-words .ensures))
-    (c .before .before .put-words3 .ensures ∙ ap (put _ _) (at-posted-words .posted-words .ensures))
+    (c .before .before .put-words3 .ensures ∙ ap (put _ _) (at-last-words .last-words .ensures ∙ ap (λ (w : ℕ). postedWords (start .args .b .posted) ++ (w ∷ [])) (at-removal-word .removal-word .ensures)))
 
 pub put-bill-spec : {M : Type 1} → statement M
 put-bill-spec =
@@ -61,7 +68,8 @@ put-bill-spec =
     (tie.spec
     terms-words-requires
     latest-words-requires
-    posted-words-requires
+    removal-word-requires
+    last-words-requires
     slice-aggregate-put-words
     put-words-requires
     add-put-words

@@ -16,14 +16,17 @@ product-in-requires c κs = search needs
 latest-in-requires : tie.Need-latest-in-requires
 latest-in-requires c κs = search needs
 
-shared-slice-read-t6 : tie.Need-shared-slice-read-t6
-shared-slice-read-t6 c = search needs
+shared-slice-read-removal-in : tie.Need-shared-slice-read-removal-in
+shared-slice-read-removal-in c = search needs
 
-shared-slice-read-t9 : tie.Need-shared-slice-read-t9
-shared-slice-read-t9 c = search needs
+removal-in-requires : tie.Need-removal-in-requires
+removal-in-requires c κs = search needs
 
-shared-slice-read-t12 : tie.Need-shared-slice-read-t12
-shared-slice-read-t12 c = search needs
+shared-slice-read-t7 : tie.Need-shared-slice-read-t7
+shared-slice-read-t7 c = search needs
+
+shared-slice-read-t11 : tie.Need-shared-slice-read-t11
+shared-slice-read-t11 c = search needs
 
 shared-slice-read-t14 : tie.Need-shared-slice-read-t14
 shared-slice-read-t14 c = search needs
@@ -31,11 +34,17 @@ shared-slice-read-t14 c = search needs
 shared-slice-read-t16 : tie.Need-shared-slice-read-t16
 shared-slice-read-t16 c = search needs
 
+shared-slice-read-t18 : tie.Need-shared-slice-read-t18
+shared-slice-read-t18 c = search needs
+
 returns : tie.Need-returns
 unfolding termsIn
 returns c =
-    let at-code-in = c .before .before .before .before .before .before .before .before in
-    rw (at-code-in .code-in .ensures, c .before .before .before .before .before .before .product-in .ensures, c .before .before .before .before .before .latest-in .ensures)
+    let at-removal-in = c .before .before .before .before .before in
+    let at-latest-in = at-removal-in .before .before in
+    let at-product-in = at-latest-in .before in
+    let at-code-in = at-product-in .before .before in
+    rw (at-code-in .code-in .ensures, at-product-in .product-in .ensures, at-latest-in .latest-in .ensures, at-removal-in .removal-in .ensures)
 
 pub terms-in-spec : {M : Type 1} → statement M
 terms-in-spec =
@@ -45,9 +54,11 @@ terms-in-spec =
     shared-slice-read-product-in
     product-in-requires
     latest-in-requires
-    shared-slice-read-t6
-    shared-slice-read-t9
-    shared-slice-read-t12
+    shared-slice-read-removal-in
+    removal-in-requires
+    shared-slice-read-t7
+    shared-slice-read-t11
     shared-slice-read-t14
     shared-slice-read-t16
+    shared-slice-read-t18
     returns)

@@ -7,6 +7,7 @@ use lib.ListN.{length, length-set}
 use Rattle.fields.proofs.PutLaws.{length-put}
 use Rattle.ledger.specs.Books.{emptyLedger}
 use Rattle.units.specs.Calendar.{dateOf}
+use Rattle.words.specs.Layout.{ledgerSize}
 use Rattle.words.proofs.WordLaws.{length-bill}
 use Rattle.words.proofs.WordPlaceLaws.{written, written-none}
 use Rattle.words.proofs.EmptyLaws.{blank-more, blank-all}
@@ -14,7 +15,7 @@ use Rattle.words.proofs.write_empty.Statement.{statement}
 use Rattle.words.proofs.write_empty.Tie as tie
 
 abbrev Inv-loop : tie.InvT-loop
-Inv-loop words₀ today tracking confirmation i₀ words i = (i ≤ 128) × (length words₀ ≡ 2436) × (length words ≡ 2436) × (words ≡ written (emptyLedger (dateOf today) tracking confirmation) i words₀)
+Inv-loop words₀ today tracking confirmation i₀ words i = (i ≤ 128) × (length words₀ ≡ ledgerSize) × (length words ≡ ledgerSize) × (words ≡ written (emptyLedger (dateOf today) tracking confirmation) i words₀)
 
 abbrev μ-loop : tie.MeasureT-loop
 μ-loop words₀ today tracking confirmation i₀ words i = 128 - i
@@ -32,7 +33,7 @@ slice-write-words-4 : tie.Need-slice-write-words-4 Inv-loop μ-loop
 slice-write-words-4 c = search needs
 
 loop-holds : tie.Need-loop-holds Inv-loop μ-loop
-loop-holds c = let k : length (c .before .args .words .now) ≡ 2436 = c .before .pre in (omega arith, simp length-set k, simp length-set k, written-none (emptyLedger (dateOf (c .before .args .today)) (c .before .args .tracking) (c .before .args .confirmation)) (c .before .args .words .now) _ (omega arith) refl)
+loop-holds c = let k : length (c .before .args .words .now) ≡ ledgerSize = c .before .pre in (omega arith, simp length-set k, simp length-set k, written-none (emptyLedger (dateOf (c .before .args .today)) (c .before .args .tracking) (c .before .args .confirmation)) (c .before .args .words .now) _ (omega arith) refl)
 
 blank-requires : tie.Need-blank-requires Inv-loop μ-loop
 blank-requires c κs = search needs

@@ -1,6 +1,9 @@
 -- `places::place::put_bill` meets its contract.
 use borrow.Author.Needs.{needs}
 use native.Mathlib.Omega.{arith}
+use mathlib.Core.Path.{_≡_}
+use mathlib.Core.Bool.{true}
+use Rattle.words.specs.Layout.{billSaid}
 use Rattle.words.proofs.WordLaws.{words-long}
 use Rattle.places.proofs.PartLaws.{bill-put, told-code}
 use Rattle.places.proofs.place.put_bill.Statement.{statement}
@@ -19,7 +22,10 @@ same-length : tie.Need-same-length
 same-length c = search needs
 
 returns : tie.Need-returns
-returns c = bill-put _ (c .before .before .before .before .before .pre .0) (c .before .before .before .before .before .args .p) (c .before .before .before .before .before .args .b) _ (c .before .before .before .before .before .pre .1) (told-code (c .before .before .before .before .before .args .b) _ (c .before .before .before .before .before .good .1 .1 .0)) (c .before .before .put-bill .ensures)
+returns c =
+    let start = c .before .before .before .before .before in
+    let said : billSaid (start .args .b) ≡ true = rw (told-code (start .args .b) _ (start .good .1 .1 .0)) (start .pre .2) in
+    bill-put _ (start .pre .0) (start .args .p) (start .args .b) _ (start .pre .1) said (c .before .before .put-bill .ensures)
 
 pub put-bill-spec : {M : Type 1} → statement M
 put-bill-spec =
