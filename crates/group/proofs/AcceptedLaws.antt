@@ -12,6 +12,7 @@ use Rattle.fields.proofs.BoolLaws.{and-left, and-right, or-both, cases}
 use Rattle.fields.proofs.SameLaws.{same-true}
 use Rattle.fields.proofs.HoldLaws.{small-value, length-part-le}
 use Rattle.units.specs.Units.{fitsCents}
+use Rattle.units.specs.Calendar.{isDate}
 use Rattle.units.specs.declared.Date.{Date}
 use Rattle.ledger.specs.declared.Bill.{Bill}
 use Rattle.rules.specs.declared.Found.{Found}
@@ -31,6 +32,7 @@ use Rattle.verdict.specs.declared.Verdict.{Verdict}
 use Rattle.verdict.specs.declared.Verdict.the-variants.{Accepted, Rejected}
 use Rattle.rules.specs.Rules.{Rule, rule, first}
 use Rattle.verdict.specs.Lines.{termsOf, line4, line5, line6, line7, lines8to10, sentConsumption, sentCharge, amountsOf, settle}
+use Rattle.verdict.specs.parts.Dated.{datedTerms, Dated}
 use Rattle.group.specs.Groups.{sought, notificationOf, linesBy, linesOn, verdictOn, verdictBy}
 use Rattle.group.specs.parts.Turns.{soughtBy, inWidths, InWidthsAt, CanPost, cameBy, wentBy}
 
@@ -55,7 +57,7 @@ module _ (t : Bool) (today : Date) (f : Found) (b : Bill) (g : Group) where
   can-post h = go f refl
     where
       go : (k : Found) → f ≡ k → CanPost now b
-      go (found.At p) e = calm-posts now (leb-true _ _ (and-left (leb (b .terms .sequence) 999) (smallCharge b) (rw e at h)))
+      go (found.At p) e = calm-posts now (leb-true _ _ (and-left (leb (b .terms .sequence) 999) (smallCharge b && datedTerms (b .terms)) (rw e at h)))
       go found.Nothing e = let q = nothing-rejects t today g in rw (e, q .1) tt
 
 -- ---- a bill stays inWidths
@@ -97,13 +99,18 @@ sup-room : (l1 l2 t : Bool) (today : Date) (h d : List ℕ) (b : Sought) (prepay
 unfolding line4 line5 line6
 sup-room l1 l2 t today h d b prepay e =
     let o = clear-off (listFor l1 l2 t Supplement today h d b prepay) e in
-    or-both (not (sameList (sequenceIn d) (text "000"))) (eqb (termsOf b .sequence) 999) (o .1 .1 .1 .1 .1 .1 .1 .0) .1
+    or-both (not (sameList (sequenceIn d) (text "000"))) (eqb (termsOf b .sequence) 999) (o .1 .1 .1 .1 .1 .1 .1 .1 .1 .0) .1
 
 -- no line holds of an accepted group, and its amounts are the detail's
 pub accepted-clear : (t : Bool) (v : View) (g : Group) (amounts : Posted) → verdictBy t v g ≡ Accepted amounts
     → (first (linesBy t v g) ≡ Clear) × (amountsOf (isPrepay (termsOf (sought v g) .product)) (detailOf g) ≡ amounts)
 unfolding verdictBy verdictOn linesBy
 accepted-clear t v g amounts e = settle-clear (first (linesBy t v g)) _ amounts e
+
+-- a posting leaves the dates
+dated-posted : (amounts : Posted) (sup : Bool) (b : Bill) → datedTerms (posting amounts sup b .terms) ≡ datedTerms (b .terms)
+unfolding datedTerms
+dated-posted amounts sup b = refl
 
 module _ (t : Bool) (k : Book) (g : Group) (b : Bill) (amounts : Posted) (v : verdictBy t (view k) g ≡ Accepted amounts)
     (y : sought (view k) g ≡ sought.Bill (b .terms)) where
@@ -122,17 +129,25 @@ module _ (t : Bool) (k : Book) (g : Group) (b : Bill) (amounts : Posted) (v : ve
   pub calm-posted : inWidths b ≡ true → inWidths (posting amounts (asksId g) b) ≡ true
   unfolding inWidths
   calm-posted h =
-      let a = leb-true _ 999 (and-left (leb (b .terms .sequence) 999) (smallCharge b) h) in
+      let a = leb-true _ 999 (and-left (leb (b .terms .sequence) 999) (smallCharge b && datedTerms (b .terms)) h) in
+      let d = and-right (smallCharge b) (datedTerms (b .terms)) (and-right (leb (b .terms .sequence) 999) (smallCharge b && datedTerms (b .terms)) h) in
       let m : fitsCents (chargeOf amounts) ≡ true =
       subst (λ (x : Posted). fitsCents (chargeOf x) ≡ true) (clears .1) (charge-small (isPrepay (termsOf (sought (view k) g) .product)) (detailOf g)) in
-      rw m (cases (asksId g)
+      rw (m, dated-posted amounts (asksId g) b, d) (cases (asksId g)
       (λ e. rw e (ap (λ (x : Bool). x && true) (le-leb (b .terms .sequence + 1) 999 (omega (arith, room e)))))
       (λ e. rw e (ap (λ (x : Bool). x && true) (le-leb (b .terms .sequence) 999 a))))
+
+-- ---- the dates that line 6 reads
+pub dated-by : (today : Date) (f : Found) (b : Bill) → isDate (today .0) ≡ true → InWidthsAt f b → Dated today (soughtBy f b)
+unfolding inWidths
+dated-by today found.Nothing b h k = tt
+dated-by today (found.At p) b h k =
+    (h, and-right (smallCharge b) (datedTerms (b .terms)) (and-right (leb (b .terms .sequence) 999) (smallCharge b && datedTerms (b .terms)) k))
 
 -- ---- the charges that come and go
 small-of : (c : Bill) → inWidths c ≡ true → billCharge c ≤ 10 ^ 13
 unfolding inWidths
-small-of c e = omega (arith, ltb-true (billCharge c) (10 ^ 13) (and-right (leb (c .terms .sequence) 999) (smallCharge c) e))
+small-of c e = omega (arith, ltb-true (billCharge c) (10 ^ 13) (and-left (smallCharge c) (datedTerms (c .terms)) (and-right (leb (c .terms .sequence) 999) (smallCharge c && datedTerms (c .terms)) e)))
 
 pub came-small : (t : Bool) (today : Date) (b : Sought) (g : Group) → cameBy (verdictOn t today b g) ≤ 10 ^ 13
 unfolding verdictOn

@@ -9,6 +9,7 @@ use lib.ListN.{length, set, drop, length-set}
 use lib.Seq.{take-append-seam, drop-append-seam}
 use Rattle.fields.specs.Put.{put}
 use Rattle.fields.proofs.BoolLaws.{and-left, and-right}
+use Rattle.units.specs.Calendar.{isDate}
 use Rattle.ledger.specs.declared.Bill.{Bill}
 use Rattle.ledger.specs.declared.Ledger.{Ledger}
 use Rattle.ledger.specs.declared.LedgerHeader.{LedgerHeader}
@@ -115,6 +116,7 @@ all s n = groups (recordsFrom s 0 n)
 pub record Walk (s : List ℕ) (n : ℕ) (l : Ledger) (writes : Bool) (out₀ : List ℕ) (k : Ledger) (out : List ℕ) (c : Tally) (i : ℕ) : Type 0 where
   pub within : i ≤ n
   pub room : c .written ≤ (i + leading (recordsFrom s i (n - i))) * 321
+  pub today : isDate (k .today .0) ≡ true
   pub places : length (k .bills) ≡ 128
   pub few : k .count ≤ 128
   pub bills : every inWidths (live k) ≡ true
@@ -141,6 +143,7 @@ walk-start s n l writes out k r =
     record {
       within = omega arith;
       room = omega arith;
+      today = r .today;
       places = k;
       few = r .count;
       bills = r .bills;
@@ -170,6 +173,7 @@ module _ (s : List ℕ) (n : ℕ) (l : Ledger) (writes : Bool) (out₀ : List �
       record {
         within = omega arith;
         room = omega (arith, w .room, leading-detail s i n h e);
+        today = w .today;
         places = w .places;
         few = w .few;
         bills = w .bills;
@@ -287,6 +291,7 @@ module _ (s : List ℕ) (n : ℕ) (l : Ledger) (writes : Bool) (out₀ : List �
           (record {
             within = omega arith;
             room = omega (arith, w .room, leading-header s i n h e, long);
+            today = ap (λ (x : LedgerHeader). isDate (x .today .0)) (leaves .header) ∙ w .today;
             places = length-set (k .bills) p (r .update .bill) ∙ w .places;
             few = omega (arith, ap (λ (x : LedgerHeader). x .count) (leaves .header), w .few);
             bills = ap (λ (x : Book). every inWidths (x .bills)) book-is ∙ calm-kept t k g (omega (arith, w .places, w .few)) (w .bills);
@@ -342,6 +347,7 @@ module _ (s : List ℕ) (n : ℕ) (l : Ledger) (writes : Bool) (out₀ : List �
   pub walk-fine : n ≤ 200 → FitForTurn k c
   walk-fine few =
       record {
+        today = w .today;
         places = w .places;
         count = w .few;
         bills = w .bills;

@@ -8,7 +8,9 @@ ghost use mathlib.Core.Bool.{true, false, cond};
 ghost use Prim.Native.Nat.{ℕ, _+_, _-_, _*_, _≤_, _<_};
 ghost use lib.ListN.{length, getD};
 ghost use Rattle.records.specs.Limits.{recordSize, fileRecords};
+ghost use Rattle.units.specs.Calendar.{isDate};
 ghost use Rattle.file.specs.parts.Walk.{groupAt, markAt};
+ghost use Rattle.verdict.specs.parts.Dated.{Dated};
 ghost use Rattle.group.specs.Groups.{verdictOn};
 ghost use Rattle.group.specs.parts.Turns.{identityIn, identityAt, soughtBy, InWidthsAt, CanPost, idsBy, billBy, WithinFile, TurnLeaves};
 use file::Form;
@@ -76,6 +78,7 @@ pub fn identity_at(s: &[u8], i: usize, n: usize) -> Identity
 // Lines 1 to 10 for the group whose header is record i; duplicate says what line 3 asks, b is the bill it names.
 pub fn verdict_at(s: &[u8], i: usize, n: usize, duplicate: bool, b: Sought, today: Date) -> Verdict
     requires { ⌜ (i < n) × (n * recordSize ≤ length (now s)) ⌝ }
+    requires { ⌜ Dated today b ⌝ }
     ensures { λ r. ⌜ r ≡ verdictOn duplicate today b (groupAt (now (s .entry)) i n) ⌝ }
 {
     let form = file::form_at(s, i, n);
@@ -153,7 +156,7 @@ pub fn turn(
     b: Bill,
 ) -> TurnResult
     requires { ⌜ (g .header < g .records) × (g .records * recordSize ≤ length (now s)) × (g .records ≤ fileRecords) × (writes ≡ true → c .written + (g .records - g .header) * recordSize ≤ length (now out)) ⌝ }
-    requires { ⌜ InWidthsAt f b × WithinFile c × (h .tracking ≤ 1000000200) × (h .confirmation ≤ 1000000200) ⌝ }
+    requires { ⌜ InWidthsAt f b × WithinFile c × (h .tracking ≤ 1000000200) × (h .confirmation ≤ 1000000200) × (isDate (h .today .0) ≡ true) ⌝ }
     ensures { λ r. ⌜ TurnLeaves (verdictOn (g .duplicate) (h .today) (soughtBy f b) (groupAt (now (s .entry)) (g .header) (g .records))) (groupAt (now (s .entry)) (g .header) (g .records)) h b c writes (now (out .entry)) (now (out .exit)) r ⌝ }
 {
     let sup = file::sup_at(s, g.header);

@@ -50,7 +50,7 @@ unfolding line4 line5 line6 line7 line8 line9 line10
 paid l1 l2 t Response today h d b e =
     not-false _ (clear-off (listFor l1 l2 t Response today h d b true) e .1 .1 .1 .1 .1 .1 .1 .1 .1 .1 .1 .1 .1 .1 .1 .1 .1 .0)
 paid l1 l2 t Supplement today h d b e =
-    not-false _ (clear-off (listFor l1 l2 t Supplement today h d b true) e .1 .1 .1 .1 .1 .1 .1 .1 .1 .1 .1 .1 .1 .1 .1 .1 .1 .0)
+    not-false _ (clear-off (listFor l1 l2 t Supplement today h d b true) e .1 .1 .1 .1 .1 .1 .1 .1 .1 .1 .1 .1 .1 .1 .1 .1 .1 .1 .1 .0)
 
 -- a field of 13 bytes is in its width
 fits-13 : (d : List ℕ) (at : ℕ) → fitsCents (cents (value (fieldOf (Rattle.fields.specs.Put.part d at 13)))) ≡ true

@@ -1,2 +1,3 @@
 -- Lines 4 to 10 of "Supplier file".
 pub mod Lines
+pub mod parts

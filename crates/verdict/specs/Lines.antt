@@ -10,8 +10,11 @@ use Rattle.fields.specs.declared.Field.{Field}
 use Rattle.fields.specs.declared.Field.the-variants.{Number, NotNumeric}
 use Rattle.fields.specs.Field.{fieldOf, bad, value}
 use Rattle.units.specs.declared.Date.{Date}
+use Rattle.units.specs.Days.{yearPast, daysPast}
 use Rattle.ledger.specs.declared.Posted.{Posted}
 use Rattle.ledger.specs.declared.Posted.the-variants as posted
+use Rattle.ledger.specs.declared.Removal.{Removal}
+use Rattle.ledger.specs.declared.Removal.the-variants.{Never, On}
 use Rattle.ledger.specs.declared.Terms.{Terms}
 use Rattle.ledger.specs.Bills.{codeBytes, isPrepay, isOpen, cents, blankBill}
 use Rattle.records.specs.Layout.{rateCodeIn, trackingIn, balanceIn, sequenceIn, consumptionIn, detailChargeIn, tierRateIn, appliedIn, owedIn}
@@ -50,8 +53,17 @@ line4 b = rule (isNothing b) 16 ∷ []
 unfoldable pub line5 : List ℕ → Terms → List Rule
 line5 h t = rule (not (sameList (rateCodeIn h) (codeBytes (t .code)))) 7 ∷ []
 
+-- paper 2 of document 02, "if today is more than 60 days past the removal date": never where it is empty
+abbrev pub removalDays : ℕ
+removalDays = 60
+
+abbrev pub removedLong : Date → Removal → Bool
+removedLong today Never = false
+removedLong today (On d) = daysPast removalDays (d .0) (today .0)
+
 -- "6. RSP: BR09 if not open; BR01 if the Tracking ID isn't the latest request's; BR05 if the sequence isn't the bill's. SUP: BR09 if cancelled (H);
--- BR11 if open; BR05 if the sequence isn't 000 or the bill's is 999 (H)."
+-- BR11 if open; BR05 if the sequence isn't 000 or the bill's is 999 (H)." Paper 2 of document 02: "A SUP gets BR12 if today is after the same day one year past
+-- the Billing Date .. It gets BR13 if today is more than 60 days past the removal date. Both stand between BR11 and BR05, in that order."
 unfoldable pub line6 : Notification → Date → List ℕ → List ℕ → Terms → List Rule
 line6 Response today h d t =
     rule (not (isOpen today t)) 9
@@ -61,6 +73,8 @@ line6 Response today h d t =
 line6 Supplement today h d t =
     rule (t .cancelled) 9
     ∷ rule (isOpen today t) 11
+    ∷ rule (yearPast (t .latest .billing .0) (today .0)) 12
+    ∷ rule (removedLong today (t .removal)) 13
     ∷ rule (not (sameList (sequenceIn d) (text "000")) || eqb (t .sequence) lastSequence) 5
     ∷ []
 

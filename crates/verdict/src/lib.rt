@@ -9,10 +9,14 @@ ghost use Rattle.ledger.specs.Bills.{codeBytes, isPrepay};
 ghost use Rattle.records.specs.Limits.{recordSize};
 ghost use Rattle.records.specs.Layout.{rateCodeIn, tierRateIn};
 ghost use Rattle.rules.specs.Rules.{first};
-ghost use Rattle.verdict.specs.Lines.{line6, rateOf, line9, lines8to10, lines7to10, lines5to10, sentCharge, amountsOf, settle, verdictOf};
+ghost use Rattle.units.specs.Calendar.{isDate};
+ghost use Rattle.ledger.specs.Sound.{soundRemoval};
+ghost use Rattle.verdict.specs.parts.Dated.{datedTerms, Dated};
+ghost use Rattle.verdict.specs.Lines.{removedLong, line6, rateOf, line9, lines8to10, lines7to10, lines5to10, sentCharge, amountsOf, settle, verdictOf};
 use fields::Field;
 use ledger::Posted;
 use ledger::RateCode;
+use ledger::Removal;
 use ledger::Terms;
 use records::Tiers;
 use rules::Check;
@@ -71,9 +75,24 @@ fn line_6_response(h: &[u8], d: &[u8], t: Terms, today: Date) -> Check
     Check::Clear
 }
 
+// The days past a removal on which a SUP is still taken.
+const REMOVAL_DAYS: u64 = 60;
+
+// Whether today is more than 60 days past the removal date, if there is one.
+fn removed_long(removal: Removal, today: Date) -> bool
+    requires { ⌜ (isDate (today .0) ≡ true) × (soundRemoval removal ≡ true) ⌝ }
+    ensures { λ r. ⌜ r ≡ removedLong today removal ⌝ }
+{
+    match removal {
+        Removal::Never => false,
+        Removal::On(d) => today.is_days_past(REMOVAL_DAYS, d),
+    }
+}
+
 // Line 6 for SUP.
 fn line_6_supplement(h: &[u8], d: &[u8], t: Terms, today: Date) -> Check
     requires { ⌜ (recordSize ≤ length (now h)) × (recordSize ≤ length (now d)) ⌝ }
+    requires { ⌜ (isDate (today .0) ≡ true) × (datedTerms t ≡ true) ⌝ }
     ensures { λ r. ⌜ r ≡ first (line6 Notification.Supplement today (now (h .entry)) (now (d .entry)) t) ⌝ }
 {
     let cancelled = t.cancelled;
@@ -82,6 +101,14 @@ fn line_6_supplement(h: &[u8], d: &[u8], t: Terms, today: Date) -> Check
     }
     if t.is_open(today) {
         return Check::Stop(11);
+    }
+    let billing = t.latest.billing;
+    if today.is_year_past(billing) {
+        return Check::Stop(12);
+    }
+    let removal = t.removal;
+    if removed_long(removal, today) {
+        return Check::Stop(13);
     }
     if !records::has_sequence(d, 0) {
         return Check::Stop(5);
@@ -96,6 +123,7 @@ fn line_6_supplement(h: &[u8], d: &[u8], t: Terms, today: Date) -> Check
 // Line 6: from the Notification Code to its check lines.
 fn line_6(h: &[u8], d: &[u8], notification: Notification, t: Terms, today: Date) -> Check
     requires { ⌜ (recordSize ≤ length (now h)) × (recordSize ≤ length (now d)) ⌝ }
+    requires { ⌜ (isDate (today .0) ≡ true) × (datedTerms t ≡ true) ⌝ }
     ensures { λ r. ⌜ r ≡ first (line6 notification today (now (h .entry)) (now (d .entry)) t) ⌝ }
 {
     match notification {
@@ -207,6 +235,7 @@ fn amounts(h: &[u8], d: &[u8], t: Terms) -> Verdict
 // Lines 5 to 10.
 fn known(h: &[u8], d: &[u8], notification: Notification, t: Terms, today: Date) -> Verdict
     requires { ⌜ (recordSize ≤ length (now h)) × (recordSize ≤ length (now d)) ⌝ }
+    requires { ⌜ (isDate (today .0) ≡ true) × (datedTerms t ≡ true) ⌝ }
     ensures { λ r. ⌜ r ≡ settle (first (lines5to10 notification today (now (h .entry)) (now (d .entry)) t)) (amountsOf (isPrepay (t .product)) (now (d .entry))) ⌝ }
 {
     let code = t.code;
@@ -223,6 +252,7 @@ fn known(h: &[u8], d: &[u8], notification: Notification, t: Terms, today: Date) 
 // Lines 4 to 10.
 pub fn verdict_of(h: &[u8], d: &[u8], notification: Notification, b: Sought, today: Date) -> Verdict
     requires { ⌜ (recordSize ≤ length (now h)) × (recordSize ≤ length (now d)) ⌝ }
+    requires { ⌜ Dated today b ⌝ }
     ensures { λ r. ⌜ r ≡ verdictOf notification today (now (h .entry)) (now (d .entry)) b ⌝ }
 {
     let Sought::Bill(t) = b else {

@@ -1,14 +1,15 @@
 -- `group::turn` meets its contract: its parts answer by one verdict.
-use mathlib.Core.Path.{_≡_, refl, sym, ap, _∙_}
+use mathlib.Core.Path.{_≡_, refl, sym, ap, subst, _∙_}
 use native.Mathlib.Omega.{arith}
 use Rattle.records.specs.Layout.{isSup}
 use Rattle.file.specs.File.{asksId}
 use Rattle.file.specs.parts.Walk.{groupAt}
 use Rattle.file.proofs.FileLaws.{header-is}
 use Rattle.verdict.specs.declared.Verdict.{Verdict}
+use Rattle.verdict.specs.parts.Dated.{Dated}
 use Rattle.group.specs.Groups.{verdictOn}
 use Rattle.group.specs.parts.Turns.{soughtBy}
-use Rattle.group.proofs.AcceptedLaws.{can-post, came-small, went-small}
+use Rattle.group.proofs.AcceptedLaws.{can-post, dated-by, came-small, went-small}
 use Rattle.group.proofs.TurnParts.{verdict-now, turn-done}
 use borrow.Author.Needs.{needs}
 use Rattle.group.proofs.turn.Statement.{statement}
@@ -21,7 +22,12 @@ sought-by-requires : tie.Need-sought-by-requires
 sought-by-requires c κs = search needs
 
 verdict-at-requires : tie.Need-verdict-at-requires
-verdict-at-requires c κs = search needs
+verdict-at-requires c κs =
+    let start = c .before .before .before .before .before in (
+      (start .pre .0 .0, start .pre .0 .1),
+      subst (Dated (start .args .h .today)) (sym (c .sought-by .ensures))
+          (dated-by (start .args .h .today) (start .args .f) (start .args .b) (start .pre .1 .4) (start .pre .1 .0)),
+    )
 
 answer-requires : tie.Need-answer-requires
 answer-requires c κs = search needs

@@ -7,6 +7,7 @@ use lib.Dec.{leb}
 use lib.ListN.{length}
 use Rattle.fields.specs.Put.{put}
 use Rattle.fields.specs.Field.{fieldOf, value}
+use Rattle.units.specs.Calendar.{isDate}
 use Rattle.ledger.specs.declared.Identity.{Identity}
 use Rattle.ledger.specs.declared.Bill as bill
 use Rattle.ledger.specs.declared.Ledger.{Ledger}
@@ -25,6 +26,7 @@ use Rattle.verdict.specs.declared.Sought.{Sought}
 use Rattle.verdict.specs.declared.Sought.the-variants as sought
 use Rattle.verdict.specs.declared.Verdict.{Verdict}
 use Rattle.verdict.specs.declared.Verdict.the-variants.{Accepted, Rejected}
+use Rattle.verdict.specs.parts.Dated.{datedTerms}
 use Rattle.notices.specs.Answers.{acf, rej}
 use Rattle.group.specs.declared.Tally.{Tally}
 use Rattle.group.specs.declared.TurnResult.{TurnResult}
@@ -47,7 +49,7 @@ soughtBy (found.At p) b = sought.Bill (b .terms)
 
 -- what a turn asks of a bill that was found: a sound one has it
 unfoldable pub inWidths : bill.Bill → Bool
-inWidths b = leb (b .terms .sequence) lastSequence && smallCharge b
+inWidths b = leb (b .terms .sequence) lastSequence && (smallCharge b && datedTerms (b .terms))
 
 abbrev pub InWidthsAt : Found → bill.Bill → Type 0
 InWidthsAt (found.At p) b = inWidths b ≡ true
@@ -55,6 +57,7 @@ InWidthsAt found.Nothing b = Unit {0}
 
 -- what a walk over a file's groups asks of a ledger: a sound one has it
 pub record Ready (l : Ledger) : Type 0 where
+  pub today : isDate (l .today .0) ≡ true
   pub count : l .count ≤ ledgerPlaces
   pub bills : every inWidths (live l) ≡ true
   pub tracking : l .«next_tracking» ≤ usedUp
@@ -138,6 +141,7 @@ pub record TurnLeaves (v : Verdict) (g : Group) (h : LedgerHeader) (b : bill.Bil
 -- ---- the same on a struct, wherever it is held
 -- what a turn asks of it
 pub record FitForTurn (l : Ledger) (c : Tally) : Type 0 where
+  pub today : isDate (l .today .0) ≡ true
   pub places : length (l .bills) ≡ ledgerPlaces
   pub count : l .count ≤ ledgerPlaces
   pub bills : every inWidths (live l) ≡ true

@@ -17,7 +17,7 @@ turn-requires c κs =
     let fit = start .pre .1 in
     let r = at-read .read-for .ensures in
     let calm = turn-calm (start .args .t .ledger) (start .args .t .tally) fit (start .args .s .now) (start .args .g .header) (start .args .g .records) _ (at-read .before .identity-at .ensures) _ (r .found) _ (r .place) _ (r .bill) in
-    ((start .pre .0 .0, start .pre .0 .1, start .pre .0 .2, λ z. start .pre .0 .3), (calm, fit .few, rw (r .header) (fit .tracking), rw (r .header) (fit .confirmation)))
+    ((start .pre .0 .0, start .pre .0 .1, start .pre .0 .2, λ z. start .pre .0 .3), (calm, fit .few, rw (r .header) (fit .tracking), rw (r .header) (fit .confirmation), rw (r .header) (fit .today)))
 
 updated-requires : tie.Need-updated-requires
 updated-requires c κs = search needs
