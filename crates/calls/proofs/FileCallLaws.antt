@@ -39,7 +39,7 @@ use Rattle.group.proofs.GroupWalk.{book-stored}
 use Rattle.causes.proofs.FileFreshLaws.{good-short}
 use Rattle.calls.proofs.CallLaws.{Carried, Stopped, carried, stopped}
 use Rattle.calls.proofs.CalendarCalls.{clear-dated}
-use Rattle.causes.specs.Causes.{Call, request, calendar, file, cancel, close, lacks, fileCauses, causes, workedOut}
+use Rattle.causes.specs.Causes.{Call, request, calendar, file, cancel, close, removal, lacks, fileCauses, causes, workedOut}
 use Rattle.causes.proofs.CauseLaws.{asks, sends, cancels}
 use Rattle.calls.specs.Machine.{cause, roomOf, causeIn, outcome, stepIn, leftBy, answerBy, called, next, nextWritten, nextVerdicts, nextClosed}
 use Rattle.calls.specs.parts.Answers.{cleared}
@@ -172,3 +172,4 @@ written-within l (file s room) e =
 written-within l (cancel id room) e =
     cxl-within _ room (cancels id room (l .tracking) (l .confirmation) _ (clear-causes l (cancel id room) e) .wide)
 written-within l (close d) e = omega arith
+written-within l (removal a) e = omega arith

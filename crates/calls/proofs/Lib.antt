@@ -8,3 +8,4 @@ pub mod FreshCloseLaws
 pub mod FileCallLaws
 pub mod CountLaws
 pub mod CalendarCalls
+pub mod RemovalCalls

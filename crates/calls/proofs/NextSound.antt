@@ -1,25 +1,28 @@
 -- A call that is carried out leaves a sound ledger sound. Assumes nothing.
 use Prim.Native.Nat.{ℕ, _+_, _≤_}
-use mathlib.Core.Path.{_≡_, refl, sym, _∙_}
-use mathlib.Core.Bool.{true, false, not}
+use mathlib.Core.Path.{_≡_, refl, sym, ap, ap₂, _∙_}
+use mathlib.Core.Bool.{Bool, true, false, not, _&&_, _||_}
 use mathlib.Core.List.{List, [], _∷_, _++_, map}
 use lib.Dec.{eqb, leb}
 use lib.ListN.{length, length-append, length-map}
 use native.Mathlib.Omega.{arith}
+use borrow.Author.Needs.{needs}
 use borrow.Author.Tests.{leb-true, ltb-true, eqb-true, eqb-false, eq-eqb, ne-eqb, not-true}
 use Rattle.fields.specs.Digits.{fits}
 use Rattle.fields.proofs.BoolLaws.{and-left, and-right, or-both, cases}
+use Rattle.units.specs.declared.Date.{Date}
+use Rattle.units.specs.Calendar.{isDate}
 use Rattle.ledger.specs.declared.Identity.{Identity}
 use Rattle.ledger.specs.declared.Terms.{Terms}
 use Rattle.ledger.specs.declared.Bill as bill
 use Rattle.ledger.specs.declared.Posted.{Posted}
 use Rattle.ledger.specs.declared.Posted.the-variants as posted
 use Rattle.rules.specs.Lists.{all, has, every}
-use Rattle.ledger.specs.Bills.{isOf, isRateCode, codeBytes, renewed, cancelledBill}
-use Rattle.ledger.specs.Books.{Book, view, billTerms, ofId}
+use Rattle.ledger.specs.Bills.{isOf, isRateCode, codeBytes, renewed, cancelledBill, removedTerms}
+use Rattle.ledger.specs.Books.{Book, view, billTerms, ofId, ofAccount, removedOf}
 use Rattle.ledger.specs.Sound.{soundTerms, soundAmounts, soundBill, holdsId, distinct, sound}
 use Rattle.rules.proofs.ListLaws.{all-on, every-append}
-use Rattle.ledger.proofs.SoundLaws.{moved-facts, BookFacts, book-facts, facts-sound, terms-facts, facts-terms, bill-terms}
+use Rattle.ledger.proofs.SoundLaws.{TermsFacts, moved-facts, BookFacts, book-facts, facts-sound, terms-facts, facts-terms, bill-terms}
 use Rattle.file.specs.File.{fileGroups}
 use Rattle.file.proofs.WalkLaws.{has-append}
 use Rattle.verdict.specs.declared.Sought.the-variants.{Bill, Nothing}
@@ -30,12 +33,12 @@ use Rattle.group.proofs.GroupWalk.{length-update}
 use Rattle.groups.proofs.FileSound.{bills-kept, distinct-kept, next-up, file-sound}
 use Rattle.causes.specs.declared.CodeField.{CodeField}
 use Rattle.causes.specs.declared.Request.{Request}
-use Rattle.causes.specs.Causes.{fiveOf, Call, request, calendar, file, cancel, close, requestTests, causes, workedOut}
+use Rattle.causes.specs.Causes.{fiveOf, Call, request, calendar, file, cancel, close, removal, requestTests, causes, workedOut}
 use Rattle.calls.proofs.CalendarCalls.{clear-dated}
 use Rattle.causes.specs.Requests.{codeOf, latestOf, newBill}
 use Rattle.calls.specs.Machine.{numbered, next}
 use Rattle.causes.proofs.CodeLaws.{good-five}
-use Rattle.causes.proofs.CauseLaws.{asks, sends, cancels, closes-on}
+use Rattle.causes.proofs.CauseLaws.{asks, sends, cancels, closes-on, removes}
 
 -- ---- a bill
 -- what soundness asks of the amounts reads the mark and the product alone
@@ -69,6 +72,7 @@ module _ (l : Book) (r : Request) (f : BookFacts l) (g : all (requestTests r) �
         billing = o .1 .1 .1 .0;
         from = o .1 .1 .1 .1 .0;
         scheduled = o .1 .1 .1 .1 .1 .1 .0;
+        removal = refl;
       })
 
   renewed-sound : (b : bill.Bill) → (b .terms .sequence ≡ 999 → ⊥) → soundBill b ≡ true → soundBill (renewed (latestOf r (l .tracking)) b) ≡ true
@@ -90,6 +94,43 @@ cancelled-sound b h =
     let t = terms-facts (b .terms) (bill-terms b h) in
     let s = facts-terms (cancelledBill b .terms) (moved-facts (b .terms) (b .terms) _ _ _ t t (t .asked) (t .requests) (t .sequence)) in
     rw s
+
+-- ---- a removal
+removed-terms : (t : Terms) (date : Date) → TermsFacts t → isDate (date .0) ≡ true → TermsFacts (removedTerms date t)
+removed-terms t date f h = search needs
+
+removed-sound : (account : ℕ) (date : Date) → isDate (date .0) ≡ true → (b : bill.Bill) → soundBill b ≡ true → soundBill (removedOf account date b) ≡ true
+unfolding soundBill
+removed-sound account date h b s =
+    let t = facts-terms (removedTerms date (b .terms)) (removed-terms (b .terms) date (terms-facts (b .terms) (bill-terms b s)) h) in
+    cases (ofAccount account b)
+    (λ e. rw (e, t) (amounts-same (removedTerms date (b .terms)) (b .terms) (b .posted) refl refl ∙ and-right (soundTerms (b .terms)) (soundAmounts (b .terms) (b .posted)) s))
+    (λ e. rw e s)
+
+-- a bill keeps its identity
+removed-id : (account : ℕ) (date : Date) (b : bill.Bill) → removedOf account date b .terms .identity ≡ b .terms .identity
+removed-id account date b = cases (ofAccount account b) (λ e. rw e) (λ e. rw e)
+
+pub removed-holds : (account : ℕ) (date : Date) (id : Identity) (bs : List bill.Bill) → holdsId id (map (removedOf account date) bs) ≡ holdsId id bs
+removed-holds account date id [] = refl
+removed-holds account date id (b ∷ bs) =
+    ap₂ (λ (x : Identity) (y : Bool). (eqb (x .account) (id .account) && eqb (x .key) (id .key)) || y) (removed-id account date b)
+    (removed-holds account date id bs)
+
+removed-distinct : (account : ℕ) (date : Date) (bs : List bill.Bill) → distinct (map (removedOf account date) bs) ≡ distinct bs
+unfolding distinct
+removed-distinct account date [] = refl
+removed-distinct account date (b ∷ bs) =
+    ap₂ (λ (x y : Bool). not x && y)
+    (ap (λ (id : Identity). holdsId id (map (removedOf account date) bs)) (removed-id account date b) ∙ removed-holds account date (b .terms .identity) bs)
+    (removed-distinct account date bs)
+
+every-removed : (account : ℕ) (date : Date) → isDate (date .0) ≡ true → (bs : List bill.Bill) → every soundBill bs ≡ true
+    → every soundBill (map (removedOf account date) bs) ≡ true
+every-removed account date h [] s = refl
+every-removed account date h (b ∷ bs) s =
+    rw (removed-sound account date h b (and-left (soundBill b) (every soundBill bs) s))
+    (every-removed account date h bs (and-right (soundBill b) (every soundBill bs) s))
 
 -- ---- a bill more
 eqb-sym : (a b : ℕ) → eqb a b ≡ eqb b a
@@ -174,4 +215,14 @@ next-facts l (close d) f e =
       few = f .few;
       bills = f .bills;
       once = f .once;
+    }
+next-facts l (removal a) f e =
+    let g = removes a _ e in
+    record {
+      today = f .today;
+      tracking = f .tracking;
+      confirmation = f .confirmation;
+      few = omega (arith, length-map (l .bills) (removedOf (a .account) (a .date)), f .few);
+      bills = every-removed (a .account) (a .date) (g .date) (l .bills) (f .bills);
+      once = removed-distinct (a .account) (a .date) (l .bills) ∙ f .once;
     }

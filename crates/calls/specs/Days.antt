@@ -16,7 +16,7 @@ use Rattle.causes.specs.Causes.{freshCauses}
 abbrev pub freshLedger : Start → Ledger
 freshLedger s = emptyLedger (s .today) (s .tracking) (s .confirmation)
 
--- what fresh and close return: the change is "0 for fresh, request and close", and nothing is written
+-- what fresh, close and removal return: the change is "0 for fresh, request and close", and nothing is written
 abbrev pub quietAnswer : ℕ → Answer
 quietAnswer closed = Done (record { change = pos 0; written = 0; accepted = 0; rejected = 0; closed = closed })
 

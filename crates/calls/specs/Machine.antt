@@ -10,7 +10,7 @@ use Rattle.ledger.specs.declared.Bill.{Bill}
 use Rattle.ledger.specs.declared.Ledger.{Ledger}
 use Rattle.rules.specs.Lists.{count, update}
 use Rattle.ledger.specs.Bills.{renewed, cancelledBill, blankBill}
-use Rattle.ledger.specs.Books.{Book, book, view, stored, ofId, totalOf}
+use Rattle.ledger.specs.Books.{Book, book, view, stored, ofId, removedOf, totalOf}
 use Rattle.ledger.specs.Sound.{holdsId, sound, soundLedger}
 use Rattle.notices.specs.Notices.{bil, cxl}
 use Rattle.file.specs.File.{fileGroups}
@@ -24,7 +24,7 @@ use Rattle.causes.specs.declared.Request.{Request}
 use Rattle.calls.specs.declared.Called.{Called}
 use Rattle.calls.specs.declared.Answer.{Answer}
 use Rattle.calls.specs.declared.Answer.the-variants.{Done, Refused}
-use Rattle.causes.specs.Causes.{Call, request, calendar, file, cancel, close, causes, workedOut}
+use Rattle.causes.specs.Causes.{Call, request, calendar, file, cancel, close, removal, causes, workedOut}
 use Rattle.causes.specs.Requests.{latestOf, newBill, closes}
 
 -- "a ledger that isn't sound" is 2; then the causes of the call in their order
@@ -55,13 +55,21 @@ nextRequested l r =
     (update (ofId (r .identity)) (renewed (latestOf r (l .tracking))) (l .bills))
     (l .bills ++ (newBill r (l .tracking) ∷ [])))
 
--- the ledger that a call leaves: a request by calendar that of the request with the date worked out
+-- the ledger that a call leaves: a request by calendar that of the request with the date worked out; a removal sets its date "on all bills of an account,
+-- replacing any earlier one"
 unfoldable pub next : Book → Call → Book
 next l (request r room) = nextRequested l r
 next l (calendar q hs room) = nextRequested l (workedOut q hs (l .today))
 next l (file s room) = taken [] l (fileGroups s)
 next l (cancel id room) = numbered l (update (ofId id) cancelledBill (l .bills))
 next l (close d) = record { today = d; tracking = l .tracking; confirmation = l .confirmation; bills = l .bills }
+next l (removal a) =
+    record {
+      today = l .today;
+      tracking = l .tracking;
+      confirmation = l .confirmation;
+      bills = map (removedOf (a .account) (a .date)) (l .bills);
+    }
 
 -- the bytes that it writes: a request "writes a BIL", a file the answers to its groups, a cancel "writes a CXL"
 abbrev pub bilRequested : Book → Request → List ℕ
@@ -87,14 +95,16 @@ nextWritten l (cancel id room) =
       confirmation = l .confirmation;
     })
 nextWritten l (close d) = []
+nextWritten l (removal a) = []
 
--- the length of the output lent to it; a close is lent none
+-- the length of the output lent to it; a close and a removal are lent none
 abbrev pub roomOf : Call → ℕ
 roomOf (request r room) = room
 roomOf (calendar q hs room) = room
 roomOf (file s room) = room
 roomOf (cancel id room) = room
 roomOf (close d) = 0
+roomOf (removal a) = 0
 
 -- the verdicts of a file's groups
 unfoldable pub nextVerdicts : Book → Call → List Verdict
@@ -103,6 +113,7 @@ nextVerdicts l (calendar q hs room) = []
 nextVerdicts l (file s room) = verdicts [] l (fileGroups s)
 nextVerdicts l (cancel id room) = []
 nextVerdicts l (close d) = []
+nextVerdicts l (removal a) = []
 
 unfoldable pub nextClosed : Book → Call → ℕ
 nextClosed l (request r room) = 0
@@ -110,6 +121,7 @@ nextClosed l (calendar q hs room) = 0
 nextClosed l (file s room) = 0
 nextClosed l (cancel id room) = 0
 nextClosed l (close d) = count (closes (l .today) d) (l .bills)
+nextClosed l (removal a) = 0
 
 -- ---- a call
 -- the total of the posted table

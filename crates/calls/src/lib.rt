@@ -2,6 +2,7 @@
 pub mod carried_out;
 pub mod days;
 pub mod files;
+pub mod removals;
 
 use ledger::Ledger;
 

@@ -1,13 +1,14 @@
 -- What it tells that no cause holds against a call. Assumes nothing.
 use Prim.Native.Nat.{ℕ, _+_, _≤_, _<_}
 use mathlib.Core.Path.{_≡_, refl}
-use mathlib.Core.Bool.{true, false, not, _&&_}
+use mathlib.Core.Bool.{Bool, true, false, not, _&&_}
 use mathlib.Core.List.{List, [], _∷_}
 use lib.Dec.{eqb, ltb}
 use lib.ListN.{length}
 use borrow.Author.Tests.{leb-false, ltb-false, eqb-false, not-false}
 use Rattle.fields.specs.Put.{sameList}
-use Rattle.fields.proofs.BoolLaws.{or-both}
+use Rattle.fields.specs.Digits.{fits}
+use Rattle.fields.proofs.BoolLaws.{and-left, and-right, or-both}
 use Rattle.units.specs.declared.Date.{Date}
 use Rattle.units.specs.Calendar.{isDate}
 use Rattle.ledger.specs.Limits.{lastSequence}
@@ -28,7 +29,8 @@ use Rattle.rules.specs.Rules.{Rule, rule, first}
 use Rattle.verdict.specs.Lines.{isNothing, termsOf}
 use Rattle.group.proofs.AcceptedLaws.{clear-off}
 use Rattle.causes.specs.declared.Request.{Request}
-use Rattle.causes.specs.Causes.{goodIdentity, fiveOf, requestTests, lacks, billCauses, requestCauses, fileCauses, cancelCauses, closeCauses}
+use Rattle.causes.specs.declared.AccountRemoval.{AccountRemoval}
+use Rattle.causes.specs.Causes.{goodIdentity, fiveOf, requestTests, lacks, billCauses, requestCauses, fileCauses, cancelCauses, closeCauses, removalCauses}
 
 -- the numbers that a call needs are left
 pub enough : (tracking confirmation t c : ℕ) → lacks tracking confirmation t c ≡ false
@@ -126,6 +128,23 @@ cancels id room tracking confirmation b e =
 pub closes-on : (d today : Date) → first (closeCauses d today) ≡ Clear → isDate (d .0) ≡ true
 unfolding closeCauses
 closes-on d today e = not-false _ (clear-off (closeCauses d today) e .0)
+
+-- ---- a removal
+pub record Removes (a : AccountRemoval) (held : Bool) : Type 0 where
+  pub account : fits 12 (a .account) ≡ true
+  pub date : isDate (a .date .0) ≡ true
+  pub some : held ≡ true
+
+pub removes : (a : AccountRemoval) (held : Bool) → first (removalCauses a held) ≡ Clear → Removes a held
+unfolding removalCauses
+removes a held e =
+    let o = clear-off (removalCauses a held) e in
+    let good = not-false _ (o .0) in
+    record {
+      account = and-left (fits 12 (a .account)) (isDate (a .date .0)) good;
+      date = and-right (fits 12 (a .account)) (isDate (a .date .0)) good;
+      some = not-false _ (o .1 .0);
+    }
 
 -- a known bill that no cause is against has room for a request more
 pub renews : (r : Request) (room : ℕ) (today : Date) (tracking confirmation held : ℕ) (f : Found) (b : bill.Bill) → SoundAt f b

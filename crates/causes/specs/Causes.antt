@@ -12,8 +12,8 @@ use Rattle.units.specs.Calendar.{isDate, dateOf}
 use Rattle.calendar.specs.BusinessDays.{businessDay, furtherCauses, numberIn}
 use Rattle.ledger.specs.declared.Identity.{Identity}
 use Rattle.ledger.specs.declared.Product.the-variants as product
-use Rattle.rules.specs.Lists.{count, all}
-use Rattle.ledger.specs.Bills.{isRateCode, codeBytes, productByte}
+use Rattle.rules.specs.Lists.{has, count, all}
+use Rattle.ledger.specs.Bills.{isOfAccount, isRateCode, codeBytes, productByte}
 use Rattle.ledger.specs.Books.{View}
 use Rattle.file.specs.File.{goodFile, fileGroups, asksId}
 use Rattle.verdict.specs.declared.Sought.{Sought}
@@ -25,17 +25,19 @@ use Rattle.causes.specs.declared.Start.{Start}
 use Rattle.causes.specs.declared.CodeField.{CodeField}
 use Rattle.causes.specs.declared.Request.{Request}
 use Rattle.causes.specs.declared.CalendarRequest.{CalendarRequest}
+use Rattle.causes.specs.declared.AccountRemoval.{AccountRemoval}
 use Rattle.ledger.specs.Limits.{ledgerPlaces, lastSequence, lastNumber, usedUp}
 use Rattle.records.specs.Limits.{noticeSize}
 
 -- "The list holds each call with its arguments, file bytes and the length of the output lent to it": room is that length. Paper 1 of document 02 adds the
--- request that leaves its Scheduled Date to the calendar, with the holidays lent to it
+-- request that leaves its Scheduled Date to the calendar, with the holidays lent to it; paper 2, "Demand 3's list and its history take in removals", the removal of an account
 pub data Call : Type 0 where
   request : Request → ℕ → Call
   calendar : CalendarRequest → List ℕ → ℕ → Call
   file : List ℕ → ℕ → Call
   cancel : Identity → ℕ → Call
   close : Date → Call
+  removal : AccountRemoval → Call
 
 -- ---- 2: "a field too wide or not digits, no date, a bad rate code, a product neither B nor P, at fresh a next number 0 or over 999,999,999"
 abbrev pub isNumber : ℕ → Bool
@@ -151,6 +153,13 @@ cancelCauses id room tracking confirmation b =
 unfoldable pub closeCauses : Date → Date → List Rule
 closeCauses d today = rule (not (isDate (d .0))) 2 ∷ rule (not (ltb (today .0) (d .0))) 10 ∷ []
 
+-- paper 2 of document 02: "The call gives 2, or 4 for an account without bills." held says that there is one
+abbrev pub goodRemoval : AccountRemoval → Bool
+goodRemoval a = fits 12 (a .account) && isDate (a .date .0)
+
+unfoldable pub removalCauses : AccountRemoval → Bool → List Rule
+removalCauses a held = rule (not (goodRemoval a)) 2 ∷ rule (not held) 4 ∷ []
+
 -- the causes of a call, read on a view
 unfoldable pub causes : View → Call → List Rule
 causes v (request r room) =
@@ -160,3 +169,4 @@ causes v (calendar q hs room) =
 causes v (file s room) = fileCauses s room (v .tracking) (v .confirmation)
 causes v (cancel id room) = cancelCauses id room (v .tracking) (v .confirmation) (soughtIn id (v .bills))
 causes v (close d) = closeCauses d (v .today)
+causes v (removal a) = removalCauses a (has (isOfAccount (a .account)) (v .bills))

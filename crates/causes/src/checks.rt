@@ -6,10 +6,11 @@ ghost use Rattle.fields.specs.Put.{sameList};
 ghost use Rattle.rules.specs.Lists.{all};
 ghost use Rattle.ledger.specs.Bills.{isRateCode, codeBytes};
 ghost use Rattle.rules.specs.Rules.{first};
-ghost use Rattle.causes.specs.Causes.{isNumber, goodIdentity, fiveOf, isProduct, undatedTests, requestTests, lacks, freshCauses, billCauses, requestCauses, fileCauses, cancelCauses, closeCauses};
+ghost use Rattle.causes.specs.Causes.{isNumber, goodIdentity, fiveOf, isProduct, undatedTests, requestTests, lacks, freshCauses, billCauses, requestCauses, fileCauses, cancelCauses, closeCauses, goodRemoval, removalCauses};
 ghost use Rattle.causes.specs.Requests.{codeOf, closes};
 ghost use Rattle.ledger.specs.Limits.{usedUp};
 ghost use Rattle.records.specs.Limits.{fileRecords};
+use crate::AccountRemoval;
 use crate::CodeField;
 use crate::Request;
 use crate::Start;
@@ -229,6 +230,27 @@ pub fn close_check(d: Date, today: Date) -> Check
         return Check::Stop(10);
     }
     Check::Clear
+}
+
+// Whether the account is in its width and the date is one.
+fn good_removal(a: AccountRemoval) -> bool
+    ensures { λ r. ⌜ r ≡ goodRemoval a ⌝ }
+{
+    let date = a.date;
+    (a.account < 1000000000000) & date.valid()
+}
+
+// The first cause against a removal: held says whether there is a bill of the account.
+pub fn removal_check(a: AccountRemoval, held: bool) -> Check
+    ensures { λ r. ⌜ r ≡ first (removalCauses a held) ⌝ }
+{
+    if !good_removal(a) {
+        return Check::Stop(2);
+    }
+    if held {
+        return Check::Clear;
+    }
+    Check::Stop(4)
 }
 
 // 1 for a bill that is open on the old date and not on the new one.

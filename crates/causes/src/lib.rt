@@ -60,6 +60,12 @@ pub struct CalendarRequest {
     pub number: u64,
 }
 
+// What a removal takes: the removal date of all bills of an account.
+pub struct AccountRemoval {
+    pub account: u64,
+    pub date: Date,
+}
+
 // What a request or a cancel comes to: the first cause against it, and the header and the bill that it leaves.
 pub struct Decision {
     pub check: Check,
