@@ -16,7 +16,7 @@ use Rattle.verdict.specs.declared.Verdict.the-variants.{Accepted, Rejected}
 use Rattle.rules.specs.Rules.{first}
 use Rattle.group.specs.Groups.{settled, verdictBy, verdictHere, answers, verdicts, isAccepted}
 use Rattle.causes.specs.declared.Start.{Start}
-use Rattle.causes.specs.Causes.{Call, request, calendar, file, cancel, close, freshCauses}
+use Rattle.causes.specs.Causes.{Call, request, calendar, file, cancel, close, removal, freshCauses}
 use Rattle.calls.specs.Machine.{cause, nextWritten, nextVerdicts, Outcome, outcome, step, fresh, after, outcomes}
 use Rattle.calls.specs.Days.{freshLedger, freshBy, freshCalled}
 use Rattle.calls.proofs.CountLaws.{both-counted}
@@ -57,6 +57,8 @@ call-verdicts l h (cancel id room) Clear e = refl
 call-verdicts l h (cancel id room) (Stop n) e = refl
 call-verdicts l h (close d) Clear e = refl
 call-verdicts l h (close d) (Stop n) e = refl
+call-verdicts l h (removal a) Clear e = refl
+call-verdicts l h (removal a) (Stop n) e = refl
 
 step-verdicts : (l : Book) (h : History) (c : Call) → Follows l h → step l c .verdicts ≡ verdictsOf (callDecisions h c (hCause h c))
 unfolding step
@@ -127,6 +129,8 @@ call-acfs l h (cancel id room) Clear e = cxl-no-acf _
 call-acfs l h (cancel id room) (Stop n) e = none-acf
 call-acfs l h (close d) Clear e = none-acf
 call-acfs l h (close d) (Stop n) e = none-acf
+call-acfs l h (removal a) Clear e = none-acf
+call-acfs l h (removal a) (Stop n) e = none-acf
 
 step-acfs : (l : Book) (h : History) (c : Call) → Follows l h → acfsIn (step l c .written) ≡ acfsOf (callDecisions h c (hCause h c))
 unfolding step
@@ -164,6 +168,7 @@ call-lawful h (file s room) Clear = groups-lawful [] (fileGroups s) h
 call-lawful h (file s room) (Stop n) = tt
 call-lawful h (cancel id room) v = tt
 call-lawful h (close d) v = tt
+call-lawful h (removal a) v = tt
 
 all-lawful : (cs : List Call) (h : History) → All (All Lawful) (hDecisions h cs)
 unfolding hDecisions

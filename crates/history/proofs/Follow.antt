@@ -12,8 +12,8 @@ use Rattle.ledger.specs.declared.Identity.{Identity}
 use Rattle.ledger.specs.declared.Posted.{Posted}
 use Rattle.ledger.specs.declared.Terms.{Terms}
 use Rattle.rules.specs.Lists.{count, update}
-use Rattle.ledger.specs.Bills.{isOf, renewed, posting, cancelledBill}
-use Rattle.ledger.specs.Books.{Book, view, billTerms, ofId, billCharge}
+use Rattle.ledger.specs.Bills.{isOf, renewed, posting, cancelledBill, removedTerms}
+use Rattle.ledger.specs.Books.{Book, view, billTerms, ofId, ofAccount, removedOf, billCharge}
 use Rattle.ledger.specs.Sound.{holdsId}
 use Rattle.ledger.proofs.SoundLaws.{BookFacts}
 use Rattle.file.specs.File.{Group, fileGroups, detailOf, asksId, line3}
@@ -27,13 +27,14 @@ use Rattle.verdict.specs.Lines.{isNothing, sentCharge}
 use Rattle.group.specs.Groups.{identityOf, soughtIn, sought, verdictBy, settled, verdictHere, taken}
 use Rattle.groups.proofs.FileSound.{holds-kept, settled-facts, confirmation-up, tracking-up, count-step}
 use Rattle.causes.specs.declared.Request.{Request}
-use Rattle.causes.specs.Causes.{Call, request, calendar, file, cancel, close, causes, workedOut}
+use Rattle.causes.specs.declared.AccountRemoval.{AccountRemoval}
+use Rattle.causes.specs.Causes.{Call, request, calendar, file, cancel, close, removal, causes, workedOut}
 use Rattle.causes.specs.Requests.{latestOf, newBill}
 use Rattle.calls.specs.Machine.{next}
 use Rattle.causes.proofs.CauseLaws.{sends}
-use Rattle.calls.proofs.NextSound.{nowhere, next-facts}
+use Rattle.calls.proofs.NextSound.{nowhere, removed-holds, next-facts}
 use Rattle.calls.proofs.CalendarCalls.{clear-dated}
-use Rattle.history.specs.History.{Posting, History, lastCharge, countedCharge, renews, marked, raised, onward, decided, verdictNow, decidedAll, hNext}
+use Rattle.history.specs.History.{Posting, History, lastCharge, countedCharge, renews, marked, raised, withRemoval, onward, decided, verdictNow, decidedAll, hNext}
 use Rattle.history.specs.Claim.{All}
 use Rattle.history.proofs.Accepted.{accepted-exists, accepted-alive, accepted-charge}
 use Rattle.history.proofs.UpdateLaws.{identity-same, has-map, map-append, all-append, map-update, all-update}
@@ -64,6 +65,25 @@ same-view l h f = record { now = refl; sums = f .sums; unposted = f .unposted; s
 last-same : (t u : Terms) → t .identity ≡ u .identity → (ps : List Posting) → lastCharge t ps ≡ lastCharge u ps
 last-same t u e [] = refl
 last-same t u e (p ∷ ps) = rw (last-same t u e ps, e)
+
+-- ---- a removal
+-- the bills with the date, by the history and by the ledger
+removal-view : (a : AccountRemoval) (bs : List Bill) → withRemoval a (map billTerms bs) ≡ map billTerms (map (removedOf (a .account) (a .date)) bs)
+removal-view a [] = refl
+removal-view a (b ∷ bs) =
+    cases (ofAccount (a .account) b)
+    (λ e. rw e (ap (λ (ts : List Terms). removedTerms (a .date) (b .terms) ∷ ts) (removal-view a bs)))
+    (λ e. rw e (ap (λ (ts : List Terms). b .terms ∷ ts) (removal-view a bs)))
+
+-- each bill's charge is still that of its last posting
+removal-sums : (a : AccountRemoval) (ps : List Posting) (bs : List Bill) → All (Agrees ps) bs → All (Agrees ps) (map (removedOf (a .account) (a .date)) bs)
+removal-sums a ps [] q = tt
+removal-sums a ps (b ∷ bs) q = (
+  cases (ofAccount (a .account) b)
+      (λ e. rw e (q .0 ∙ ap (λ (n : ℕ). cond (b .terms .cancelled) 0 n) (last-same (b .terms) (removedTerms (a .date) (b .terms)) refl ps)))
+      (λ e. rw e (q .0)),
+  removal-sums a ps bs (q .1),
+)
 
 -- ---- a group
 -- the history's view after a group is the ledger's
@@ -215,6 +235,18 @@ module _ (l : Book) (ps : List Posting) (f : Follows l (hist l ps)) where
       (change-follows (r .identity) (renewed (latestOf r (l .tracking))) (renews r (l .tracking)) (λ b. refl) (λ b. refl) again (rw h at s)))
       (λ h. rw (has-map (r .identity) (l .bills), h) (add-follows (newBill r (l .tracking)) refl h (rw h at s)))
 
+  removal-follows : (a : AccountRemoval) → first (causes (view l) (removal a)) ≡ Clear → Follows (next l (removal a)) (hNext (hist l ps) (removal a))
+  unfolding next hNext causes
+  removal-follows a e =
+      record {
+        now =
+            ap (λ (ts : List Terms). record { today = l .today; tracking = l .tracking; confirmation = l .confirmation; bills = ts })
+            (removal-view a (l .bills));
+        sums = removal-sums a ps (l .bills) (f .sums);
+        unposted = λ t m. f .unposted t (sym (removed-holds (a .account) (a .date) (t .identity) (l .bills)) ∙ m);
+        sound = next-facts l (removal a) (f .sound) e;
+      }
+
   pub next-follows : (c : Call) → first (causes (view l) c) ≡ Clear → Follows (next l c) (hNext (hist l ps) c)
   unfolding next hNext causes
   next-follows (request r room) e = request-follows r room e
@@ -226,3 +258,4 @@ module _ (l : Book) (ps : List Posting) (f : Follows l (hist l ps)) where
       change-follows id cancelledBill marked (λ b. refl) (λ b. refl) (λ b q. refl) (next-facts l (cancel id room) (f .sound) e)
   next-follows (close d) e =
       record { now = refl; sums = f .sums; unposted = f .unposted; sound = next-facts l (close d) (f .sound) e }
+  next-follows (removal a) e = removal-follows a e

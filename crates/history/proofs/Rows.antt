@@ -25,7 +25,7 @@ use Rattle.verdict.specs.Lines.{isNothing, termsOf}
 use Rattle.group.specs.Groups.{identityOf, soughtIn, sought, settled, answer, verdictBy, verdictHere, taken, answers, isAccepted}
 use Rattle.groups.proofs.FileSound.{confirmation-up, tracking-up, count-step}
 use Rattle.causes.specs.declared.Request.{Request}
-use Rattle.causes.specs.Causes.{Call, request, calendar, file, cancel, close, causes, workedOut}
+use Rattle.causes.specs.Causes.{Call, request, calendar, file, cancel, close, removal, causes, workedOut}
 use Rattle.calls.specs.Machine.{next, nextWritten, outcome, step, after, outcomes}
 use Rattle.causes.proofs.CauseLaws.{asks, sends, cancels}
 use Rattle.calls.proofs.CalendarCalls.{clear-dated}
@@ -152,6 +152,7 @@ row-next l h (cancel id room) f e =
     let t = cancels id room (l .tracking) (l .confirmation) (soughtIn id (map billTerms (l .bills))) e .left .0 in
     row-is (l .tracking) (l .tracking + 1) _ (l .tracking ∷ []) (cxl-assigns _ (omega arith)) (row-one (l .tracking))
 row-next l h (close d) f e = row-is (l .tracking) (l .tracking) (assignedIn []) [] none-assigned (row-none (l .tracking))
+row-next l h (removal a) f e = row-is (l .tracking) (l .tracking) (assignedIn []) [] none-assigned (row-none (l .tracking))
 
 row-step : (l : Book) (h : History) (c : Call) → Follows l h → Row (l .tracking) (assignedIn (step l c .written)) (step l c .ledger .tracking)
 unfolding step outcome

@@ -91,12 +91,12 @@ prepaid owed = record { sup = false; tracking = 1; sequence = 1; first = 60; sec
 abbrev short : Sent
 short = record { sup = false; tracking = 1; sequence = 1; first = 60; second = 24; charge = 4250; applied = 0; owed = 0 }
 
-abbrev sup : Sent
+abbrev pub sup : Sent
 sup = record { sup = true; tracking = 0; sequence = 0; first = 60; second = 25; charge = 4250; applied = 0; owed = 0 }
 
 -- ---- the calls
 -- a request of 85 Ccf, due 20171116
-abbrev asking : Identity → Product → Request
+abbrev pub asking : Identity → Product → Request
 asking id p =
     record {
       code = record { first = 90; second = 90; third = 67; tens = 52; ones = 48 };
@@ -109,7 +109,7 @@ asking id p =
     }
 
 -- the table's bill, and other bills
-abbrev bill : Identity
+abbrev pub bill : Identity
 bill = record { account = 123456780019; key = 7 }
 
 abbrev other : ℕ → Request
@@ -118,11 +118,11 @@ other account = asking (record { account = account; key = 1 }) product.BillReady
 abbrev ask : Product → Call
 ask p = request (asking bill p) 642
 
-abbrev send : List Sent → Call
+abbrev pub send : List Sent → Call
 send xs = file (sent xs) 64200
 
 -- a fresh ledger, and one that holds n bills
-abbrev start : Book
+abbrev pub start : Book
 start = fresh (record { today = dateOf 20171113; tracking = 1; confirmation = 1 })
 
 abbrev held : ℕ → List Bill
@@ -168,14 +168,14 @@ pub record Row : Type 0 where
   pub result : Result
 
 -- the row of these calls on a ledger: their results, verdicts and changes, the Tracking IDs assigned, the bills' sequences at the end
-abbrev row : Book → List Call → List Check → List (List Verdict) → List ℤ → List ℕ → List ℕ → Row
+abbrev pub row : Book → List Call → List Check → List (List Verdict) → List ℤ → List ℕ → List ℕ → Row
 row l cs results verdicts changes assigned sequences =
     record {
       given = calls l cs;
       result = came (record { results = results; verdicts = verdicts; changes = changes; assigned = assigned; sequences = sequences });
     }
 
-abbrev ready : ℕ → Verdict
+abbrev pub ready : ℕ → Verdict
 ready charge = Accepted (posted.BillReady (cents charge))
 
 unfoldable pub table : List Row
@@ -186,7 +186,7 @@ table =
     -- (b) RSP on its Scheduled Date is accepted; (d) 85 = 60 + 25 passes
     ∷ row start (ask product.BillReady ∷ close (dateOf 20171116) ∷ send (rsp 4250 ∷ []) ∷ [])
     (Clear ∷ Clear ∷ Clear ∷ []) ([] ∷ [] ∷ (ready 4250 ∷ []) ∷ []) (pos 0 ∷ pos 0 ∷ pos 4250 ∷ []) (1 ∷ []) (1 ∷ [])
-    -- (c) a dateOf later BR09
+    -- (c) a day later BR09
     ∷ row start (ask product.BillReady ∷ close (dateOf 20171117) ∷ send (rsp 4250 ∷ []) ∷ [])
     (Clear ∷ Clear ∷ Clear ∷ []) ([] ∷ [] ∷ (Rejected 9 ∷ []) ∷ []) (pos 0 ∷ pos 0 ∷ pos 0 ∷ []) (1 ∷ []) (1 ∷ [])
     -- (e) 60 + 24 is BR25

@@ -4,10 +4,12 @@
 use Prim.Native.Nat.{ℕ, _+_}
 use mathlib.Core.Bool.{Bool, true, false, cond}
 use mathlib.Core.List.{List, [], _∷_, _++_}
+use lib.Dec.{eqb}
 use Rattle.units.specs.Calendar.{dateOf}
 use Rattle.calendar.specs.BusinessDays.{businessDay, numberIn}
 use Rattle.ledger.specs.declared.Identity.{Identity}
 use Rattle.ledger.specs.declared.Latest.{Latest}
+use Rattle.ledger.specs.declared.Removal.the-variants.{Never, On}
 use Rattle.ledger.specs.declared.Terms.{Terms}
 use Rattle.rules.specs.Lists.{has, sum, update}
 use Rattle.ledger.specs.Bills.{isOf, moved, productOf}
@@ -23,7 +25,8 @@ use Rattle.group.specs.Groups.{identityOf, verdict}
 use Rattle.causes.specs.declared.Start.{Start}
 use Rattle.causes.specs.declared.Request.{Request}
 use Rattle.causes.specs.declared.CalendarRequest.{CalendarRequest}
-use Rattle.causes.specs.Causes.{Call, request, calendar, file, cancel, close, causes}
+use Rattle.causes.specs.declared.AccountRemoval.{AccountRemoval}
+use Rattle.causes.specs.Causes.{Call, request, calendar, file, cancel, close, removal, causes}
 use Rattle.causes.specs.Requests.{codeOf}
 
 -- "postings, each a bill and a charge"
@@ -52,7 +55,7 @@ countedCharge ps t = cond (t .cancelled) 0 (lastCharge t ps)
 unfoldable pub historySum : History → ℕ
 historySum h = sum (countedCharge (h .postings)) (h .now .bills)
 
--- ---- "a request adds or renews its bill, a cancel marks it, a close sets today, .. numbers and sequences move as above"
+-- ---- "a request adds or renews its bill, a cancel marks it, a close sets today, .. numbers and sequences move as above"; a new bill's removal date is empty
 -- what a request asks, under its Tracking ID: said here again, so that the machine's way of renewing a bill is held to it
 abbrev pub asks : Request → ℕ → Latest
 asks r tracking =
@@ -74,17 +77,26 @@ added r tracking =
       requests = 1;
       cancelled = false;
       latest = asks r tracking;
+      removal = Never;
     }
 
 abbrev pub renews : Request → ℕ → Terms → Terms
-renews r tracking t = moved (t .sequence + 1) (t .requests + 1) (t .cancelled) (asks r tracking) t
+renews r tracking t = moved (t .sequence + 1) (t .requests + 1) (t .cancelled) (asks r tracking) (t .removal) t
 
 abbrev pub marked : Terms → Terms
-marked t = moved (t .sequence) (t .requests) true (t .latest) t
+marked t = moved (t .sequence) (t .requests) true (t .latest) (t .removal) t
 
 -- a SUP raises the sequence
 abbrev pub raised : Bool → Terms → Terms
-raised sup t = moved (cond sup (t .sequence + 1) (t .sequence)) (t .requests) (t .cancelled) (t .latest) t
+raised sup t = moved (cond sup (t .sequence + 1) (t .sequence)) (t .requests) (t .cancelled) (t .latest) (t .removal) t
+
+-- paper 2 of document 02, "a removal call sets it on all bills of an account, replacing any earlier one": said here again, bill after bill
+abbrev pub withRemoval : AccountRemoval → List Terms → List Terms
+withRemoval a [] = []
+withRemoval a (t ∷ ts) =
+    cond (eqb (t .identity .account) (a .account))
+    (moved (t .sequence) (t .requests) (t .cancelled) (t .latest) (On (a .date)) t ∷ withRemoval a ts)
+    (t ∷ withRemoval a ts)
 
 -- a view with other numbers and bills
 abbrev pub onward : View → ℕ → ℕ → List Terms → View
@@ -158,6 +170,17 @@ hNext h (close d) =
       now = record { today = d; tracking = h .now .tracking; confirmation = h .now .confirmation; bills = h .now .bills };
       postings = h .postings;
     }
+hNext h (removal a) =
+    record {
+      now =
+          record {
+            today = h .now .today;
+            tracking = h .now .tracking;
+            confirmation = h .now .confirmation;
+            bills = withRemoval a (h .now .bills);
+          };
+      postings = h .postings;
+    }
 
 -- what "Causes, read on these and without the ledger part of 2", say of a call
 abbrev pub hCause : History → Call → Check
@@ -179,6 +202,7 @@ callDecisions h (file s room) Clear = decisions [] h (fileGroups s)
 callDecisions h (file s room) (Stop n) = []
 callDecisions h (cancel id room) v = []
 callDecisions h (close d) v = []
+callDecisions h (removal a) v = []
 
 -- ---- a list of calls
 -- the history after them

@@ -3,3 +3,4 @@ pub mod History
 pub mod Written
 pub mod Claim
 pub mod Cases
+pub mod RemovalCases
