@@ -6,7 +6,7 @@ ghost use lib.ListN.{length, take};
 ghost use Rattle.rules.specs.Lists.{count};
 ghost use Rattle.ledger.specs.Sound.{soundLedger};
 ghost use Rattle.words.specs.Layout.{holdsLedger, ledgerOf, ledgerSize};
-ghost use Rattle.causes.specs.Causes.{request, calendar, cancel, close, file};
+ghost use Rattle.causes.specs.Causes.{request, calendar, cancel, close, removal, file};
 ghost use Rattle.causes.specs.Requests.{closes};
 ghost use Rattle.causes.specs.parts.Decisions.{asCall};
 ghost use Rattle.calls.specs.Machine.{called};
@@ -17,6 +17,7 @@ ghost use Rattle.ledger.specs.Limits.{ledgerPlaces};
 use crate::file_groups;
 use calendar::Day;
 use calls::Answer;
+use causes::AccountRemoval;
 use causes::BillCall;
 use causes::CalendarRequest;
 use causes::Request;
@@ -27,6 +28,7 @@ use decisions::notice;
 use decisions::requests;
 use ledger::Identity;
 use ledger::LedgerHeader;
+use places::accounts;
 use places::place;
 use rules::Check;
 use units::Date;
@@ -142,6 +144,22 @@ pub fn close_in(ws: &mut [u64], d: Date) -> Answer
     };
     place::put_header(ws, next);
     calls::carried_out::quiet(closed)
+}
+
+// The call removal: the date is set where the bills of the account stand.
+pub fn removal_in(ws: &mut [u64], a: AccountRemoval) -> Answer
+    requires { ⌜ soundLedger (ledgerOf (now ws)) ≡ true ⌝ }
+    ensures { λ r. ⌜ (holdsLedger (now (ws .exit)) ≡ true) × (ledgerOf (now (ws .exit)) ≡ called (ledgerOf (now (ws .entry))) (removal a) .ledger) × (r ≡ called (ledgerOf (now (ws .entry))) (removal a) .answer) ⌝ }
+{
+    let h = place::header(ws);
+    let count = h.count;
+    let held = accounts::has_account(ws, count, a.account);
+    let check = checks::removal_check(a, held);
+    if let Check::Stop(n) = check {
+        return Answer::Refused(n);
+    }
+    accounts::remove(ws, count, a.account, a.date);
+    calls::carried_out::quiet(0)
 }
 
 // Fresh: whatever the words held is gone; a fresh that is refused leaves each as it was.

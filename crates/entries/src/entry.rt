@@ -37,6 +37,7 @@ pub fn entry(
         Body::File => call::file_in(ws, out, writes, room, s),
         Body::Cancel(id) => call::cancel_in(ws, out, writes, room, id),
         Body::Close(d) => call::close_in(ws, d),
+        Body::Removal(a) => call::removal_in(ws, a),
         Body::Fresh(x) => call::fresh_in(ws, x),
         Body::Unread => Answer::Refused(2),
     }

@@ -17,13 +17,14 @@ use Rattle.units.specs.declared.Date.{Date}
 use Rattle.ledger.specs.declared.Identity.{Identity}
 use Rattle.causes.specs.declared.Start.{Start}
 use Rattle.causes.specs.declared.Request.{Request}
+use Rattle.causes.specs.declared.AccountRemoval.{AccountRemoval}
 use Rattle.causes.specs.Causes.{Call, freshCauses}
 use Rattle.calls.specs.Machine.{step, fresh, after}
 use Rattle.journal.specs.declared.Body.{Body}
 use Rattle.journal.specs.declared.Body.the-variants as body
 use Rattle.journal.specs.declared.Head.{Head}
 use Rattle.journal.specs.declared.Head.the-variants.{Cut, Bad, Whole}
-use Rattle.journal.specs.Entries.{digitsIn, requestBody, cancelBody, closeBody, bodyOf, freshTaken, headOf}
+use Rattle.journal.specs.Entries.{digitsIn, requestBody, cancelBody, closeBody, removalBody, bodyOf, freshTaken, headOf}
 use Rattle.journal.specs.Journal.{Entry, Parsed, onHead, parseUpTo, parse, callOf, callsOf, afterEntry, afterEntries, firstBook, journalLedger}
 use Rattle.journal.proofs.HeadLaws.{tagIn, lengthIn, WholeAt, whole-is}
 use Rattle.journal.proofs.MadeLaws.{Taken}
@@ -46,6 +47,7 @@ pub data NoFresh : Body → Type 0 where
   file : NoFresh body.File
   cancel : (id : Identity) → NoFresh (body.Cancel id)
   close : (d : Date) → NoFresh (body.Close d)
+  removal : (a : AccountRemoval) → NoFresh (body.Removal a)
   unread : NoFresh body.Unread
 
 abbrev pub NoneFresh : List Entry → Type 0
@@ -70,6 +72,10 @@ close-none : (s : List ℕ) → NoFresh (closeBody s)
 unfolding closeBody
 close-none s = by-cond (digitsIn s 1 8) _ _ (close _) unread
 
+removal-none : (s : List ℕ) → NoFresh (removalBody s)
+unfolding removalBody
+removal-none s = by-cond (digitsIn s 1 12 && digitsIn s 13 20) _ _ (removal _) unread
+
 -- a body under another tag is no fresh
 body-none : (tag : ℕ) (s : List ℕ) → eqb tag 0 ≡ false → NoFresh (bodyOf tag s)
 unfolding bodyOf
@@ -77,7 +83,8 @@ body-none tag s e =
     rw e
     (by-cond (eqb tag 1) _ _ (request-none s)
     (by-cond (eqb tag 2) _ _ file
-    (by-cond (eqb tag 3) _ _ (cancel-none s) (close-none s))))
+    (by-cond (eqb tag 3) _ _ (cancel-none s)
+    (by-cond (eqb tag 4) _ _ (close-none s) (removal-none s)))))
 
 -- tag 0 stands first and nowhere else
 turn-later : (t u : Bool) → t ≡ false → cond t u (not u) ≡ true → u ≡ false
@@ -113,6 +120,7 @@ made-after b bytes k (request r) = refl
 made-after b bytes k file = refl
 made-after b bytes k (cancel id) = refl
 made-after b bytes k (close d) = refl
+made-after b bytes k (removal a) = refl
 made-after b bytes k unread = refl
 
 pub makes-after : (k : Book) (es : List Entry) → NoneFresh es → afterEntries k es ≡ after k (callsOf es)
@@ -145,6 +153,7 @@ starts-by (body.Request r) h = absurd (false≢true h)
 starts-by body.File h = absurd (false≢true h)
 starts-by (body.Cancel id) h = absurd (false≢true h)
 starts-by (body.Close d) h = absurd (false≢true h)
+starts-by (body.Removal a) h = absurd (false≢true h)
 starts-by body.Unread h = absurd (false≢true h)
 
 -- a body that is no fresh, or a fresh that is taken, is taken
@@ -153,6 +162,7 @@ none-taken b (request r) = tt
 none-taken b file = tt
 none-taken b (cancel id) = tt
 none-taken b (close d) = tt
+none-taken b (removal a) = tt
 none-taken b unread = tt
 
 starts-taken : (b : Body) → Starts b → Taken b

@@ -73,11 +73,15 @@ pub cancel-length : (tag n : ℕ) → tag ≡ 3 → goodLength tag n ≡ true �
 unfolding goodLength
 cancel-length tag n e g = eqb-true n 16 (rw e at g)
 
-pub close-length : (tag n : ℕ) → tag ≢ 0 → tag ≢ 1 → tag ≢ 2 → tag ≢ 3 → goodLength tag n ≡ true → n ≡ 8
+pub close-length : (tag n : ℕ) → tag ≡ 4 → goodLength tag n ≡ true → n ≡ 8
 unfolding goodLength
-close-length tag n a b d e g =
-    let h : cond (eqb tag 4) (eqb n 8) false ≡ true = rw (ne-eqb tag 0 a, ne-eqb tag 1 b, ne-eqb tag 2 d, ne-eqb tag 3 e) at g in
-    cases (eqb tag 4) (λ k. eqb-true n 8 (rw k at h)) (λ k. absurd (false≢true (rw k at h)))
+close-length tag n e g = eqb-true n 8 (rw e at g)
+
+pub removal-length : (tag n : ℕ) → tag ≢ 0 → tag ≢ 1 → tag ≢ 2 → tag ≢ 3 → tag ≢ 4 → goodLength tag n ≡ true → n ≡ 20
+unfolding goodLength
+removal-length tag n a b d e f g =
+    let h : cond (eqb tag 5) (eqb n 20) false ≡ true = rw (ne-eqb tag 0 a, ne-eqb tag 1 b, ne-eqb tag 2 d, ne-eqb tag 3 e, ne-eqb tag 4 f) at g in
+    cases (eqb tag 5) (λ k. eqb-true n 20 (rw k at h)) (λ k. absurd (false≢true (rw k at h)))
 
 -- the body's bytes, as they are lent
 pub lent-length : (s : List ℕ) (n : ℕ) → n + 3 ≤ length s → length (take (n + 3 - 3) (drop 3 s)) ≡ n

@@ -23,19 +23,20 @@ abbrev pub lengthIn : List ℕ → ℕ
 lengthIn s = getD s 1 0 * 256 + getD s 2 0
 
 -- ---- a whole entry
-small-by : (a b d e f : Bool) (n : ℕ)
-    → cond a (eqb n 26) (cond b (eqb n 56) (cond d (leb n 64200) (cond e (eqb n 16) (cond f (eqb n 8) false)))) ≡ true → n ≤ 64200
-small-by true b d e f n g = omega (arith, eqb-true n 26 g)
-small-by false true d e f n g = omega (arith, eqb-true n 56 g)
-small-by false false true e f n g = leb-true n 64200 g
-small-by false false false true f n g = omega (arith, eqb-true n 16 g)
-small-by false false false false true n g = omega (arith, eqb-true n 8 g)
-small-by false false false false false n g = let z : _≡_ {A = ℕ} 0 1 = cc in absurd (omega arith)
+small-by : (a b d e f k : Bool) (n : ℕ)
+    → cond a (eqb n 26) (cond b (eqb n 56) (cond d (leb n 64200) (cond e (eqb n 16) (cond f (eqb n 8) (cond k (eqb n 20) false))))) ≡ true → n ≤ 64200
+small-by true b d e f k n g = omega (arith, eqb-true n 26 g)
+small-by false true d e f k n g = omega (arith, eqb-true n 56 g)
+small-by false false true e f k n g = leb-true n 64200 g
+small-by false false false true f k n g = omega (arith, eqb-true n 16 g)
+small-by false false false false true k n g = omega (arith, eqb-true n 8 g)
+small-by false false false false false true n g = omega (arith, eqb-true n 20 g)
+small-by false false false false false false n g = let z : _≡_ {A = ℕ} 0 1 = cc in absurd (omega arith)
 
 -- the length of an entry's body
 pub good-small : (tag n : ℕ) → goodLength tag n ≡ true → n ≤ 64200
 unfolding goodLength
-good-small tag n g = small-by (eqb tag 0) (eqb tag 1) (eqb tag 2) (eqb tag 3) (eqb tag 4) n g
+good-small tag n g = small-by (eqb tag 0) (eqb tag 1) (eqb tag 2) (eqb tag 3) (eqb tag 4) (eqb tag 5) n g
 
 -- a choice that is a whole entry: it was not the other one
 module _ (h : Head) (b : Body) (n : ℕ) where

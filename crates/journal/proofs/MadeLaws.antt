@@ -10,7 +10,8 @@ use Rattle.ledger.specs.Sound.{soundLedger}
 use Rattle.rules.specs.declared.Check.{Check}
 use Rattle.rules.specs.declared.Check.the-variants.{Clear, Stop}
 use Rattle.rules.specs.Rules.{first}
-use Rattle.causes.specs.Causes.{Call, request, file, cancel, close, freshCauses}
+use Rattle.causes.specs.declared.AccountRemoval.{AccountRemoval}
+use Rattle.causes.specs.Causes.{Call, request, file, cancel, close, removal, freshCauses}
 use Rattle.calls.specs.Machine.{Outcome, cause, nextWritten, outcome, step, after, outcomes, stepIn, called, ran}
 use Rattle.calls.specs.Days.{freshBy, freshCalled}
 use Rattle.calls.proofs.FreshCloseLaws.{fresh-sound}
@@ -27,6 +28,7 @@ Taken (body.Request r) = Unit {0}
 Taken body.File = Unit {0}
 Taken (body.Cancel id) = Unit {0}
 Taken (body.Close d) = Unit {0}
+Taken (body.Removal a) = Unit {0}
 Taken body.Unread = Unit {0}
 
 module _ (l : Ledger) (h : soundLedger l ≡ true) where
@@ -51,6 +53,14 @@ module _ (l : Ledger) (h : soundLedger l ≡ true) where
       go Clear = refl
       go (Stop n) = refl
 
+  removal-written : (a : AccountRemoval) → [] ≡ writtenBy (outcomes (book l) (removal a ∷ []))
+  unfolding outcomes step outcome nextWritten
+  removal-written a = go (cause (book l) (removal a))
+    where
+      go : (v : Check) → [] ≡ outcome (book l) (removal a) v .written ++ []
+      go Clear = refl
+      go (Stop n) = refl
+
   pub made-book : (b : Body) (bytes : List ℕ) → Taken b → book (entryCalled 64200 l b bytes .ledger) ≡ afterEntry b bytes (book l)
   unfolding freshCalled freshBy
   made-book (body.Fresh s) bytes t = rw t
@@ -58,6 +68,7 @@ module _ (l : Ledger) (h : soundLedger l ≡ true) where
   made-book body.File bytes t = call-book (file bytes 64200)
   made-book (body.Cancel id) bytes t = call-book (cancel id 64200)
   made-book (body.Close d) bytes t = call-book (close d)
+  made-book (body.Removal a) bytes t = call-book (removal a)
   made-book body.Unread bytes t = refl
 
   pub made-sound : (room : ℕ) (b : Body) (bytes : List ℕ) → Taken b → soundLedger (entryCalled room l b bytes .ledger) ≡ true
@@ -67,6 +78,7 @@ module _ (l : Ledger) (h : soundLedger l ≡ true) where
   made-sound room body.File bytes t = call-sound (file bytes room)
   made-sound room (body.Cancel id) bytes t = call-sound (cancel id room)
   made-sound room (body.Close d) bytes t = call-sound (close d)
+  made-sound room (body.Removal a) bytes t = call-sound (removal a)
   made-sound room body.Unread bytes t = h
 
   pub made-written : (b : Body) (bytes : List ℕ) → entryWritten 64200 l b bytes ≡ writtenBy (outcomes (book l) (callOf b bytes))
@@ -76,4 +88,5 @@ module _ (l : Ledger) (h : soundLedger l ≡ true) where
   made-written body.File bytes = call-written (file bytes 64200)
   made-written (body.Cancel id) bytes = call-written (cancel id 64200)
   made-written (body.Close d) bytes = close-written d
+  made-written (body.Removal a) bytes = removal-written a
   made-written body.Unread bytes = refl

@@ -11,7 +11,7 @@ use Rattle.rules.specs.declared.Check.{Check}
 use Rattle.rules.specs.declared.Check.the-variants.{Clear, Stop}
 use Rattle.rules.specs.Rules.{first}
 use Rattle.causes.specs.declared.Start.{Start}
-use Rattle.causes.specs.Causes.{Call, request, file, cancel, close, freshCauses}
+use Rattle.causes.specs.Causes.{Call, request, file, cancel, close, removal, freshCauses}
 use Rattle.calls.specs.Machine.{cause, roomOf, nextWritten, outcome, stepIn, causeIn, answerBy, called}
 use Rattle.calls.specs.Days.{freshBy, freshCalled}
 use Rattle.calls.proofs.CallLaws.{clear-sound, written-clear}
@@ -45,6 +45,7 @@ made-short l (body.Request r) bytes = call-short l (request r 64200)
 made-short l body.File bytes = call-short l (file bytes 64200)
 made-short l (body.Cancel id) bytes = call-short l (cancel id 64200)
 made-short l (body.Close d) bytes = omega (arith, call-short l (close d))
+made-short l (body.Removal a) bytes = omega (arith, call-short l (removal a))
 made-short l body.Unread bytes = omega arith
 
 -- ---- the length that an answer gives is that of the bytes written
@@ -70,4 +71,5 @@ made-length room l (body.Request r) bytes = call-length l (request r room)
 made-length room l body.File bytes = call-length l (file bytes room)
 made-length room l (body.Cancel id) bytes = call-length l (cancel id room)
 made-length room l (body.Close d) bytes = omega (arith, call-short l (close d))
+made-length room l (body.Removal a) bytes = omega (arith, call-short l (removal a))
 made-length room l body.Unread bytes = refl

@@ -67,6 +67,11 @@ cancelBody s =
 unfoldable pub closeBody : List ℕ → Body
 closeBody s = cond (digitsIn s 1 8) (body.Close (dateIn s 1 8)) body.Unread
 
+-- paper 2 of document 02: "journal tag 5: account 12, date 8"
+unfoldable pub removalBody : List ℕ → Body
+removalBody s =
+    cond (digitsIn s 1 12 && digitsIn s 13 20) (body.Removal (record { account = numberIn s 1 12; date = dateIn s 13 20 })) body.Unread
+
 -- what a body holds under a tag, "2 file" among them
 unfoldable pub bodyOf : ℕ → List ℕ → Body
 bodyOf tag s =
@@ -74,7 +79,8 @@ bodyOf tag s =
     (cond (eqb tag 1) (requestBody s)
     (cond (eqb tag 2) body.File
     (cond (eqb tag 3) (cancelBody s)
-    (closeBody s))))
+    (cond (eqb tag 4) (closeBody s)
+    (removalBody s)))))
 
 -- "any entry after the 1,000,000,000th"
 abbrev pub entryLimit : ℕ
@@ -90,7 +96,8 @@ goodLength tag n =
     (cond (eqb tag 2) (leb n fileSize)
     (cond (eqb tag 3) (eqb n 16)
     (cond (eqb tag 4) (eqb n 8)
-    false))))
+    (cond (eqb tag 5) (eqb n 20)
+    false)))))
 
 -- tag 0 stands first and nowhere else
 abbrev pub inTurn : ℕ → ℕ → Bool
@@ -107,6 +114,7 @@ freshTaken (body.Request r) = false
 freshTaken body.File = false
 freshTaken (body.Cancel id) = false
 freshTaken (body.Close d) = false
+freshTaken (body.Removal a) = false
 freshTaken body.Unread = false
 
 abbrev pub wholeOf : ℕ → Body → ℕ → Head

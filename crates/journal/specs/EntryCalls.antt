@@ -6,7 +6,7 @@ use Rattle.ledger.specs.Books.{Book, emptyLedger}
 use Rattle.calls.specs.declared.Called.{Called}
 use Rattle.calls.specs.declared.Answer.{Answer}
 use Rattle.calls.specs.declared.Answer.the-variants.{Done, Refused}
-use Rattle.causes.specs.Causes.{Call, request, file, cancel, close}
+use Rattle.causes.specs.Causes.{Call, request, file, cancel, close, removal}
 use Rattle.calls.specs.Machine.{Outcome, outcomes, called, stepIn}
 use Rattle.calls.specs.Days.{freshCalled}
 use Rattle.journal.specs.declared.Body.{Body}
@@ -21,6 +21,7 @@ entryCalled room l (body.Request r) bytes = called l (request r room)
 entryCalled room l body.File bytes = called l (file bytes room)
 entryCalled room l (body.Cancel id) bytes = called l (cancel id room)
 entryCalled room l (body.Close d) bytes = called l (close d)
+entryCalled room l (body.Removal a) bytes = called l (removal a)
 entryCalled room l body.Unread bytes = record { ledger = l; answer = Refused 2 }
 
 -- and the bytes that it writes
@@ -30,6 +31,7 @@ entryWritten room l (body.Request r) bytes = stepIn l (request r room) .written
 entryWritten room l body.File bytes = stepIn l (file bytes room) .written
 entryWritten room l (body.Cancel id) bytes = stepIn l (cancel id room) .written
 entryWritten room l (body.Close d) bytes = []
+entryWritten room l (body.Removal a) bytes = []
 entryWritten room l body.Unread bytes = []
 
 -- how many bytes an answer says were written

@@ -7,7 +7,7 @@ use lib.Dec.{eqb, ltb}
 use lib.ListN.{length, drop}
 use Rattle.fields.specs.Put.{part}
 use Rattle.ledger.specs.Books.{Book}
-use Rattle.causes.specs.Causes.{Call, request, file, cancel, close}
+use Rattle.causes.specs.Causes.{Call, request, file, cancel, close, removal}
 use Rattle.calls.specs.Machine.{fresh, after}
 use Rattle.journal.specs.declared.Body.{Body}
 use Rattle.journal.specs.declared.Body.the-variants as body
@@ -53,6 +53,7 @@ callOf (body.Request r) bytes = request r fileSize ∷ []
 callOf body.File bytes = file bytes fileSize ∷ []
 callOf (body.Cancel id) bytes = cancel id fileSize ∷ []
 callOf (body.Close d) bytes = close d ∷ []
+callOf (body.Removal a) bytes = removal a ∷ []
 callOf body.Unread bytes = []
 
 abbrev pub callsOf : List Entry → List Call
@@ -66,6 +67,7 @@ afterEntry (body.Request r) bytes k = after k (callOf (body.Request r) bytes)
 afterEntry body.File bytes k = after k (callOf body.File bytes)
 afterEntry (body.Cancel id) bytes k = after k (callOf (body.Cancel id) bytes)
 afterEntry (body.Close d) bytes k = after k (callOf (body.Close d) bytes)
+afterEntry (body.Removal a) bytes k = after k (callOf (body.Removal a) bytes)
 afterEntry body.Unread bytes k = k
 
 unfoldable pub afterEntries : Book → List Entry → Book

@@ -7,7 +7,8 @@ ghost use lib.ListN.{length, getD};
 ghost use Rattle.fields.specs.Put.{part, put};
 ghost use Rattle.journal.specs.Journal.{endsBad};
 ghost use Rattle.journal.specs.parts.Fields.{identityFieldOf};
-ghost use Rattle.journal.specs.Entries.{freshBody, requestBody, cancelBody, closeBody, bodyOf, goodLength, inTurn, wholeOf, headBy, headOf, frameOf};
+ghost use Rattle.journal.specs.Entries.{freshBody, requestBody, cancelBody, closeBody, removalBody, bodyOf, goodLength, inTurn, wholeOf, headBy, headOf, frameOf};
+use causes::AccountRemoval;
 use causes::Request;
 use causes::Start;
 use fields::Field;
@@ -27,6 +28,7 @@ pub enum Body {
     File,
     Cancel(Identity),
     Close(Date),
+    Removal(AccountRemoval),
     Unread,
 }
 
@@ -138,6 +140,23 @@ fn close_body(s: &[u8]) -> Body
     Body::Close(Date(today))
 }
 
+// The body of a removal: account, date.
+fn removal_body(s: &[u8]) -> Body
+    requires { ⌜ 20 ≤ length (now s) ⌝ }
+    ensures { λ r. ⌜ r ≡ removalBody (now (s .entry)) ⌝ }
+{
+    let Field::Number(account) = fields::read_field(s, 0, layout::ACCOUNT_WIDTH) else {
+        return Body::Unread;
+    };
+    let Field::Number(date) = fields::read_field(s, layout::ACCOUNT_WIDTH, 8) else {
+        return Body::Unread;
+    };
+    Body::Removal(AccountRemoval {
+        account,
+        date: Date(date),
+    })
+}
+
 // Whether an entry with this tag may have this length.
 fn good_length(tag: u8, n: usize) -> bool
     ensures { λ r. ⌜ r ≡ goodLength tag n ⌝ }
@@ -148,6 +167,7 @@ fn good_length(tag: u8, n: usize) -> bool
         2 => n <= records::FILE_SIZE,
         3 => n == 16,
         4 => n == 8,
+        5 => n == 20,
         _ => false,
     }
 }
@@ -188,7 +208,8 @@ fn whole_at(s: &[u8], tag: u8, n: usize) -> Head
         1 => Head::Whole(request_body(body), end),
         2 => Head::Whole(Body::File, end),
         3 => Head::Whole(cancel_body(body), end),
-        _ => Head::Whole(close_body(body), end),
+        4 => Head::Whole(close_body(body), end),
+        _ => Head::Whole(removal_body(body), end),
     }
 }
 

@@ -17,10 +17,11 @@ use Rattle.notices.specs.declared.bil.Bil.{Bil}
 use Rattle.notices.specs.declared.cxl.Cxl.{Cxl}
 use Rattle.notices.specs.Notices.{bil, cxl}
 use Rattle.causes.specs.declared.Request.{Request}
+use Rattle.causes.specs.declared.AccountRemoval.{AccountRemoval}
 use Rattle.notices.proofs.NoticeLengths.{length-bil, length-cxl}
 use Rattle.rules.specs.declared.Check.{Check}
 use Rattle.rules.specs.declared.Check.the-variants.{Clear, Stop}
-use Rattle.causes.specs.Causes.{Call, request, file, cancel, close}
+use Rattle.causes.specs.Causes.{Call, request, file, cancel, close, removal}
 use Rattle.calls.specs.Machine.{cause, nextWritten, outcome, step, outcomes}
 use Rattle.calls.proofs.FileCallLaws.{file-within}
 use Rattle.journal.specs.declared.Body.{Body}
@@ -29,7 +30,7 @@ use Rattle.journal.specs.declared.Head.{Head}
 use Rattle.journal.specs.declared.Head.the-variants.{Cut, Bad, Whole}
 use Rattle.journal.specs.declared.Frame.{Frame}
 use Rattle.journal.specs.declared.Frame.the-variants.{Nothing, Sized}
-use Rattle.journal.specs.Entries.{digitsIn, freshBody, requestBody, cancelBody, closeBody, bodyOf, goodLength, headOf, frameOf}
+use Rattle.journal.specs.Entries.{digitsIn, freshBody, requestBody, cancelBody, closeBody, removalBody, bodyOf, goodLength, headOf, frameOf}
 use Rattle.journal.specs.Journal.{callOf, afterEntry, onHead, parseUpTo, parse, firstBook}
 use Rattle.journal.specs.EntryCalls.{writtenBy, noticesOf, brnOf}
 use Rattle.journal.proofs.HeadLaws.{tagIn, lengthIn, whole-is, whole-holds, whole-bytes}
@@ -72,6 +73,10 @@ module _ (k : Book) where
     unfolding Writes nextWritten
     close-writes d = call-most (close d) 0 (omega arith)
 
+    removal-writes : (a : AccountRemoval) → Writes 0 (body.Removal a)
+    unfolding Writes nextWritten
+    removal-writes a = call-most (removal a) 0 (omega arith)
+
     -- a body is read, or not
     by-cond : (t : Bool) (n : ℕ) (b : Body) → Writes n b → Writes n (cond t b body.Unread)
     by-cond true n b h = h
@@ -100,18 +105,24 @@ module _ (k : Book) where
     unfolding closeBody
     close-most = by-cond (digitsIn bytes 1 8) 0 _ (close-writes _)
 
+    removal-most : Writes 0 (removalBody bytes)
+    unfolding removalBody
+    removal-most = by-cond (digitsIn bytes 1 12 && digitsIn bytes 13 20) 0 _ (removal-writes _)
+
     pub body-most : (tag : ℕ) → length (writtenBy (outcomes k (callOf (bodyOf tag bytes) bytes))) ≤ mostOf tag (length bytes)
     unfolding Writes bodyOf mostOf
-    body-most tag = go (eqb tag 0) (eqb tag 1) (eqb tag 2) (eqb tag 3)
+    body-most tag = go (eqb tag 0) (eqb tag 1) (eqb tag 2) (eqb tag 3) (eqb tag 4)
       where
-        go : (a b c d : Bool)
+        go : (a b c d e : Bool)
             → Writes (cond b 642 (cond c (length bytes) (cond d 642 0)))
-            (cond a (freshBody bytes) (cond b (requestBody bytes) (cond c body.File (cond d (cancelBody bytes) (closeBody bytes)))))
-        go true b c d = fresh-most _
-        go false true c d = request-most
-        go false false true d = file-most
-        go false false false true = cancel-most
-        go false false false false = close-most
+            (cond a (freshBody bytes)
+            (cond b (requestBody bytes) (cond c body.File (cond d (cancelBody bytes) (cond e (closeBody bytes) (removalBody bytes))))))
+        go true b c d e = fresh-most _
+        go false true c d e = request-most
+        go false false true d e = file-most
+        go false false false true e = cancel-most
+        go false false false false true = close-most
+        go false false false false false = removal-most
 
 -- ---- what all of them write
 -- an entry that is afterEntry has its frame

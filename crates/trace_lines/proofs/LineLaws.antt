@@ -62,20 +62,26 @@ module _ (tag : ℕ) where
   unfolding callName
   name-cancel e = rw e
 
-  pub name-close : (tag ≡ 0 → ⊥) → (tag ≡ 1 → ⊥) → (tag ≡ 2 → ⊥) → (tag ≡ 3 → ⊥) → callName tag ≡ text "close"
+  pub name-close : tag ≡ 4 → callName tag ≡ text "close"
   unfolding callName
-  name-close a b c d = rw (ne-eqb tag 0 a, ne-eqb tag 1 b, ne-eqb tag 2 c, ne-eqb tag 3 d)
+  name-close e = rw e
+
+  pub name-removal : (tag ≡ 0 → ⊥) → (tag ≡ 1 → ⊥) → (tag ≡ 2 → ⊥) → (tag ≡ 3 → ⊥) → (tag ≡ 4 → ⊥) → callName tag ≡ text "removal"
+  unfolding callName
+  name-removal a b c d e = rw (ne-eqb tag 0 a, ne-eqb tag 1 b, ne-eqb tag 2 c, ne-eqb tag 3 d, ne-eqb tag 4 e)
 
   pub short-name : length (cell (callName tag)) ≤ 8
   unfolding callName cell
-  short-name = go (eqb tag 0) (eqb tag 1) (eqb tag 2) (eqb tag 3)
+  short-name = go (eqb tag 0) (eqb tag 1) (eqb tag 2) (eqb tag 3) (eqb tag 4)
     where
-      go : (a b c d : Bool) → length (cond a (text "fresh") (cond b (text "request") (cond c (text "file") (cond d (text "cancel") (text "close")))) ++ text ",") ≤ 8
-      go true b c d = omega arith
-      go false true c d = omega arith
-      go false false true d = omega arith
-      go false false false true = omega arith
-      go false false false false = omega arith
+      go : (a b c d e : Bool)
+          → length (cond a (text "fresh") (cond b (text "request") (cond c (text "file") (cond d (text "cancel") (cond e (text "close") (text "removal"))))) ++ text ",") ≤ 8
+      go true b c d e = omega arith
+      go false true c d e = omega arith
+      go false false true d e = omega arith
+      go false false false true e = omega arith
+      go false false false false true = omega arith
+      go false false false false false = omega arith
 
 -- ---- lengths
 pub length-change : (x : ℤ) → length (changeText x) ≡ 17

@@ -20,16 +20,17 @@ use Rattle.group.specs.Groups.{answers, verdicts}
 use Rattle.calls.specs.declared.Answer.{Answer}
 use Rattle.calls.specs.declared.Answer.the-variants.{Done, Refused}
 use Rattle.causes.specs.declared.Request.{Request}
+use Rattle.causes.specs.declared.AccountRemoval.{AccountRemoval}
 use Rattle.calls.specs.declared.Returned.{Returned}
 use Rattle.causes.specs.declared.Start.{Start}
-use Rattle.causes.specs.Causes.{Call, request, file, cancel, close}
+use Rattle.causes.specs.Causes.{Call, request, file, cancel, close, removal}
 use Rattle.calls.specs.Machine.{cause, nextWritten, nextVerdicts, outcome, step, outcomes, answerBy, called, eachCalled}
 use Rattle.calls.specs.Days.{freshBy, freshCalled}
 use Rattle.calls.proofs.RunLaws.{runs}
 use Rattle.journal.specs.declared.Body.{Body}
 use Rattle.journal.specs.declared.Body.the-variants as body
 use Rattle.journal.specs.declared.Head.the-variants.{Cut, Bad, Whole}
-use Rattle.journal.specs.Entries.{digitsIn, freshBody, requestBody, cancelBody, closeBody, bodyOf, goodLength, freshTaken, headOf}
+use Rattle.journal.specs.Entries.{digitsIn, freshBody, requestBody, cancelBody, closeBody, removalBody, bodyOf, goodLength, freshTaken, headOf}
 use Rattle.journal.specs.Journal.{Parsed, Entry, parse, afterEntry}
 use Rattle.journal.specs.EntryCalls.{entryCalled}
 use Rattle.journal.proofs.HeadLaws.{tagIn, lengthIn, whole-is, whole-holds, whole-bytes}
@@ -52,6 +53,7 @@ module _ (l : Ledger) (h : soundLedger l ≡ true) where
   answer-in body.File bytes t = call-answer (file bytes 64200)
   answer-in (body.Cancel id) bytes t = call-answer (cancel id 64200)
   answer-in (body.Close d) bytes t = call-answer (close d)
+  answer-in (body.Removal a) bytes t = call-answer (removal a)
   answer-in body.Unread bytes t = refl
 
 -- ---- the lines under a file
@@ -102,22 +104,33 @@ module _ (bytes : List ℕ) where
   close-tag true d e = refl
   close-tag false d e = rw e
 
+  removal-tag : (x : Bool) (a : AccountRemoval) → length bytes ≡ 20 → tagOf (cond x (body.Removal a) body.Unread) bytes ≡ 5
+  removal-tag true a e = refl
+  removal-tag false a e = rw e
+
   -- by the tag and the length that goes with it
   tag-by : (tag : ℕ) → goodLength tag (length bytes) ≡ true → (eqb tag 0 ≡ true → freshTaken (bodyOf tag bytes) ≡ true) → tagOf (bodyOf tag bytes) bytes ≡ tag
-  unfolding goodLength bodyOf freshBody requestBody cancelBody closeBody
+  unfolding goodLength bodyOf freshBody requestBody cancelBody closeBody removalBody
   tag-by tag g t =
-      go (eqb tag 0) (eqb tag 1) (eqb tag 2) (eqb tag 3) (eqb tag 4) (eqb-true tag 0) (eqb-true tag 1) (eqb-true tag 2) (eqb-true tag 3) (eqb-true tag 4) g t
+      go (eqb tag 0) (eqb tag 1) (eqb tag 2) (eqb tag 3) (eqb tag 4) (eqb tag 5) (eqb-true tag 0) (eqb-true tag 1) (eqb-true tag 2) (eqb-true tag 3) (eqb-true tag 4)
+      (eqb-true tag 5) g t
     where
-      go : (a b c d e : Bool) → (a ≡ true → tag ≡ 0) → (b ≡ true → tag ≡ 1) → (c ≡ true → tag ≡ 2) → (d ≡ true → tag ≡ 3) → (e ≡ true → tag ≡ 4)
-          → cond a (eqb (length bytes) 26) (cond b (eqb (length bytes) 56) (cond c (leb (length bytes) 64200) (cond d (eqb (length bytes) 16) (cond e (eqb (length bytes) 8) false)))) ≡ true
-          → (a ≡ true → freshTaken (cond a (freshBody bytes) (cond b (requestBody bytes) (cond c body.File (cond d (cancelBody bytes) (closeBody bytes))))) ≡ true)
-          → tagOf (cond a (freshBody bytes) (cond b (requestBody bytes) (cond c body.File (cond d (cancelBody bytes) (closeBody bytes))))) bytes ≡ tag
-      go true b c d e p q r u v g t = fresh-tag (digitsIn bytes 1 8 && digitsIn bytes 9 17 && digitsIn bytes 18 26) _ (t refl) ∙ sym (p refl)
-      go false true c d e p q r u v g t = request-tag (digitsIn bytes 6 17 && digitsIn bytes 18 21 && digitsIn bytes 23 30 && digitsIn bytes 31 38 && digitsIn bytes 39 48 && digitsIn bytes 49 56) _ (eqb-true (length bytes) 56 g) ∙ sym (q refl)
-      go false false true d e p q r u v g t = sym (r refl)
-      go false false false true e p q r u v g t = cancel-tag (digitsIn bytes 1 12 && digitsIn bytes 13 16) _ (eqb-true (length bytes) 16 g) ∙ sym (u refl)
-      go false false false false true p q r u v g t = close-tag (digitsIn bytes 1 8) _ (eqb-true (length bytes) 8 g) ∙ sym (v refl)
-      go false false false false false p q r u v g t = let z : _≡_ {A = ℕ} 0 1 = cc in absurd (omega arith)
+      go : (a b c d e f : Bool) → (a ≡ true → tag ≡ 0) → (b ≡ true → tag ≡ 1) → (c ≡ true → tag ≡ 2) → (d ≡ true → tag ≡ 3) → (e ≡ true → tag ≡ 4)
+          → (f ≡ true → tag ≡ 5)
+          → cond a (eqb (length bytes) 26)
+          (cond b (eqb (length bytes) 56)
+          (cond c (leb (length bytes) 64200)
+          (cond d (eqb (length bytes) 16) (cond e (eqb (length bytes) 8) (cond f (eqb (length bytes) 20) false)))))
+          ≡ true
+          → (a ≡ true → freshTaken (cond a (freshBody bytes) (cond b (requestBody bytes) (cond c body.File (cond d (cancelBody bytes) (cond e (closeBody bytes) (removalBody bytes)))))) ≡ true)
+          → tagOf (cond a (freshBody bytes) (cond b (requestBody bytes) (cond c body.File (cond d (cancelBody bytes) (cond e (closeBody bytes) (removalBody bytes)))))) bytes ≡ tag
+      go true b c d e f p q r u v w g t = fresh-tag (digitsIn bytes 1 8 && digitsIn bytes 9 17 && digitsIn bytes 18 26) _ (t refl) ∙ sym (p refl)
+      go false true c d e f p q r u v w g t = request-tag (digitsIn bytes 6 17 && digitsIn bytes 18 21 && digitsIn bytes 23 30 && digitsIn bytes 31 38 && digitsIn bytes 39 48 && digitsIn bytes 49 56) _ (eqb-true (length bytes) 56 g) ∙ sym (q refl)
+      go false false true d e f p q r u v w g t = sym (r refl)
+      go false false false true e f p q r u v w g t = cancel-tag (digitsIn bytes 1 12 && digitsIn bytes 13 16) _ (eqb-true (length bytes) 16 g) ∙ sym (u refl)
+      go false false false false true f p q r u v w g t = close-tag (digitsIn bytes 1 8) _ (eqb-true (length bytes) 8 g) ∙ sym (v refl)
+      go false false false false false true p q r u v w g t = removal-tag (digitsIn bytes 1 12 && digitsIn bytes 13 20) _ (eqb-true (length bytes) 20 g) ∙ sym (w refl)
+      go false false false false false false p q r u v w g t = let z : _≡_ {A = ℕ} 0 1 = cc in absurd (omega arith)
 
 pub tag-is : (seen : ℕ) (s : List ℕ) (b : Body) (n : ℕ) → headOf seen s ≡ Whole b n → tagOf b (part s 3 (n - 3)) ≡ tagIn s
 tag-is seen s b n e =

@@ -19,23 +19,26 @@ use Rattle.journal.specs.declared.Body.{Body}
 use Rattle.journal.specs.declared.Body.the-variants as body
 
 -- ---- an entry's line: 0000000003,file,00,00000000000004250,001,000,000
--- the tag of an entry; of a body whose fields are not digits it goes by the length: 56 of a request, 16 of a cancel, 8 of a close
+-- the tag of an entry; of a body whose fields are not digits it goes by the length: 56 of a request, 16 of a cancel, 8 of a close,
+-- 20 of a removal
 abbrev pub tagOf : Body → List ℕ → ℕ
 tagOf (body.Fresh s) bytes = 0
 tagOf (body.Request r) bytes = 1
 tagOf body.File bytes = 2
 tagOf (body.Cancel id) bytes = 3
 tagOf (body.Close d) bytes = 4
-tagOf body.Unread bytes = cond (eqb (length bytes) 56) 1 (cond (eqb (length bytes) 16) 3 4)
+tagOf (body.Removal a) bytes = 5
+tagOf body.Unread bytes = cond (eqb (length bytes) 56) 1 (cond (eqb (length bytes) 16) 3 (cond (eqb (length bytes) 8) 4 5))
 
--- call: `fresh`, `request`, `file`, `cancel` or `close`, by the entry's tag
+-- call: `fresh`, `request`, `file`, `cancel`, `close` or `removal`, by the entry's tag
 unfoldable pub callName : ℕ → List ℕ
 callName tag =
     cond (eqb tag 0) (text "fresh")
     (cond (eqb tag 1) (text "request")
     (cond (eqb tag 2) (text "file")
     (cond (eqb tag 3) (text "cancel")
-    (text "close"))))
+    (cond (eqb tag 4) (text "close")
+    (text "removal")))))
 
 -- "`0` or, if it is negative, `-`"
 abbrev pub signOf : ℤ → List ℕ

@@ -6,7 +6,7 @@ use Rattle.file.specs.File.{fileGroups}
 use Rattle.table.specs.Table.{stopLine}
 use Rattle.calls.specs.declared.Answer.{Answer}
 use Rattle.calls.specs.declared.Answer.the-variants.{Refused}
-use Rattle.causes.specs.Causes.{Call, request, file, cancel, close}
+use Rattle.causes.specs.Causes.{Call, request, file, cancel, close, removal}
 use Rattle.calls.specs.Machine.{step, answerBy}
 use Rattle.calls.specs.Days.{quietAnswer}
 use Rattle.journal.specs.declared.Body.{Body}
@@ -26,6 +26,7 @@ entryAnswer k (body.Request r) bytes = answerTo k (request r fileSize)
 entryAnswer k body.File bytes = answerTo k (file bytes fileSize)
 entryAnswer k (body.Cancel id) bytes = answerTo k (cancel id fileSize)
 entryAnswer k (body.Close d) bytes = answerTo k (close d)
+entryAnswer k (body.Removal a) bytes = answerTo k (removal a)
 entryAnswer k body.Unread bytes = Refused 2
 
 -- "Under the line of a file that was carried out, a line for each of its groups, in order": a refused file has no verdicts
@@ -35,6 +36,7 @@ linesUnder k (body.Request r) bytes = []
 linesUnder k body.File bytes = groupLines (k .confirmation) (fileGroups bytes) (step k (file bytes fileSize) .verdicts)
 linesUnder k (body.Cancel id) bytes = []
 linesUnder k (body.Close d) bytes = []
+linesUnder k (body.Removal a) bytes = []
 linesUnder k body.Unread bytes = []
 
 -- the lines of an entry on a ledger

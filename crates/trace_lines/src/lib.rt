@@ -109,8 +109,12 @@ fn put_call(out: &mut [u8], at: usize, tag: u8) -> usize
         fields::put_bytes(out, at, b"cancel,");
         return at + 7;
     }
-    fields::put_bytes(out, at, b"close,");
-    at + 6
+    if tag == 4 {
+        fields::put_bytes(out, at, b"close,");
+        return at + 6;
+    }
+    fields::put_bytes(out, at, b"removal,");
+    at + 8
 }
 
 // Writes the line of an entry with this number and tag, at most 52 bytes, and answers where it ends.

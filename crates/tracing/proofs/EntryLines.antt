@@ -54,6 +54,7 @@ module _ (k : Book) (bytes : List ℕ) where
   no-lines body.File tag a t q f = refused a (sym q) (ap (λ (i : ℕ). eqb i 2 && isDone a) t ∙ f)
   no-lines (body.Cancel id) tag a t q f = refl
   no-lines (body.Close d) tag a t q f = refl
+  no-lines (body.Removal r) tag a t q f = refl
   no-lines body.Unread tag a t q f = refl
 
 module _ (number : ℕ) (src : List ℕ) (n : ℕ) (a : Answer) (seen : ℕ) (l : Ledger) (h : soundLedger l ≡ true) where

@@ -15,16 +15,19 @@ use Rattle.journal.proofs.Body as declared
 use Rattle.journal.proofs.fresh_head.Statement.{statement}
 use Rattle.journal.proofs.fresh_head.Tie as tie
 
-not-zero : OneOf (1 ∷ 2 ∷ 3 ∷ 4 ∷ 5 ∷ []) 0 → ⊥
-not-zero = ⊎-elim (λ e. omega arith) (⊎-elim (λ e. omega arith) (⊎-elim (λ e. omega arith) (⊎-elim (λ e. omega arith) (λ e. omega arith))))
+not-zero : OneOf (1 ∷ 2 ∷ 3 ∷ 4 ∷ 5 ∷ 6 ∷ []) 0 → ⊥
+not-zero =
+    ⊎-elim (λ e. omega arith)
+    (⊎-elim (λ e. omega arith) (⊎-elim (λ e. omega arith) (⊎-elim (λ e. omega arith) (⊎-elim (λ e. omega arith) (λ e. omega arith)))))
 
 -- a body with another variant's number
-no-fresh : (b : Body) (n : ℕ) → OneOf (1 ∷ 2 ∷ 3 ∷ 4 ∷ 5 ∷ []) (tagOf declared.the-type b) → Bad ≡ wholeOf 0 b n
+no-fresh : (b : Body) (n : ℕ) → OneOf (1 ∷ 2 ∷ 3 ∷ 4 ∷ 5 ∷ 6 ∷ []) (tagOf declared.the-type b) → Bad ≡ wholeOf 0 b n
 no-fresh (body.Fresh s) n h = absurd (not-zero h)
 no-fresh (body.Request r) n h = refl
 no-fresh body.File n h = refl
 no-fresh (body.Cancel id) n h = refl
 no-fresh (body.Close d) n h = refl
+no-fresh (body.Removal a) n h = refl
 no-fresh body.Unread n h = refl
 
 enum-known-b : tie.Need-enum-known-b

@@ -3,7 +3,7 @@ use borrow.Author.Needs.{needs}
 use native.Mathlib.Omega.{arith}
 use borrow.Author.Tests.{ne-eqb}
 use Rattle.journal.specs.Entries.{bodyOf}
-use Rattle.journal.proofs.BodyLaws.{fresh-length, request-length, cancel-length, close-length, lent-length, lent-part}
+use Rattle.journal.proofs.BodyLaws.{fresh-length, request-length, cancel-length, close-length, removal-length, lent-length, lent-part}
 use Rattle.journal.proofs.whole_at.Statement.{statement}
 use Rattle.journal.proofs.whole_at.Tie as tie
 
@@ -40,8 +40,13 @@ cancel-body-requires c κs =
 close-body-requires : tie.Need-close-body-requires
 close-body-requires c κs =
     let a = c .before .before .before .args in
+    omega (arith, close-length (a .tag) (a .n) (c .match .keys5) (c .before .before .before .pre .0), lent-length (a .s .now) (a .n) (c .before .before .before .pre .1))
+
+removal-body-requires : tie.Need-removal-body-requires
+removal-body-requires c κs =
+    let a = c .before .before .before .args in
     let r = c .match .rest in
-    omega (arith, close-length (a .tag) (a .n) (r .0 .0 .0 .1) (r .0 .0 .1) (r .0 .1) (r .1) (c .before .before .before .pre .0), lent-length (a .s .now) (a .n) (c .before .before .before .pre .1))
+    omega (arith, removal-length (a .tag) (a .n) (r .0 .0 .0 .0 .1) (r .0 .0 .0 .1) (r .0 .0 .1) (r .0 .1) (r .1) (c .before .before .before .pre .0), lent-length (a .s .now) (a .n) (c .before .before .before .pre .1))
 
 returns : tie.Need-returns
 unfolding bodyOf
@@ -61,9 +66,13 @@ returns-4 c = rw (c .before .match .keys4, c .cancel-body .ensures, lent-part)
 
 returns-5 : tie.Need-returns-5
 unfolding bodyOf
-returns-5 c =
+returns-5 c = rw (c .before .match .keys5, c .close-body .ensures, lent-part)
+
+returns-6 : tie.Need-returns-6
+unfolding bodyOf
+returns-6 c =
     let r = c .before .match .rest in
-    rw (ne-eqb _ _ (r .0 .0 .0 .1), ne-eqb _ _ (r .0 .0 .1), ne-eqb _ _ (r .0 .1), ne-eqb _ _ (r .1), c .close-body .ensures, lent-part)
+    rw (ne-eqb _ _ (r .0 .0 .0 .0 .1), ne-eqb _ _ (r .0 .0 .0 .1), ne-eqb _ _ (r .0 .0 .1), ne-eqb _ _ (r .0 .1), ne-eqb _ _ (r .1), c .removal-body .ensures, lent-part)
 
 pub whole-at-spec : {M : Type 1} → statement M
 whole-at-spec =
@@ -78,8 +87,10 @@ whole-at-spec =
     request-body-requires
     cancel-body-requires
     close-body-requires
+    removal-body-requires
     returns
     returns-2
     returns-3
     returns-4
-    returns-5)
+    returns-5
+    returns-6)

@@ -3,7 +3,7 @@ use borrow.Author.Needs.{needs}
 use mathlib.Core.Path.{refl}
 use Rattle.fields.specs.Text.{text}
 use Rattle.table.specs.Table.{cell}
-use Rattle.trace_lines.proofs.LineLaws.{name-put, name-fresh, name-request, name-file, name-cancel, name-close}
+use Rattle.trace_lines.proofs.LineLaws.{name-put, name-fresh, name-request, name-file, name-cancel, name-close, name-removal}
 use Rattle.trace_lines.proofs.put_call.Statement.{statement}
 use Rattle.trace_lines.proofs.put_call.Tie as tie
 
@@ -92,9 +92,33 @@ same-length-5 c = search needs
 returns-5 : tie.Need-returns-5
 unfolding cell
 returns-5 c =
-    let at-if1 = c .before .before .before .before .before .before .before .before in
-    let start = at-if1 .before .before in
-    name-put _ _ (start .args .at) (start .args .tag) 6 (text "close") (name-close (start .args .tag) (at-if1 .if1 .left) (c .before .before .before .before .before .before .before .if2 .left) (c .before .before .before .before .before .before .if3 .left) (c .before .before .before .before .before .if4 .left)) refl (c .before .before .put-bytes5 .ensures)
+    let start = c .before .before .before .before .before .before .before .before .before .before .before in
+    name-put _ _ (start .args .at) (start .args .tag) 6 (text "close") (name-close (start .args .tag) (c .before .before .before .before .before .if5 .taken)) refl (c .before .before .put-bytes5 .ensures)
+
+slice-aggregate-put-bytes-6 : tie.Need-slice-aggregate-put-bytes-6
+slice-aggregate-put-bytes-6 c = search needs
+
+put-bytes-requires-6 : tie.Need-put-bytes-requires-6
+put-bytes-requires-6 c κs = search needs
+
+add-result-6 : tie.Need-add-result-6
+add-result-6 c = search needs
+
+same-length-6 : tie.Need-same-length-6
+same-length-6 c = search needs
+
+returns-6 : tie.Need-returns-6
+unfolding cell
+returns-6 c =
+    let past-5 = c .before .before .before .before .before in
+    let past-4 = past-5 .before in
+    let past-3 = past-4 .before in
+    let past-2 = past-3 .before in
+    let past-1 = past-2 .before in
+    let start = past-1 .before .before in
+    name-put _ _ (start .args .at) (start .args .tag) 8 (text "removal")
+    (name-removal (start .args .tag) (past-1 .if1 .left) (past-2 .if2 .left) (past-3 .if3 .left) (past-4 .if4 .left) (past-5 .if5 .left)) refl
+    (c .before .before .put-bytes6 .ensures)
 
 pub put-call-spec : {M : Type 1} → statement M
 put-call-spec =
@@ -124,4 +148,9 @@ put-call-spec =
     put-bytes-requires-5
     add-result-5
     same-length-5
-    returns-5)
+    returns-5
+    slice-aggregate-put-bytes-6
+    put-bytes-requires-6
+    add-result-6
+    same-length-6
+    returns-6)

@@ -7,6 +7,7 @@ use Rattle.words.proofs.WordLaws.{sound-holds}
 use Rattle.group.proofs.ReadyLaws.{sound-ready}
 use Rattle.calls.proofs.BillLaws.{Decided}
 use Rattle.engine.proofs.WordCalls.{stopped-in, carried-in, sound-in, decided-in}
+use Rattle.engine.proofs.WordRemovals.{said-decided}
 use borrow.Author.Needs.{needs, sfits-of}
 use Rattle.engine.proofs.call.bill_call_in.Statement.{statement}
 use Rattle.engine.proofs.call.bill_call_in.Tie as tie
@@ -86,7 +87,14 @@ update-requires : tie.Need-update-requires
 update-requires c κs =
     let at-change = c .before .before .before .before .before .before .before in
     let d = at-change .before .before .before in
-    (sound-holds _ (start d .pre .0), at-place d .bill-place .ensures .1)
+    let place = at-place d .bill-place in
+    let ws = start d .args .ws .now in
+    let holds = sound-holds ws (start d .pre .0) in (
+      holds,
+      place .ensures .1,
+      said-decided ws holds (place .result) (place .ensures .1) _ (d .before .bill-at .ensures) (start d .args .room) (start d .args .c)
+          (at-header d .header .result) (at-place d .before .find .result) _ (d .decide .ensures),
+    )
 
 noticed-requires : tie.Need-noticed-requires
 noticed-requires c κs = search needs

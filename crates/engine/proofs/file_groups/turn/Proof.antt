@@ -4,6 +4,7 @@ use Rattle.words.specs.Layout.{ledgerOf}
 use Rattle.file.specs.parts.Walk.{groupAt}
 use Rattle.group.proofs.GroupWalk.{turn-calm, turn-on}
 use Rattle.engine.proofs.WordCalls.{found-is, place-is, turn-here}
+use Rattle.engine.proofs.WordRemovals.{said-turn}
 use borrow.Author.Needs.{needs}
 use Rattle.engine.proofs.file_groups.turn.Statement.{statement}
 use Rattle.engine.proofs.file_groups.turn.Tie as tie
@@ -26,13 +27,18 @@ bill-at-requires c κs = search needs
 turn-requires : tie.Need-turn-requires
 turn-requires c κs =
     let start = c .before .before .before .before .before .before .before .before .before .before .before .before in
-    (start .pre .0, (turn-calm (ledgerOf (start .args .ws .now)) (start .args .c) (start .pre .1 .1) (start .args .s .now) (start .args .g .header) (start .args .g .records) _ (c .before .before .before .before .before .identity-at .ensures) _ (found-is (start .args .ws .now) _ _ (c .before .before .before .before .before .before .before .header .ensures) _ (c .before .before .before .before .find .ensures)) _ (place-is (start .args .ws .now) _ _ (c .before .before .before .before .before .before .before .header .ensures) _ (c .before .before .before .before .find .ensures) _ (c .before .before .before .bill-place .ensures .0)) _ (c .before .bill-at .ensures), start .pre .1 .1 .few, rw (c .before .before .before .before .before .before .before .header .ensures) (start .pre .1 .1 .tracking), rw (c .before .before .before .before .before .before .before .header .ensures) (start .pre .1 .1 .confirmation)))
+    (start .pre .0, (turn-calm (ledgerOf (start .args .ws .now)) (start .args .c) (start .pre .1 .1) (start .args .s .now) (start .args .g .header) (start .args .g .records) _ (c .before .before .before .before .before .identity-at .ensures) _ (found-is (start .args .ws .now) _ _ (c .before .before .before .before .before .before .before .header .ensures) _ (c .before .before .before .before .find .ensures)) _ (place-is (start .args .ws .now) _ _ (c .before .before .before .before .before .before .before .header .ensures) _ (c .before .before .before .before .find .ensures) _ (c .before .before .before .bill-place .ensures .0)) _ (c .before .bill-at .ensures), start .pre .1 .1 .few, rw (c .before .before .before .before .before .before .before .header .ensures) (start .pre .1 .1 .tracking), rw (c .before .before .before .before .before .before .before .header .ensures) (start .pre .1 .1 .confirmation), rw (c .before .before .before .before .before .before .before .header .ensures) (start .pre .1 .1 .today)))
 
 update-requires : tie.Need-update-requires
 update-requires c κs =
     let at-place = c .before .before .before .before .before .before .before .before in
     let start = at-place .before .before .before .before .before .before .before .before .before in
-    (start .pre .1 .0, at-place .bill-place .ensures .1)
+    let at-turn = c .before .before .before .before in
+    let place = at-place .bill-place in (
+      start .pre .1 .0,
+      place .ensures .1,
+      said-turn (start .args .ws .now) (start .pre .1 .0) (place .result) (place .ensures .1) _ (at-turn .before .before .bill-at .ensures) (at-turn .turn .ensures),
+    )
 
 same-length : tie.Need-same-length
 same-length c = search needs

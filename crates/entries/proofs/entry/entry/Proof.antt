@@ -35,6 +35,12 @@ close-in-requires c κs = search needs
 enum-known-body-4 : tie.Need-enum-known-body-4
 enum-known-body-4 c = search needs
 
+removal-in-requires : tie.Need-removal-in-requires
+removal-in-requires c κs = search needs
+
+enum-known-body-5 : tie.Need-enum-known-body-5
+enum-known-body-5 c = search needs
+
 fresh-in-requires : tie.Need-fresh-in-requires
 fresh-in-requires c κs = words-long _ (sound-holds _ (c .before .before .before .before .before .before .before .pre .0 .0))
 
@@ -93,10 +99,19 @@ returns-5 : tie.Need-returns-5
 returns-5 c =
     let at-before = c .before .before .before .before .before .before .before .before .before in
     let start = at-before .before in
-    rw (c .before .before .before .before .before .body4 .given .1) (made-by (start .args .writes) (start .args .room) (start .args .ws .now) (start .args .out .now) (start .pre .0 .0) (start .args .s .now) _ (subst Taken (c .before .before .before .before .before .body4 .given .1) (start .pre .0 .1)) _ _ _ (c .before .before .fresh-in .ensures .0) (c .before .before .fresh-in .ensures .1) (said-none (start .args .writes) _))
+    rw (c .before .before .before .before .before .body4 .given .1) (made-by (start .args .writes) (start .args .room) (start .args .ws .now) (start .args .out .now) (start .pre .0 .0) (start .args .s .now) _ tt _ _ _ (c .before .before .removal-in .ensures .1) (c .before .before .removal-in .ensures .2) (said-none (start .args .writes) _))
+
+same-length-9 : tie.Need-same-length-9
+same-length-9 c = search needs
 
 returns-6 : tie.Need-returns-6
-returns-6 c = rw (c .enum-told2 .given .1) (made-unread (c .before .before .before .before .before .args .writes) (c .before .before .before .before .before .args .room) (c .before .before .before .before .before .args .ws .now) (c .before .before .before .before .before .args .out .now) (c .before .before .before .before .before .pre .0 .0) (c .before .before .before .before .before .args .s .now))
+returns-6 c =
+    let at-before = c .before .before .before .before .before .before .before .before .before in
+    let start = at-before .before in
+    rw (c .before .before .before .before .before .body5 .given .1) (made-by (start .args .writes) (start .args .room) (start .args .ws .now) (start .args .out .now) (start .pre .0 .0) (start .args .s .now) _ (subst Taken (c .before .before .before .before .before .body5 .given .1) (start .pre .0 .1)) _ _ _ (c .before .before .fresh-in .ensures .0) (c .before .before .fresh-in .ensures .1) (said-none (start .args .writes) _))
+
+returns-7 : tie.Need-returns-7
+returns-7 c = rw (c .enum-told2 .given .1) (made-unread (c .before .before .before .before .before .args .writes) (c .before .before .before .before .before .args .room) (c .before .before .before .before .before .args .ws .now) (c .before .before .before .before .before .args .out .now) (c .before .before .before .before .before .pre .0 .0) (c .before .before .before .before .before .args .s .now))
 
 pub entry-spec : {M : Type 1} → statement M
 entry-spec =
@@ -111,6 +126,8 @@ entry-spec =
     enum-known-body-3
     close-in-requires
     enum-known-body-4
+    removal-in-requires
+    enum-known-body-5
     fresh-in-requires
     enum-told-2
     same-length
@@ -126,4 +143,6 @@ entry-spec =
     returns-4
     same-length-8
     returns-5
-    returns-6)
+    same-length-9
+    returns-6
+    returns-7)
