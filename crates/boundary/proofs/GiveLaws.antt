@@ -13,15 +13,16 @@ use denote.Enum.Declared.{tagOf}
 use Rattle.fields.specs.Put.{put, part}
 use Rattle.fields.proofs.PutLaws.{put-nil}
 use Rattle.ledger.specs.Sound.{soundLedger}
-use Rattle.words.specs.Layout.{holdsLedger, ledgerWords, ledgerOf}
+use Rattle.words.specs.Layout.{ledgerSize, holdsLedger, ledgerWords, ledgerOf}
 use Rattle.words.proofs.WordLaws.{words-ledger, sound-holds}
 use Rattle.rules.specs.declared.Check.{Check}
 use Rattle.rules.specs.declared.Check.the-variants.{Clear, Stop}
 use Rattle.units.specs.declared.Date.{Date}
 use Rattle.ledger.specs.declared.Identity.{Identity}
 use Rattle.causes.specs.declared.Request.{Request}
+use Rattle.causes.specs.declared.AccountRemoval.{AccountRemoval}
 use Rattle.causes.specs.declared.Start.{Start}
-use Rattle.causes.specs.Causes.{Call, request, file, cancel, close}
+use Rattle.causes.specs.Causes.{Call, request, file, cancel, close, removal}
 use Rattle.calls.specs.declared.Called.{Called}
 use Rattle.calls.specs.declared.Returned.{Returned}
 use Rattle.calls.specs.declared.Answer.{Answer}
@@ -49,33 +50,38 @@ NoFresh (body.Request r) = Unit {0}
 NoFresh body.File = Unit {0}
 NoFresh (body.Cancel id) = Unit {0}
 NoFresh (body.Close d) = Unit {0}
+NoFresh (body.Removal a) = Unit {0}
 NoFresh body.Unread = Unit {0}
 
-not-zero : OneOf (1 ∷ 2 ∷ 3 ∷ 4 ∷ 5 ∷ []) 0 → ⊥
-not-zero = ⊎-elim (λ e. omega arith) (⊎-elim (λ e. omega arith) (⊎-elim (λ e. omega arith) (⊎-elim (λ e. omega arith) (λ e. omega arith))))
+not-zero : OneOf (1 ∷ 2 ∷ 3 ∷ 4 ∷ 5 ∷ 6 ∷ []) 0 → ⊥
+not-zero =
+    ⊎-elim (λ e. omega arith)
+    (⊎-elim (λ e. omega arith) (⊎-elim (λ e. omega arith) (⊎-elim (λ e. omega arith) (⊎-elim (λ e. omega arith) (λ e. omega arith)))))
 
 -- a body with another variant's number
-pub no-fresh : (b : Body) → OneOf (1 ∷ 2 ∷ 3 ∷ 4 ∷ 5 ∷ []) (tagOf declared.the-type b) → NoFresh b
+pub no-fresh : (b : Body) → OneOf (1 ∷ 2 ∷ 3 ∷ 4 ∷ 5 ∷ 6 ∷ []) (tagOf declared.the-type b) → NoFresh b
 no-fresh (body.Fresh s) h = not-zero h
 no-fresh (body.Request r) h = tt
 no-fresh body.File h = tt
 no-fresh (body.Cancel id) h = tt
 no-fresh (body.Close d) h = tt
+no-fresh (body.Removal a) h = tt
 no-fresh body.Unread h = tt
 
 -- what holds of every other body
 module _ (Q : Body → Type 0) (asks : (r : Request) → Q (body.Request r)) (files : Q body.File) (cancels : (id : Identity) → Q (body.Cancel id))
-    (closes : (d : Date) → Q (body.Close d)) (unread : Q body.Unread) where
+    (closes : (d : Date) → Q (body.Close d)) (removes : (a : AccountRemoval) → Q (body.Removal a)) (unread : Q body.Unread) where
   each : (b : Body) → NoFresh b → Q b
   each (body.Fresh s) h = absurd h
   each (body.Request r) h = asks r
   each body.File h = files
   each (body.Cancel id) h = cancels id
   each (body.Close d) h = closes d
+  each (body.Removal a) h = removes a
   each body.Unread h = unread
 
 pub no-fresh-taken : (b : Body) → NoFresh b → Taken b
-no-fresh-taken = each Taken (λ r. tt) tt (λ id. tt) (λ d. tt) tt
+no-fresh-taken = each Taken (λ r. tt) tt (λ id. tt) (λ d. tt) (λ a. tt) tt
 
 -- ---- "Returned is the number alone; ledger and output stay as they were."
 pub refused-leaves : (ws out : List ℕ) (n : ℕ) → Leaves (record { ledger = ledgerOf ws; answer = Refused n }) [] ws out ws out (Refused n)
@@ -83,15 +89,15 @@ refused-leaves ws out n = record { answer = refl; words = refl; ledger = refl; b
 
 -- ---- fresh
 module _ (ws : List ℕ) (s : Start) where
-  pub fresh-long : length ws ≡ 2436 → freshCalled (ledgerOf ws) s ≡ freshIn ws s
+  pub fresh-long : length ws ≡ ledgerSize → freshCalled (ledgerOf ws) s ≡ freshIn ws s
   unfolding freshIn
   fresh-long e = rw e
 
-  pub fresh-short : (out : List ℕ) → (length ws ≡ 2436 → ⊥) → Leaves (freshIn ws s) [] ws out ws out (Refused 2)
+  pub fresh-short : (out : List ℕ) → (length ws ≡ ledgerSize → ⊥) → Leaves (freshIn ws s) [] ws out ws out (Refused 2)
   unfolding freshIn
-  fresh-short out e = rw (ne-eqb (length ws) 2436 e) (refused-leaves ws out 2)
+  fresh-short out e = rw (ne-eqb (length ws) ledgerSize e) (refused-leaves ws out 2)
 
-  pub fresh-leaves : length ws ≡ 2436 → (out ws₁ : List ℕ) (a : Answer) → ledgerOf ws₁ ≡ freshCalled (ledgerOf ws) s .ledger
+  pub fresh-leaves : length ws ≡ ledgerSize → (out ws₁ : List ℕ) (a : Answer) → ledgerOf ws₁ ≡ freshCalled (ledgerOf ws) s .ledger
       → a ≡ freshCalled (ledgerOf ws) s .answer
       → ws₁ ≡ wordsLeft ws (freshCalled (ledgerOf ws) s .ledger) (freshCalled (ledgerOf ws) s .answer)
       → Leaves (freshIn ws s) [] ws out ws₁ out a
@@ -111,10 +117,15 @@ module _ (room : ℕ) (ws out s : List ℕ) where
         bytes = put-nil out 0 ∙ ap (put out 0) (x .bytes);
       }
 
-  close-written : (c : Call) (ys ws₁ out₁ : List ℕ) (a : Answer) → [] ≡ ys → Leaves (called (ledgerOf ws) c) ys ws out ws₁ out₁ a
+  -- a close and a removal write nothing
+  quiet-written : (c : Call) (ys ws₁ out₁ : List ℕ) (a : Answer) → [] ≡ ys → Leaves (called (ledgerOf ws) c) ys ws out ws₁ out₁ a
       → Leaves (called (ledgerOf ws) c) [] ws out ws₁ out₁ a
-  close-written c ys ws₁ out₁ a e x =
+  quiet-written c ys ws₁ out₁ a e x =
       record { answer = x .answer; words = x .words; ledger = x .ledger; bytes = x .bytes ∙ ap (put out 0) (sym e) }
+
+  quiet-refused : (c : Call) → soundLedger (ledgerOf ws) ≡ false → Leaves (called (ledgerOf ws) c) [] ws out ws out (Refused 2)
+  quiet-refused c h =
+      quiet-written c _ ws out (Refused 2) (stopped (ledgerOf ws) c 2 (cause-unsound (ledgerOf ws) c h) .bytes) (stopped-leaves c h)
 
   -- words that hold no sound ledger
   pub unsound-leaves : (b : Body) → NoFresh b → soundLedger (ledgerOf ws) ≡ false
@@ -122,8 +133,7 @@ module _ (room : ℕ) (ws out s : List ℕ) where
   unsound-leaves b n h =
       each (λ (x : Body). Leaves (entryIn room ws x s) (entryWritten room (ledgerOf ws) x s) ws out ws out (Refused 2))
       (λ r. stopped-leaves (request r room) h) (stopped-leaves (file s room) h) (λ id. stopped-leaves (cancel id room) h)
-      (λ d. close-written (close d) _ ws out (Refused 2) (stopped (ledgerOf ws) (close d) 2 (cause-unsound (ledgerOf ws) (close d) h) .bytes)
-      (stopped-leaves (close d) h))
+      (λ d. quiet-refused (close d) h) (λ a. quiet-refused (removal a) h)
       (refused-leaves ws out 2) b n
 
   -- a call that is refused leaves the ledger
@@ -138,10 +148,10 @@ module _ (room : ℕ) (ws out s : List ℕ) where
   kept : (b : Body) → NoFresh b → (n : ℕ) → entryCalled room (ledgerOf ws) b s .answer ≡ Refused n → entryCalled room (ledgerOf ws) b s .ledger ≡ ledgerOf ws
   kept =
       each (λ (b : Body). (n : ℕ) → entryCalled room (ledgerOf ws) b s .answer ≡ Refused n → entryCalled room (ledgerOf ws) b s .ledger ≡ ledgerOf ws)
-      (λ r. call-kept (request r room)) (call-kept (file s room)) (λ id. call-kept (cancel id room)) (λ d. call-kept (close d)) (λ n e. refl)
+      (λ r. call-kept (request r room)) (call-kept (file s room)) (λ id. call-kept (cancel id room)) (λ d. call-kept (close d)) (λ a. call-kept (removal a)) (λ n e. refl)
 
   entry-made : (b : Body) → NoFresh b → entryCalled room (ledgerOf ws) b s ≡ entryIn room ws b s
-  entry-made = each (λ (b : Body). entryCalled room (ledgerOf ws) b s ≡ entryIn room ws b s) (λ r. refl) refl (λ id. refl) (λ d. refl) refl
+  entry-made = each (λ (b : Body). entryCalled room (ledgerOf ws) b s ≡ entryIn room ws b s) (λ r. refl) refl (λ id. refl) (λ d. refl) (λ a. refl) refl
 
   -- the words of the ledger that it leaves, or those that were lent
   words-left : (ws₁ : List ℕ) (k : Called) → holdsLedger ws ≡ true → holdsLedger ws₁ ≡ true → ledgerOf ws₁ ≡ k .ledger

@@ -14,6 +14,7 @@ use Rattle.words.specs.Layout.{ledgerOf, ledgerSize}
 use Rattle.causes.specs.declared.Start.{Start}
 use Rattle.causes.specs.declared.Request.{Request}
 use Rattle.causes.specs.declared.CalendarRequest.{CalendarRequest}
+use Rattle.causes.specs.declared.AccountRemoval.{AccountRemoval}
 use Rattle.causes.specs.Causes.{codeField}
 use Rattle.calls.specs.declared.Called.{Called}
 use Rattle.calls.specs.declared.Answer.{Answer}
@@ -45,6 +46,9 @@ startOf today tracking confirmation = record { today = dateOf today; tracking = 
 
 abbrev pub identityFrom : ℕ → ℕ → Identity
 identityFrom account key = record { account = account; key = key }
+
+abbrev pub removalFrom : ℕ → ℕ → AccountRemoval
+removalFrom account date = record { account = account; date = dateOf date }
 
 abbrev pub requestOf : List ℕ → Identity → ℕ → ℕ → ℕ → ℕ → ℕ → Request
 requestOf code id product billing from consumption scheduled =
@@ -105,6 +109,7 @@ entryIn room ws (body.Request r) bytes = entryCalled room (ledgerOf ws) (body.Re
 entryIn room ws body.File bytes = entryCalled room (ledgerOf ws) body.File bytes
 entryIn room ws (body.Cancel id) bytes = entryCalled room (ledgerOf ws) (body.Cancel id) bytes
 entryIn room ws (body.Close d) bytes = entryCalled room (ledgerOf ws) (body.Close d) bytes
+entryIn room ws (body.Removal a) bytes = entryCalled room (ledgerOf ws) (body.Removal a) bytes
 entryIn room ws body.Unread bytes = entryCalled room (ledgerOf ws) body.Unread bytes
 
 -- what is answered, the words and the output after a call that by value gives c and writes ys

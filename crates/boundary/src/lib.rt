@@ -13,7 +13,7 @@ use engine::call;
 use entries::entry;
 use journal::Body;
 
-// Makes a call in the lent words: a fresh asks that they are 2,436, and any other that they are those of a sound ledger (2).
+// Makes a call in the lent words: a fresh asks that they are 2,564, and any other that they are those of a sound ledger (2).
 fn make(ledger: &mut [u64], out: &mut [u8], body: Body, s: &[u8]) -> Answer
     ensures { λ a. ⌜ Leaves (entryIn (length (now (out .entry))) (now (ledger .entry)) body (now (s .entry))) (entryWritten (length (now (out .entry))) (ledgerOf (now (ledger .entry))) body (now (s .entry))) (now (ledger .entry)) (now (out .entry)) (now (ledger .exit)) (now (out .exit)) a ⌝ }
 {

@@ -18,7 +18,10 @@ use Rattle.causes.proofs.Request.Laws as Q′
 use Rattle.causes.specs.declared.CalendarRequest.{CalendarRequest}
 use Rattle.causes.proofs.CalendarRequest as C
 use Rattle.causes.proofs.CalendarRequest.Laws as C′
-use Rattle.causes.specs.Causes.{Call, close, calendar}
+use Rattle.causes.specs.declared.AccountRemoval.{AccountRemoval}
+use Rattle.causes.proofs.AccountRemoval as R
+use Rattle.causes.proofs.AccountRemoval.Laws as R′
+use Rattle.causes.specs.Causes.{Call, close, removal, calendar}
 use Rattle.calls.specs.declared.Called.{Called}
 use Rattle.calls.specs.Machine.{stepIn, called}
 use Rattle.lookups.specs.declared.Amounts.{Amounts}
@@ -44,15 +47,21 @@ undated = declared C.the-type C′.the-laws C′.the-plain C′.the-copy
 abbrev pub identity : Arg I.the-row
 identity = declared I.the-type I′.the-laws I′.the-plain I′.the-copy
 
+abbrev pub account-removal : Arg R.the-row
+account-removal = declared R.the-type R′.the-laws R′.the-plain R′.the-copy
+
 abbrev pub amounts : Arg A.the-row
 amounts = enumerated A.the-type A′.the-laws tt A′.the-plain A′.the-copy
 
 abbrev pub place : Arg P.the-row
 place = enumerated P.the-type P′.the-laws tt P′.the-plain P′.the-copy
 
--- a close, and the amounts of a bill
+-- a close, a removal, and the amounts of a bill
 abbrev pub closed : Ledger → Date → Called
 closed l d = called l (close d)
+
+abbrev pub removed : Ledger → AccountRemoval → Called
+removed l a = called l (removal a)
 
 abbrev pub Found : Ledger → Identity → Amounts → Type 0
 Found l id r = r ≡ amountsIn l id

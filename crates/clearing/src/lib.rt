@@ -1,12 +1,13 @@
 // The calls on a ledger that is lent: each makes the call by value and stores the ledger that it left.
 ghost use mathlib.Core.Path.{_≡_};
 ghost use lib.ListN.{length};
-ghost use Rattle.causes.specs.Causes.{request, calendar, file, cancel, close};
+ghost use Rattle.causes.specs.Causes.{request, calendar, file, cancel, close, removal};
 ghost use Rattle.calls.specs.Machine.{called};
 ghost use Rattle.calls.specs.Days.{freshCalled};
 ghost use Rattle.clearing.specs.LentLeaves.{LentLeaves};
 ghost use Rattle.lookups.specs.Lookups.{OpenBill, amountsIn};
 use calls::Answer;
+use causes::AccountRemoval;
 use causes::CalendarRequest;
 use causes::Request;
 use causes::Start;
@@ -30,6 +31,15 @@ pub fn close_day(ledger: &mut Ledger, d: Date) -> Answer
     ensures { λ a. ⌜ (now (ledger .exit) ≡ called (now (ledger .entry)) (close d) .ledger) × (a ≡ called (now (ledger .entry)) (close d) .answer) ⌝ }
 {
     let c = calls::days::close_day(*ledger, d);
+    *ledger = c.ledger;
+    c.answer
+}
+
+// The call removal: sets the removal date on all bills of an account.
+pub fn remove_account(ledger: &mut Ledger, a: AccountRemoval) -> Answer
+    ensures { λ r. ⌜ (now (ledger .exit) ≡ called (now (ledger .entry)) (removal a) .ledger) × (r ≡ called (now (ledger .entry)) (removal a) .answer) ⌝ }
+{
+    let c = calls::removals::remove_account(*ledger, a);
     *ledger = c.ledger;
     c.answer
 }

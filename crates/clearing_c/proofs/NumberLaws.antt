@@ -22,7 +22,7 @@ use Rattle.calls.specs.declared.Answer.the-variants.{Refused}
 use Rattle.causes.specs.declared.Request.{Request}
 use Rattle.causes.specs.declared.CalendarRequest.{CalendarRequest}
 use Rattle.calendar.specs.BusinessDays.{furtherCauses}
-use Rattle.causes.specs.Causes.{Call, request, calendar, file, cancel, close, billCauses, requestCauses, scheduleCauses, calendarCauses, fileCauses, cancelCauses, closeCauses, causes}
+use Rattle.causes.specs.Causes.{Call, request, calendar, file, cancel, close, removal, billCauses, requestCauses, scheduleCauses, calendarCauses, fileCauses, cancelCauses, closeCauses, removalCauses, causes}
 use Rattle.calls.specs.Machine.{causeIn, stepIn, answerBy, called}
 use Rattle.calls.proofs.CallLaws.{cause-sound, cause-unsound}
 
@@ -51,12 +51,13 @@ calendar-range q hs room v (Bill t) = refl
 calendar-range q hs room v Nothing = refl
 
 causes-range : (v : View) (c : Call) → every inRange (causes v c) ≡ true
-unfolding causes fileCauses cancelCauses closeCauses
+unfolding causes fileCauses cancelCauses closeCauses removalCauses
 causes-range v (request r room) = bill-range r room v (soughtIn (r .identity) (v .bills))
 causes-range v (calendar q hs room) = calendar-range q hs room v (soughtIn (q .request .identity) (v .bills))
 causes-range v (file s room) = refl
 causes-range v (cancel id room) = refl
 causes-range v (close d) = refl
+causes-range v (removal a) = refl
 
 pub numbered : (l : Ledger) (c : Call) (n : ℕ) → called l c .answer ≡ Refused n → (1 ≤ n) × (n ≤ 15)
 unfolding called answerBy

@@ -28,7 +28,7 @@ pub record Held : Type 0 where
   pub output : List ℕ
 
 -- the call c on the words ws left the words ws₁ and these, as the contract of its function says; `change`, `counts` and the output held anything before
--- (for a close, which is lent no output, take an empty one)
+-- (for a close or a removal, which is lent no output, take an empty one)
 pub record MadeBy (ws : List ℕ) (c : Call) (a : Held) (ws₁ : List ℕ) : Type 0 where
   pub change : ℤ
   pub counts : List ℕ
@@ -80,7 +80,7 @@ pub record ClaimsInWords (s : Start) (ws₁ : List ℕ) (cs : List Call) (hs : L
   pub written : map bytesWritten hs ≡ map (λ (o : Outcome). o .written) (outcomes (book (ledgerOf ws₁)) cs)
   pub once : NoneTwice (assignedOf hs)
 
--- after a fresh that succeeded on any 2,436 words and any list of calls
+-- after a fresh that succeeded on any 2,564 words and any list of calls
 abbrev pub SumInWords : Type 0
 SumInWords =
     (ws ws₁ ws₂ : List ℕ) (s : Start) (cs : List Call) (hs : List Held) → length ws ≡ ledgerSize → first (freshCauses s) ≡ Clear

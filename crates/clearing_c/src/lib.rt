@@ -1,4 +1,4 @@
-// The calls for C and Rust programs: numbers and lent slices only, the ledger lent as 2,436 words (crate words). include/clearing.h is the
+// The calls for C and Rust programs: numbers and lent slices only, the ledger lent as 2,564 words (crate words). include/clearing.h is the
 // header. Each answers 0 if it was carried out, else the number of its cause, and then every lent buffer holds what it held (but for what
 // clearing_entry found of the entry).
 pub mod days;
@@ -8,12 +8,13 @@ ghost use mathlib.Core.Path.{_≡_};
 ghost use lib.ListN.{length};
 ghost use Rattle.fields.specs.Put.{put};
 ghost use Rattle.words.specs.Layout.{ledgerOf};
-ghost use Rattle.causes.specs.Causes.{request, calendar, file, cancel, close};
+ghost use Rattle.causes.specs.Causes.{request, calendar, file, cancel, close, removal};
 ghost use Rattle.calls.specs.Machine.{stepIn, called};
 ghost use Rattle.lookups.specs.Lookups.{amountsIn};
 ghost use Rattle.journal.specs.Entries.{headOf};
-ghost use Rattle.boundary.specs.Boundary.{startOf, identityFrom, requestOf, calendarOf, freshIn, Gives, headCalled, headWritten, headFound, Opens, amountsNumber, amountsLeft, Prints};
+ghost use Rattle.boundary.specs.Boundary.{startOf, identityFrom, removalFrom, requestOf, calendarOf, freshIn, Gives, headCalled, headWritten, headFound, Opens, amountsNumber, amountsLeft, Prints};
 ghost use Rattle.units.specs.Calendar.{dateOf};
+use causes::AccountRemoval;
 use causes::CalendarRequest;
 use causes::Request;
 use causes::Start;
@@ -66,6 +67,25 @@ pub extern "C" fn clearing_close(
         Body::Close(Date(today)),
         b"",
     )
+}
+
+// Removal: the removal date of all bills of an account.
+#[no_mangle]
+pub extern "C" fn clearing_removal(
+    ledger: &mut [u64],
+    account: u64,
+    date: u64,
+    change: &mut i64,
+    counts: &mut [u64; 4],
+) -> u64
+    ensures { λ n. ⌜ Gives (called (ledgerOf (now (ledger .entry))) (removal (removalFrom account date))) (now (ledger .entry)) (now (change .entry)) (now (counts .entry)) (now (ledger .exit)) (now (change .exit)) (now (counts .exit)) n ⌝ }
+{
+    let a = AccountRemoval {
+        account,
+        date: Date(date),
+    };
+    let mut none = [0];
+    boundary::call(ledger, &mut none, change, counts, Body::Removal(a), b"")
 }
 
 // What a request takes, from numbers.
