@@ -4,3 +4,6 @@ pub mod NoticeCalls
 pub mod NoticeIds
 pub mod DemandsHold
 pub mod PapersHold
+pub mod Anniversary
+pub mod SupDates
+pub mod PaperTwo

@@ -21,7 +21,7 @@ use Rattle.verdict.specs.declared.Verdict.{Verdict}
 use Rattle.verdict.specs.declared.Verdict.the-variants.{Accepted, Rejected}
 use Rattle.verdict.specs.Lines.{termsOf}
 use Rattle.group.specs.Groups.{sought, settled, answer, verdictHere, answers}
-use Rattle.causes.specs.Causes.{Call, request, calendar, file, cancel, close}
+use Rattle.causes.specs.Causes.{Call, request, calendar, file, cancel, close, removal}
 use Rattle.calls.specs.Machine.{cause, nextWritten, outcome, step, outcomes}
 use Rattle.history.specs.Written.{keep, assigns, assignedIn}
 use Rattle.history.specs.Claim.{All, assigned, NoneTwice}
@@ -100,6 +100,7 @@ next-records l (calendar q hs room) = (2, length-bil _)
 next-records l (file s room) = answers-records [] (fileGroups s) l (formed-file s)
 next-records l (cancel id room) = (2, length-cxl _)
 next-records l (close d) = (0, refl)
+next-records l (removal a) = (0, refl)
 
 step-records : (l : Book) (c : Call) → Records (step l c .written)
 unfolding step outcome

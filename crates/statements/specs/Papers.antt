@@ -1,20 +1,42 @@
--- What document 02 claims beside the demands, paper by paper, each with its words. Every field is a theorem: `paper-1` (proofs/PapersHold) fills
--- them in. Assumes nothing.
-use Prim.Native.Nat.{ℕ, _≤_, _<_}
+-- What document 02 claims beside the demands, paper by paper, each with its words. Every field is a theorem: `paper-1` and `paper-2` (proofs/PapersHold,
+-- proofs/PaperTwo) fill them in. Assumes nothing.
+use Prim.Native.Nat.{ℕ, _≤_, _<_, _+_, _%_}
 use mathlib.Core.Path.{_≡_}
-use mathlib.Core.Bool.{true, false}
-use mathlib.Core.List.{List}
+use mathlib.Core.Bool.{true, false, cond}
+use mathlib.Core.List.{List, []}
+use lib.Dec.{eqb}
+use lib.ListN.{length, getD}
 use Rattle.rules.specs.declared.Found.the-variants.{At}
-use Rattle.rules.specs.declared.Check.the-variants.{Clear}
+use Rattle.rules.specs.declared.Check.the-variants.{Clear, Stop}
 use Rattle.rules.specs.Rules.{first}
-use Rattle.units.specs.Calendar.{isDate}
+use Rattle.rules.specs.Lists.{has}
+use Rattle.units.specs.Calendar.{isDate, year, month, day}
+use Rattle.units.specs.declared.Date.{Date}
+use Rattle.units.specs.Days.{dayNumber, yearOn}
 use Rattle.calendar.specs.BusinessDays.{isFurther, businessDay, nextBusinessDay}
 use Rattle.calendar.specs.Example.{ExampleDays}
 use Rattle.ledger.specs.declared.Ledger.{Ledger}
+use Rattle.ledger.specs.declared.Identity.{Identity}
+use Rattle.ledger.specs.declared.RateCode.{RateCode}
+use Rattle.ledger.specs.declared.Product.{Product}
+use Rattle.ledger.specs.declared.Latest.{Latest}
+use Rattle.ledger.specs.declared.Removal.the-variants.{Never, On}
+use Rattle.ledger.specs.declared.Terms.{Terms}
+use Rattle.ledger.specs.Bills.{isOpen, blankBill, firstBill, removedBill}
+use Rattle.ledger.specs.Books.{live, ofAccount}
+use Rattle.ledger.specs.Sound.{soundLedger}
+use Rattle.ledger.specs.Limits.{ledgerPlaces}
+use Rattle.verdict.specs.declared.Notification.the-variants.{Response, Supplement}
+use Rattle.verdict.specs.Lines.{removalDays, line6}
 use Rattle.causes.specs.declared.CalendarRequest.{CalendarRequest}
-use Rattle.causes.specs.Causes.{Call, request, calendar, workedOut, scheduleCauses}
+use Rattle.causes.specs.Causes.{Call, request, calendar, workedOut, scheduleCauses, removal, removalCauses}
 use Rattle.calls.specs.declared.Answer.the-variants as answer
-use Rattle.calls.specs.Machine.{stepIn, called}
+use Rattle.causes.specs.declared.AccountRemoval.{AccountRemoval}
+use Rattle.calls.specs.Machine.{stepIn, called, causeIn}
+use Rattle.calls.specs.Days.{quietAnswer}
+use Rattle.history.specs.Claim.{All}
+use Rattle.history.specs.Cases.{Holds}
+use Rattle.history.specs.RemovalCases.{removalTable}
 
 -- two calls that leave, answer and write the same on l
 pub record SameCall (l : Ledger) (c d : Call) : Type 0 where
@@ -36,3 +58,57 @@ pub record Paper1 : Type 0 where
   pub due : (l : Ledger) (q : CalendarRequest) (hs : List ℕ) (room : ℕ) → called l (calendar q hs room) .answer ≡ answer.Refused 9 → ⊥
   -- the examples: three business days on, as document 002 has it ("the following third business day"); holidays between; the last date
   pub days : ExampleDays
+
+-- ---- Paper 2. Twelve months and sixty days
+-- e is the same day one year past d: "29 February goes to 28"
+pub record OneYearOn (d e : ℕ) : Type 0 where
+  pub date : isDate e ≡ true
+  pub year : year e ≡ year d + 1
+  pub month : month e ≡ month d
+  pub day : day e ≡ cond (eqb (d % 10000) 229) 28 (day d)
+
+-- a removal of the account a, carried out on l
+pub record RemovalMade (l : Ledger) (a : AccountRemoval) : Type 0 where
+  -- "sets it on all bills of an account, replacing any earlier one": each bill stands where it stood, and one of another account is as it was
+  pub sets : (i : ℕ) → i < l .count → ofAccount (a .account) (getD (l .bills) i blankBill) ≡ true
+      → getD (called l (removal a) .ledger .bills) i blankBill ≡ removedBill (a .date) (getD (l .bills) i blankBill)
+  pub others : (i : ℕ) → i < l .count → ofAccount (a .account) (getD (l .bills) i blankBill) ≡ false
+      → getD (called l (removal a) .ledger .bills) i blankBill ≡ getD (l .bills) i blankBill
+  pub count : called l (removal a) .ledger .count ≡ l .count
+  -- the change is 0, nothing is written, and today and the next numbers stay
+  pub quiet : called l (removal a) .answer ≡ quietAnswer 0
+  pub written : stepIn l (removal a) .written ≡ []
+  pub today : called l (removal a) .ledger .today ≡ l .today
+  pub tracking : called l (removal a) .ledger .«next_tracking» ≡ l .«next_tracking»
+  pub confirmation : called l (removal a) .ledger .«next_confirmation» ≡ l .«next_confirmation»
+
+-- what line 6 says of a SUP, and of an RSP, for a bill with these terms: h is the group's header and d its detail
+pub record SupDates (today : Date) (h d : List ℕ) (t : Terms) : Type 0 where
+  -- "A SUP gets BR12 if today is after the same day one year past the Billing Date": BR09 and BR11 stand before it
+  pub year : t .cancelled ≡ false → isOpen today t ≡ false → yearOn (t .latest .billing .0) < today .0 → first (line6 Supplement today h d t) ≡ Stop 12
+  -- "the anniversary still pass[es]"
+  pub inYear : today .0 ≤ yearOn (t .latest .billing .0) → first (line6 Supplement today h d t) ≡ Stop 12 → ⊥
+  -- "It gets BR13 if today is more than 60 days past the removal date", after BR12 and before BR05
+  pub removed : (r : Date) → t .removal ≡ On r → t .cancelled ≡ false → isOpen today t ≡ false → today .0 ≤ yearOn (t .latest .billing .0)
+      → dayNumber (r .0) + removalDays < dayNumber (today .0) → first (line6 Supplement today h d t) ≡ Stop 13
+  -- "Day 60 .. still pass[es]", an empty removal date always, and so does one in the future
+  pub inDays : (r : Date) → t .removal ≡ On r → dayNumber (today .0) ≤ dayNumber (r .0) + removalDays → first (line6 Supplement today h d t) ≡ Stop 13 → ⊥
+  pub never : t .removal ≡ Never → first (line6 Supplement today h d t) ≡ Stop 13 → ⊥
+  pub future : (r : Date) → t .removal ≡ On r → isDate (today .0) ≡ true → isDate (r .0) ≡ true → today .0 ≤ r .0
+      → first (line6 Supplement today h d t) ≡ Stop 13 → ⊥
+  -- an RSP gets neither
+  pub response : (n : ℕ) → first (line6 Response today h d t) ≡ Stop n → (n ≡ 12 → ⊥) × (n ≡ 13 → ⊥)
+
+pub record Paper2 : Type 0 where
+  -- "A bill record gains a removal date, empty until a removal call sets it"
+  pub empty : (id : Identity) (code : RateCode) (p : Product) (latest : Latest) → firstBill id code p latest .terms .removal ≡ Never
+  pub made : (l : Ledger) (a : AccountRemoval) → length (l .bills) ≡ ledgerPlaces → causeIn l (removal a) ≡ Clear → RemovalMade l a
+  -- "The call gives 2, or 4 for an account without bills."
+  pub refused : (l : Ledger) (a : AccountRemoval) → soundLedger l ≡ true
+      → causeIn l (removal a) ≡ first (removalCauses a (has (ofAccount (a .account)) (live l)))
+  pub dates : (today : Date) (h d : List ℕ) (t : Terms) → SupDates today h d t
+  -- "the same day one year past .. (29 February goes to 28)": a date, up to 2998; past that no date of ours is after it
+  pub oneYearOn : (d : ℕ) → isDate d ≡ true → year d ≤ 2998 → OneYearOn d (yearOn d)
+  pub last : (d e : ℕ) → isDate d ≡ true → year d ≡ 2999 → isDate e ≡ true → e ≤ yearOn d
+  -- the borders, call by call
+  pub cases : All Holds removalTable
