@@ -95,18 +95,22 @@ abbrev pub sup : Sent
 sup = record { sup = true; tracking = 0; sequence = 0; first = 60; second = 25; charge = 4250; applied = 0; owed = 0 }
 
 -- ---- the calls
--- a request of 85 Ccf, due 20171116
-abbrev pub asking : Identity → Product → Request
-asking id p =
+-- a request of so many Ccf, with these Billing and Scheduled Dates
+abbrev pub askingOn : ℕ → ℕ → ℕ → Identity → Product → Request
+askingOn consumption billing scheduled id p =
     record {
       code = record { first = 90; second = 90; third = 67; tens = 52; ones = 48 };
       identity = id;
       product = productByte p;
-      billing = dateOf 20171113;
+      billing = dateOf billing;
       from = dateOf 20171013;
-      consumption = record { 0 = 85 };
-      scheduled = dateOf 20171116;
+      consumption = record { 0 = consumption };
+      scheduled = dateOf scheduled;
     }
+
+-- one of 85 Ccf, due 20171116
+abbrev asking : Identity → Product → Request
+asking id p = askingOn 85 20171113 20171116 id p
 
 -- the table's bill, and other bills
 abbrev pub bill : Identity

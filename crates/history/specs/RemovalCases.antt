@@ -5,29 +5,18 @@ use mathlib.Core.List.{List, [], _∷_}
 use lib.IntN.{pos}
 use Rattle.units.specs.Calendar.{dateOf}
 use Rattle.ledger.specs.declared.Product.the-variants as product
-use Rattle.ledger.specs.Bills.{productByte}
 use Rattle.ledger.specs.Books.{Book}
 use Rattle.rules.specs.declared.Check.the-variants.{Clear, Stop}
 use Rattle.verdict.specs.declared.Verdict.the-variants.{Rejected}
 use Rattle.causes.specs.Causes.{Call, request, cancel, close, removal}
 use Rattle.calls.specs.Machine.{fresh}
-use Rattle.history.specs.Cases.{Sent, sup, bill, send, start, row, ready, Row}
+use Rattle.history.specs.Cases.{Sent, sup, askingOn, bill, send, start, row, ready, Row}
 
 -- ---- the calls
 -- a request for the bill with this Bill Key, of so many Ccf, billed and due on these dates
 abbrev ask : ℕ → ℕ → ℕ → ℕ → Call
 ask key consumption billing scheduled =
-    request
-    (record {
-      code = record { first = 90; second = 90; third = 67; tens = 52; ones = 48 };
-      identity = record { account = 123456780019; key = key };
-      product = productByte product.BillReady;
-      billing = dateOf billing;
-      from = dateOf 20160115;
-      consumption = record { 0 = consumption };
-      scheduled = dateOf scheduled;
-    })
-    642
+    request (askingOn consumption billing scheduled (record { account = 123456780019; key = key }) product.BillReady) 642
 
 -- the bill of the groups sent, billed on 20171113 and due on 20171116
 abbrev asked : Call
