@@ -26,6 +26,16 @@ impl Date {
         self.0
     }
 
+    /// The same day one year later, 28 February for the 29th; None after 2999.
+    pub fn anniversary(self) -> Option<Date> {
+        Date::of(self.0 + 10_000).or_else(|| Date::of(self.0 + 9_999))
+    }
+
+    /// So many days later; None after 29991231.
+    pub fn later(self, days: usize) -> Option<Date> {
+        (0..days).try_fold(self, |date, _| date.next())
+    }
+
     /// The day after; None after 29991231.
     pub fn next(self) -> Option<Date> {
         let (year, month, day) = (self.0 / 10_000, self.0 / 100 % 100, self.0 % 100);

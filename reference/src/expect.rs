@@ -67,6 +67,7 @@ fn both(ledger: &mut Ledger, history: &mut History, entry: Entry, out: &mut [u8]
         Entry::File(file) => Call::File(file),
         Entry::Cancel(body) => Call::Cancel(body),
         Entry::Close(body) => Call::Close(body),
+        Entry::Removal(body) => Call::Removal(body),
         Entry::Fresh(_) => return Err("a second fresh".into()),
     };
     let past = history.call(call, FILE_LIMIT);

@@ -35,16 +35,24 @@ pub struct Cents(pub u64);
 #[derive(Clone, Copy, Debug, PartialEq, Eq)]
 pub struct Ccf(pub u64);
 
+/// A Customer Account Number, 12 digits.
+pub fn account(field: &[u8]) -> Option<u64> {
+    if field.len() != 12 {
+        return None;
+    }
+    digits(field)
+}
+
 /// Customer Account Number (12 digits) and Bill Key (4), side by side as one number of 16 digits.
 #[derive(Clone, Copy, Debug, PartialEq, Eq, PartialOrd, Ord)]
 pub struct Identity(u64);
 
 impl Identity {
     pub fn read(account: &[u8], key: &[u8]) -> Option<Identity> {
-        if account.len() != 12 || key.len() != 4 {
+        if key.len() != 4 {
             return None;
         }
-        Some(Identity(digits(account)? * 10_000 + digits(key)?))
+        Some(Identity(self::account(account)? * 10_000 + digits(key)?))
     }
 
     pub fn account(self) -> u64 {

@@ -16,6 +16,7 @@ pub const REQUEST: u8 = 1;
 pub const FILE: u8 = 2;
 pub const CANCEL: u8 = 3;
 pub const CLOSE: u8 = 4;
+pub const REMOVAL: u8 = 5;
 
 /// An entry that is not bad; the body of each has its right length.
 #[derive(Clone, Copy, Debug)]
@@ -27,6 +28,8 @@ pub enum Entry<'a> {
     /// account 12, key 4
     Cancel(&'a [u8; 16]),
     Close(&'a [u8; 8]),
+    /// account 12, date 8
+    Removal(&'a [u8; 20]),
 }
 
 /// What stands next in a journal.
@@ -107,6 +110,7 @@ fn length_is_right(tag: u8, length: usize) -> bool {
         FILE => length <= FILE_LIMIT,
         CANCEL => length == 16,
         CLOSE => length == 8,
+        REMOVAL => length == 20,
         _ => false,
     }
 }
@@ -118,6 +122,7 @@ fn entry(tag: u8, body: &[u8]) -> Option<Entry<'_>> {
         FILE => Some(Entry::File(body)),
         CANCEL => body.try_into().ok().map(Entry::Cancel),
         CLOSE => body.try_into().ok().map(Entry::Close),
+        REMOVAL => body.try_into().ok().map(Entry::Removal),
         _ => None,
     }
 }
@@ -164,6 +169,7 @@ pub fn carry_out(ledger: &mut Ledger, entry: Entry, out: Option<&mut [u8]>) -> R
         Entry::File(body) => Ok(ledger.file(body, out)?.into()),
         Entry::Cancel(body) => Ok(ledger.cancel(&body[..12], &body[12..], out)?.into()),
         Entry::Close(body) => Ok(Effect { closed: ledger.close(body)?, ..Effect::default() }),
+        Entry::Removal(body) => ledger.removal(&body[..12], &body[12..]).map(|()| Effect::default()),
     }
 }
 
@@ -204,7 +210,7 @@ pub fn longest_notices(journal: &[u8]) -> usize {
         longest += match entry {
             Entry::Request(_) | Entry::Cancel(_) => NOTICE_LENGTH,
             Entry::File(file) => file.len(),
-            Entry::Fresh(_) | Entry::Close(_) => 0,
+            Entry::Fresh(_) | Entry::Close(_) | Entry::Removal(_) => 0,
         };
         (seen, at) = (seen + 1, at + length);
     }

@@ -1,12 +1,12 @@
-//! The ledger and its calls: fresh, request (also by calendar), file, cancel, close and the two lookups.
+//! The ledger and its calls: fresh, request (also by calendar), file, cancel, close, removal and the two lookups.
 //!
-//! Each call tries its causes in document 01's order and changes the ledger only when none is true. `out` is the
+//! Each call tries its causes in the documents' order and changes the ledger only when none is true. `out` is the
 //! output lent to the call; None stands for the journal's 64,200 bytes that are dropped unread, so nothing is built.
 
 use crate::calendar::business_day;
 use crate::cause::Cause;
 use crate::dates::Date;
-use crate::fields::{digits, Ccf, Cents, Identity, Product, RateCode};
+use crate::fields::{self, digits, Ccf, Cents, Identity, Product, RateCode};
 use crate::file::{self, Group, FILE_LIMIT, RECORD_LENGTH};
 use crate::notices::{self, Stamp, NOTICE_LENGTH};
 use crate::request::{CalendarRequest, Request};
@@ -57,6 +57,8 @@ pub struct Bill {
     pub billing_date: Date,
     pub from_date: Date,
     pub scheduled_date: Date,
+    /// Set by a removal only, whatever requests come later; empty before the first.
+    pub removal_date: Option<Date>,
 }
 
 /// What a request or a cancel returns: the signed change in cents, and the bytes written.
@@ -213,9 +215,19 @@ impl Ledger {
         Ok(self.bills.iter().filter(|bill| bill.is_open(old) && !bill.is_open(new)).count())
     }
 
+    /// Removal: sets the removal date of all bills of an account, cancelled and issued ones too. Its change is 0.
+    pub fn removal(&mut self, account: &[u8], date: &[u8]) -> Result<(), Cause> {
+        let account = fields::account(account).ok_or(Cause::BadField)?;
+        let date = Date::read(date).ok_or(Cause::BadField)?;
+        let mut bills = self.bills.iter_mut().filter(|bill| bill.identity.account() == account).peekable();
+        bills.peek().ok_or(Cause::NoSuchBill)?;
+        bills.for_each(|bill| bill.removal_date = Some(date));
+        Ok(())
+    }
+
     /// Lookup: the place of an open bill of an account; the first one, where there are several.
     pub fn open_bill(&self, account: &[u8]) -> Result<usize, Cause> {
-        let account = Identity::read(account, b"0000").ok_or(Cause::BadField)?.account();
+        let account = fields::account(account).ok_or(Cause::BadField)?;
         let wanted = |bill: &Bill| bill.identity.account() == account && self.is_open(bill);
         self.bills.iter().position(wanted).ok_or(Cause::NoSuchBill)
     }
@@ -314,6 +326,7 @@ impl Bill {
             billing_date: request.billing_date,
             from_date: request.from_date,
             scheduled_date: request.scheduled_date,
+            removal_date: None,
         }
     }
 
@@ -332,7 +345,7 @@ impl Bill {
         }
     }
 
-    /// Takes the new values; posted amounts stay. Hands back the former consumption.
+    /// Takes the new values; posted amounts and removal date stay. Hands back the former consumption.
     fn renew(&mut self, request: &Request, tracking: u32) -> Ccf {
         self.sequence += 1;
         self.requests += 1;

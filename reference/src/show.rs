@@ -44,6 +44,7 @@ fn describe(entry: Entry) -> String {
         Entry::Request(body) => ("request", body),
         Entry::Cancel(body) => ("cancel", body),
         Entry::Close(body) => ("close", body),
+        Entry::Removal(body) => ("removal", body),
         Entry::File(file) => return format!("file of {} bytes", file.len()),
     };
     format!("{name} {}", body.escape_ascii())

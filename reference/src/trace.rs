@@ -74,6 +74,7 @@ fn name(entry: Entry) -> &'static str {
         Entry::File(_) => "file",
         Entry::Cancel(_) => "cancel",
         Entry::Close(_) => "close",
+        Entry::Removal(_) => "removal",
     }
 }
 

@@ -1,14 +1,18 @@
 //! The verdict on a group: lines 1 to 10, the first true condition gives the code.
 
+use crate::dates::Date;
 use crate::fields::{digits, Ccf, Cents, Identity, Product};
 use crate::file::{at, Group, Record};
 use crate::ledger::{Bill, Ledger, Posted};
 
-/// The error codes in use; BR02 to BR04, BR12, BR13, BR15 and BR18 are left out.
+/// A SUP passes up to so many days past the removal date.
+const REMOVAL_DAYS: usize = 60;
+
+/// The error codes in use; BR02 to BR04, BR15 and BR18 are left out.
 #[derive(Clone, Copy, Debug, PartialEq, Eq)]
 #[rustfmt::skip]
 pub enum Code {
-    BR01 = 1, BR05 = 5, BR06, BR07, BR08, BR09, BR10, BR11, BR14 = 14, BR16 = 16, BR17, BR19 = 19,
+    BR01 = 1, BR05 = 5, BR06, BR07, BR08, BR09, BR10, BR11, BR12, BR13, BR14, BR16 = 16, BR17, BR19 = 19,
     BR20, BR21, BR22, BR23, BR24, BR25, BR26,
 }
 
@@ -80,7 +84,7 @@ pub fn decide(ledger: &Ledger, group: &Group, claim: Claim, twins: &[Claim]) -> 
     }
     match claim.notification {
         Notification::Rsp => response_line(bill, ledger.is_open(bill), detail)?,
-        Notification::Sup => supplement_line(bill, ledger.is_open(bill), detail)?,
+        Notification::Sup => supplement_line(bill, ledger.today(), detail)?,
     }
     let posted = amounts(bill, header, detail)?;
     Ok(Accepted { place, notification: claim.notification, posted })
@@ -99,12 +103,18 @@ fn response_line(bill: &Bill, open: bool, detail: &Record) -> Result<(), Code> {
     }
 }
 
-/// Line 6 for SUP. Its Tracking ID is read by line 1 only.
-fn supplement_line(bill: &Bill, open: bool, detail: &Record) -> Result<(), Code> {
+/// Line 6 for SUP, with BR12 and BR13 of paper 2. Its Tracking ID is read by line 1 only.
+fn supplement_line(bill: &Bill, today: Date, detail: &Record) -> Result<(), Code> {
+    // A last day after 29991231 never comes.
+    let over = |last: Option<Date>| last.is_some_and(|last| today > last);
     if bill.cancelled {
         Err(Code::BR09)
-    } else if open {
+    } else if bill.is_open(today) {
         Err(Code::BR11)
+    } else if over(bill.billing_date.anniversary()) {
+        Err(Code::BR12)
+    } else if over(bill.removal_date.and_then(|removed| removed.later(REMOVAL_DAYS))) {
+        Err(Code::BR13)
     } else if at(detail, 54, 56) != b"000" || bill.sequence == 999 {
         Err(Code::BR05)
     } else {

@@ -10,15 +10,15 @@ pub const COUNT: usize = 3;
 
 /// What each word of a place holds; the rate code's C is not held.
 #[rustfmt::skip]
-pub const FIELDS: [&str; 19] = [
+pub const FIELDS: [&str; 20] = [
     "account", "key", "rate code, first", "rate code, second", "rate code, tens", "rate code, ones", "product",
     "sequence", "count of requests", "cancelled", "Tracking ID", "consumption", "Billing Date", "From Date",
-    "Scheduled Date", "kind of posted amounts", "charge", "applied", "owed",
+    "Scheduled Date", "kind of posted amounts", "charge", "applied", "owed", "removal date",
 ];
 pub const WORDS: usize = HEAD.len() + BILL_LIMIT * FIELDS.len();
 
 /// What fresh leaves in every place.
-pub const BLANK: [u64; FIELDS.len()] = [0, 0, 0, 0, 0, 0, b'B' as u64, 0, 0, 0, 0, 0, 0, 0, 0, 0, 0, 0, 0];
+pub const BLANK: [u64; FIELDS.len()] = [0, 0, 0, 0, 0, 0, b'B' as u64, 0, 0, 0, 0, 0, 0, 0, 0, 0, 0, 0, 0, 0];
 
 /// The first word of a place.
 pub fn place(place: usize) -> usize {
@@ -89,14 +89,15 @@ fn put_bill(bill: &Bill) -> [u64; FIELDS.len()] {
         charge,
         applied,
         owed,
+        bill.removal_date.map_or(0, |date| date.number().into()),
     ]
 }
 
 /// Asked of every place, also past the count.
 fn has_form(place: &[u64; FIELDS.len()]) -> bool {
     let amounts = match place[15] {
-        0 => place[16..] == [0, 0, 0],
-        1 => place[17..] == [0, 0],
+        0 => place[16..19] == [0, 0, 0],
+        1 => place[17..19] == [0, 0],
         2 => true,
         _ => false,
     };
@@ -123,7 +124,16 @@ fn read_bill(place: &[u64; FIELDS.len()]) -> Option<Bill> {
         billing_date: date(place[12])?,
         from_date: date(place[13])?,
         scheduled_date: date(place[14])?,
+        removal_date: removal_date(place[19])?,
     })
+}
+
+/// 0 stands for no removal date; None for a number that is no date.
+fn removal_date(number: u64) -> Option<Option<Date>> {
+    match number {
+        0 => Some(None),
+        _ => date(number).map(Some),
+    }
 }
 
 /// A number zero-filled to its field's width; one that is too wide becomes longer, and so no field.

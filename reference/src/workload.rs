@@ -6,7 +6,7 @@ use crate::dates::Date;
 use crate::fields::put_number;
 use crate::file::{number, text};
 use crate::groups::{self, Amounts, Sent};
-use crate::journal::{self, Entry, CANCEL, CLOSE, FILE, FRESH, REQUEST};
+use crate::journal::{self, Entry, CANCEL, CLOSE, FILE, FRESH, REMOVAL, REQUEST};
 use crate::ledger::{Bill, Ledger, BILL_LIMIT};
 use crate::prng::Prng;
 use crate::verdict::Notification;
@@ -93,6 +93,30 @@ impl<W: Write> Workload<W> {
         Ok(())
     }
 
+    /// Removals of one account after another, on any day of a year.
+    pub fn removals(&mut self, count: u64) -> io::Result<()> {
+        for turn in 0..count {
+            let date = 19000000 + 100 * self.rng.range(1, 12) as u32 + self.rng.range(1, 28) as u32;
+            self.removal(turn as usize % BILL_LIMIT, date)?;
+        }
+        Ok(())
+    }
+
+    /// SUPs that come too late, each for one of 128 issued bills: the first half gets BR13, the second BR12.
+    pub fn late_supplements(&mut self, files: u64) -> io::Result<()> {
+        for bill in 0..BILL_LIMIT {
+            self.request(bill, 85, 19000101)?;
+            self.removal(bill, 20171001)?;
+        }
+        for today in [20171201, 20181114] {
+            self.carry(CLOSE, &digits8(today))?;
+            for _ in 0..files / 2 {
+                self.supplement()?;
+            }
+        }
+        Ok(())
+    }
+
     /// Empty files up to so many entries in all: three bytes each.
     pub fn empty_files(&mut self, entries: u64) -> io::Result<()> {
         self.repeat(&groups::entry(FILE, &[]), entries)
@@ -172,11 +196,15 @@ impl<W: Write> Workload<W> {
     /// The bills are Bill Ready and Prepay in turn.
     fn request(&mut self, bill: usize, consumption: u64, due: u32) -> io::Result<()> {
         let mut body = *b"ZZC401234567800190007B2017111320171013000000008520171116";
-        put_number(&mut body[5..17], 123_456_780_000 + bill as u64);
+        put_number(&mut body[5..17], account(bill));
         body[21] = b"BP"[bill % 2];
         put_number(&mut body[38..48], consumption);
         put_number(&mut body[48..], due.into());
         self.carry(REQUEST, &body)
+    }
+
+    fn removal(&mut self, bill: usize, date: u32) -> io::Result<()> {
+        self.carry(REMOVAL, format!("{:012}{date:08}", account(bill)).as_bytes())
     }
 
     fn carry(&mut self, tag: u8, body: &[u8]) -> io::Result<()> {
@@ -184,6 +212,7 @@ impl<W: Write> Workload<W> {
             REQUEST => Entry::Request(body.try_into().expect("56 bytes")),
             CANCEL => Entry::Cancel(body.try_into().expect("16 bytes")),
             CLOSE => Entry::Close(body.try_into().expect("8 bytes")),
+            REMOVAL => Entry::Removal(body.try_into().expect("20 bytes")),
             _ => Entry::File(body),
         };
         let _ = journal::carry_out(&mut self.ledger, entry, None);
@@ -196,6 +225,10 @@ impl<W: Write> Workload<W> {
         self.out.write_all(&[tag, high, low])?;
         self.out.write_all(body)
     }
+}
+
+fn account(bill: usize) -> u64 {
+    123_456_780_000 + bill as u64
 }
 
 /// All of the charge in tier 1, none of it prepaid.

@@ -63,6 +63,7 @@ fn both(ledger: &mut Ledger, history: &mut History, entry: Entry) -> i64 {
         Entry::File(file) => Call::File(file),
         Entry::Cancel(body) => Call::Cancel(body),
         Entry::Close(body) => Call::Close(body),
+        Entry::Removal(body) => Call::Removal(body),
         Entry::Fresh(_) => unreachable!("the first entry only"),
     };
     let (result, past) = (carry_out(ledger, entry, None), history.call(call, 64_200));
@@ -89,7 +90,7 @@ fn by_calendar(ledger: &mut Ledger, history: &mut History, rng: &mut Prng, body:
 #[test]
 fn ledger_and_history() {
     let mut causes: BTreeMap<Option<u8>, u64> = BTreeMap::new();
-    for seed in 1..=2000 {
+    for seed in 1..=3000 {
         let (journal, mut rng) = (generator::make(seed), Prng::new(seed));
         let mut entries = Entries::new(&journal[..]);
         let Ok(Next::Entry(Entry::Fresh(body))) = entries.read_next() else { continue };

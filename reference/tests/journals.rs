@@ -5,7 +5,7 @@ use std::io::{self, Read};
 use reference::coverage::Coverage;
 use reference::expect::expect;
 use reference::groups::entry;
-use reference::journal::{self, Entry, Start, CLOSE, FILE, FRESH, REQUEST};
+use reference::journal::{self, Entry, Start, CLOSE, FILE, FRESH, REMOVAL, REQUEST};
 use reference::prng::Prng;
 use reference::sound::is_sound;
 use reference::{generator, table};
@@ -33,6 +33,7 @@ fn bad_first_entries() {
         entry(FRESH, b"20171113000000000000000001"),
         entry(REQUEST, BILL),
         entry(FILE, &[]),
+        entry(REMOVAL, b"12345678001920171120"),
         entry(48, FIRST),
         [long, vec![0]].concat(),
     ] {
@@ -52,6 +53,10 @@ fn bad_later_entries() {
         more[..10].to_vec(),
         entry(FRESH, FIRST),
         entry(5, b"20171120"),
+        entry(6, b"12345678001920171120"),
+        entry(REMOVAL, b"123456780019201711200"),
+        entry(REMOVAL, b"1234567800192017112"),
+        entry(b'5', b"12345678001920171120"),
         entry(255, b""),
         entry(b'4', b"20171120"),
         entry(CLOSE, b"201711200"),
@@ -65,9 +70,16 @@ fn bad_later_entries() {
         assert_eq!(printed(&journal), format!("{HEADING}{LINE}{NOTHING}"));
     }
     // Refused calls are passed over.
-    for refused in
-        [entry(FILE, &[b' '; 64_200]), entry(FILE, b"x"), entry(CLOSE, b"20171113"), entry(REQUEST, &[0; 56])]
-    {
+    for refused in [
+        entry(FILE, &[b' '; 64_200]),
+        entry(FILE, b"x"),
+        entry(CLOSE, b"20171113"),
+        entry(REQUEST, &[0; 56]),
+        entry(REMOVAL, b"12345678001X20171120"),
+        entry(REMOVAL, b"12345678001920171131"),
+        entry(REMOVAL, b"12345678001820171120"),
+        entry(REMOVAL, &[0; 20]),
+    ] {
         let journal = [&good[..], &refused, &more].concat();
         assert_eq!(printed(&journal), format!("{HEADING}{LINE}total,0000000000000000\n").replace(",O\n", ",I\n"));
     }

@@ -129,11 +129,23 @@ fn journal_lines() {
     let (journal, good) =
         make(&format!("{bill}begin\nrsp 123456780019 7 100 40 60 5\nend\nclose 20171120\nsup 123456780019 7 90\n"));
     assert!(good);
+    let removed = format!("{bill}close 20171117\nremoval 123456780019 20170901\nsup 123456780019 7 90\n");
+    let (late, good) = make(&removed);
+    let trace = run(env!("CARGO_BIN_EXE_trace-ref"), &[], &late).0;
+    assert!(good && trace.ends_with(b"group,000000002,123456780019,0007,SUP,BR13\n"));
     let table = String::from_utf8(run(env!("CARGO_BIN_EXE_posted-ref"), &[], &journal).0).unwrap();
     assert!(table.contains("0007,ZZC40,P,002,0000000085,0000000000090,0000000000000,0000000000090,I\n"));
-    for wrong in
-        ["rsp 1 1 1", "close", "request ZZC40", "begin", "end", "close 201711201", "rsp 123456780019 7 x", "file /none"]
-    {
+    for wrong in [
+        "rsp 1 1 1",
+        "close",
+        "removal 1",
+        "request ZZC40",
+        "begin",
+        "end",
+        "close 201711201",
+        "rsp 123456780019 7 x",
+        "file /none",
+    ] {
         assert!(!make(&format!("{bill}{wrong}\n")).1, "{wrong}");
     }
 }

@@ -4,7 +4,7 @@ mod common;
 
 use common::{both, detail, header, rsp, sup, two_bills, two_issued, ACCOUNT, BILL_READY, PREPAY};
 use reference::groups::{self, entry, Sent};
-use reference::journal::{CANCEL, CLOSE, FILE, FRESH, REQUEST};
+use reference::journal::{CANCEL, CLOSE, FILE, FRESH, REMOVAL, REQUEST};
 use reference::trace::trace;
 
 const FIRST: &[u8; 26] = b"20171113000000001000000001";
@@ -94,6 +94,9 @@ fn refused_calls() {
         (entry(CANCEL, &[account, unknown].concat()), "cancel", 4),
         (entry(CLOSE, b"20171131"), "close", 2),
         (entry(CLOSE, b"20171113"), "close", 10),
+        (entry(REMOVAL, b"12345678001X20171113"), "removal", 2),
+        (entry(REMOVAL, b"12345678001820170229"), "removal", 2),
+        (entry(REMOVAL, b"12345678001820171113"), "removal", 4),
     ];
     let entries: Vec<Vec<u8>> = calls.iter().map(|call| call.0.clone()).collect();
     let wanted: String = calls.iter().zip(4..).map(|(call, number)| plain(number, call.1, call.2)).collect();
@@ -178,6 +181,36 @@ fn both_outcomes_in_one_file() {
 }
 
 #[test]
+fn late_supplements() {
+    let issued = two_issued();
+    let mut prepay = sup(&issued, 1, 50);
+    prepay.details[0][79..87].copy_from_slice(b"        ");
+    let lines = after_two_bills(&[
+        entry(CLOSE, b"20181113"),
+        entry(REMOVAL, b"12345678001920180914"),
+        file(&[sup(&issued, 0, 300)]),
+        entry(REMOVAL, b"12345678001920180913"),
+        file(&[sup(&issued, 0, 200), prepay.clone()]),
+        entry(CLOSE, b"20181114"),
+        file(&[sup(&issued, 0, 200), prepay]),
+    ]);
+    let wanted = "\
+        0000000004,close,00,00000000000000000,000,000,002\n\
+        0000000005,removal,00,00000000000000000,000,000,000\n\
+        0000000006,file,00,00000000000000300,001,000,000\n\
+        group,000000003,123456780019,0007,SUP,ACF\n\
+        0000000007,removal,00,00000000000000000,000,000,000\n\
+        0000000008,file,00,00000000000000000,000,002,000\n\
+        group,000000004,123456780019,0007,SUP,BR13\n\
+        group,000000005,123456780019,0008,SUP,BR13\n\
+        0000000009,close,00,00000000000000000,000,000,000\n\
+        0000000010,file,00,00000000000000000,000,002,000\n\
+        group,000000006,123456780019,0007,SUP,BR12\n\
+        group,000000007,123456780019,0008,SUP,BR12\n";
+    assert_eq!(lines, wanted);
+}
+
+#[test]
 fn bad_starts() {
     let mut long = entry(FRESH, FIRST);
     long[2] = 27;
@@ -191,6 +224,8 @@ fn bad_starts() {
         entry(REQUEST, BILL_READY),
         entry(FILE, b""),
         entry(5, b""),
+        entry(6, b""),
+        entry(REMOVAL, b"12345678001920171113"),
         long,
     ] {
         assert_eq!(traced(&[journal.clone(), entry(CLOSE, b"20171120")]), "stopped,13\n", "{journal:?}");
@@ -207,6 +242,10 @@ fn bad_ends() {
         entry(CLOSE, b"20171120")[..10].to_vec(),
         entry(FRESH, FIRST),
         entry(5, b"20171120"),
+        entry(6, b"12345678001920171120"),
+        entry(REMOVAL, b"12345678001920171120")[..10].to_vec(),
+        entry(REMOVAL, b"123456780019201711200"),
+        entry(REMOVAL, b"1234567800192017112"),
         entry(b'4', b"20171120"),
         entry(CLOSE, b"201711200"),
         entry(CLOSE, b"2017112"),

@@ -17,15 +17,31 @@ fn posted(bill_ready: u64, prepay: u64) -> Ledger {
 #[test]
 fn layout() {
     let words = of(&posted(4250, 4251));
-    assert_eq!((words.len(), WORDS), (2436, 2436));
+    assert_eq!((words.len(), WORDS), (2564, 2564));
     assert_eq!(words[..4], [20171113, 3, 5, 2]);
-    let bill_ready = [123456780019, 7, 90, 90, 52, 48, 66, 1, 1, 0, 1, 85, 20171113, 20171013, 20171116, 1, 4250, 0, 0];
-    let prepay =
-        [123456780019, 8, 90, 90, 52, 48, 80, 1, 1, 0, 2, 85, 20171113, 20171013, 20171116, 2, 4251, 2125, 2126];
-    assert_eq!(words[4..23], bill_ready);
-    assert_eq!(words[23..42], prepay);
-    assert!(words[42..].chunks(19).all(|place| place == BLANK));
-    assert_eq!(BLANK, [0, 0, 0, 0, 0, 0, 66, 0, 0, 0, 0, 0, 0, 0, 0, 0, 0, 0, 0]);
+    #[rustfmt::skip]
+    let bills = [
+        [123456780019, 7, 90, 90, 52, 48, 66, 1, 1, 0, 1, 85, 20171113, 20171013, 20171116, 1, 4250, 0, 0, 0],
+        [123456780019, 8, 90, 90, 52, 48, 80, 1, 1, 0, 2, 85, 20171113, 20171013, 20171116, 2, 4251, 2125, 2126, 0],
+    ];
+    assert_eq!(words[4..24], bills[0]);
+    assert_eq!(words[24..44], bills[1]);
+    assert!(words[44..].chunks(20).all(|place| place == BLANK));
+    assert_eq!(BLANK, [0, 0, 0, 0, 0, 0, 66, 0, 0, 0, 0, 0, 0, 0, 0, 0, 0, 0, 0, 0]);
+}
+
+#[test]
+fn removal_dates() {
+    let mut ledger = posted(4250, 4251);
+    ledger.removal(ACCOUNT, b"20171102").unwrap();
+    let words = of(&ledger);
+    assert_eq!((words[23], words[43], words[63]), (20171102, 20171102, 0));
+    assert_eq!(read(&words), Some(ledger));
+    for (word, date) in [(0, None), (19000101, Some(19000101)), (20000229, Some(20000229)), (29991231, Some(29991231))]
+    {
+        let ledger = read(&with(&[(place(1) + 19, word)])).expect("a sound ledger");
+        assert_eq!(ledger.bills()[1].removal_date.map(|date| date.number()), date);
+    }
 }
 
 #[test]
@@ -72,6 +88,10 @@ fn no_ledger() {
         vec![(first + 17, 1)],
         vec![(second + 18, 2126)],
         vec![(second + 17, u64::MAX), (second + 18, 4251)],
+        vec![(first + 19, 1)],
+        vec![(first + 19, 20171131)],
+        vec![(second + 19, (1 << 32) + 20171113)],
+        vec![(second + 19, u64::MAX)],
         vec![(past + 6, 0)],
         vec![(past + 9, 2)],
         vec![(past + 16, 1)],
@@ -79,13 +99,23 @@ fn no_ledger() {
         assert_eq!(read(&with(&changes)), None, "{changes:?}");
     }
     assert_eq!(read(&with(&[])[1..]), None);
+    assert_eq!(read(&with(&[])[..2436]), None);
 }
 
 #[test]
 fn past_the_count() {
     let plain = with(&[]);
-    let copy: Vec<(usize, u64)> = (0..19).map(|field| (place(127) + field, plain[place(0) + field])).collect();
-    for changes in [copy, vec![(place(2), u64::MAX), (place(2) + 2, 255), (place(2) + 15, 2), (place(2) + 18, 9)]] {
+    let copy: Vec<(usize, u64)> = (0..20).map(|field| (place(127) + field, plain[place(0) + field])).collect();
+    for changes in [
+        copy,
+        vec![
+            (place(2), u64::MAX),
+            (place(2) + 2, 255),
+            (place(2) + 15, 2),
+            (place(2) + 18, 9),
+            (place(2) + 19, 20171131),
+        ],
+    ] {
         let mut words = with(&changes);
         let ledger = read(&words).expect("a sound ledger");
         assert_eq!(Some(&ledger), read(&plain).as_ref());

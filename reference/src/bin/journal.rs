@@ -5,7 +5,7 @@ use std::process::exit;
 
 use reference::fields::{Identity, Product};
 use reference::groups::{self, Amounts, Sent};
-use reference::journal::{self, Entry, CANCEL, CLOSE, FILE, FRESH, REQUEST};
+use reference::journal::{self, Entry, CANCEL, CLOSE, FILE, FRESH, REMOVAL, REQUEST};
 use reference::verdict::Notification;
 use reference::{Cause, Ledger};
 
@@ -23,6 +23,7 @@ Makes a journal from a text file with one entry a line. Blank lines and what fol
   end                                                                ... to here go into one file
   cancel ACCOUNT KEY
   close TODAY
+  removal ACCOUNT DATE
 
 Dates are yyyymmdd, charges cents, CCF whole Ccf. Numbers are zero-filled to their width. Fields are not checked
 otherwise, so that refused calls can be written too. rsp and sup fill in the rest (rate code, Tracking ID, sequence,
@@ -111,6 +112,7 @@ impl Scribe {
             ["file", path] => std::fs::read(path).map_err(|error| format!("{path}: {error}"))?,
             ["cancel", account, key] => fields(&[("ACCOUNT", account, 12), ("KEY", key, 4)])?,
             ["close", today] => fields(&[("TODAY", today, 8)])?,
+            ["removal", account, date] => fields(&[("ACCOUNT", account, 12), ("DATE", date, 8)])?,
             ["rsp", rest @ ..] => return self.group(Notification::Rsp, rest),
             ["sup", rest @ ..] => return self.group(Notification::Sup, rest),
             ["begin"] if self.open_file.is_none() => {
@@ -167,7 +169,7 @@ impl Scribe {
                 journal::fresh(body.try_into().expect("26 bytes")).map(|fresh| *ledger = Some(fresh))
             }
             (FILE, Some(_)) if body.len() > 64_200 => Err(Cause::BadEntry),
-            (REQUEST | FILE | CANCEL | CLOSE, Some(ledger)) => carry_out(ledger, tag, body),
+            (REQUEST | FILE | CANCEL | CLOSE | REMOVAL, Some(ledger)) => carry_out(ledger, tag, body),
             _ => Err(Cause::BadEntry),
         };
         self.stopped = self.ledger.is_none() || result == Err(Cause::BadEntry);
@@ -185,6 +187,7 @@ fn tag_of(word: &str) -> u8 {
         "request" => REQUEST,
         "cancel" => CANCEL,
         "close" => CLOSE,
+        "removal" => REMOVAL,
         _ => FILE,
     }
 }
@@ -194,6 +197,7 @@ fn carry_out(ledger: &mut Ledger, tag: u8, body: &[u8]) -> Result<(), Cause> {
         REQUEST => Entry::Request(body.try_into().expect("56 bytes")),
         CANCEL => Entry::Cancel(body.try_into().expect("16 bytes")),
         CLOSE => Entry::Close(body.try_into().expect("8 bytes")),
+        REMOVAL => Entry::Removal(body.try_into().expect("20 bytes")),
         _ => Entry::File(body),
     };
     journal::carry_out(ledger, entry, None).map(|_| ())

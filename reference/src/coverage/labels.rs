@@ -1,6 +1,8 @@
 //! The labels under which `coverage` counts, and what no journal reaches.
 
-/// Labels that stand alone; `expected` adds those made of a call or kind and a number.
+use super::borders;
+
+/// Labels that stand alone; `expected` adds those of `borders` and those made of a call or kind and a number.
 const EXPECTED: &[&str] = &[
     "fresh done",
     "fresh cause 2",
@@ -25,11 +27,16 @@ const EXPECTED: &[&str] = &[
     "cancel cause 12",
     "close cause 2",
     "close cause 10",
+    "removal done",
+    "removal cause 2",
+    "removal cause 4",
     "RSP BR09, issued",
     "RSP BR09, cancelled",
     "SUP BR09, cancelled",
     "RSP BR01",
     "SUP BR11",
+    "SUP BR12",
+    "SUP BR13",
     "RSP BR05",
     "SUP BR05, sequence not 000",
     "SUP BR05, bill at 999",
@@ -78,8 +85,11 @@ const EXPECTED: &[&str] = &[
     "bad: stray byte",
     "bad: cut short in the length",
     "bad: cut short in the body",
+    "bad: cut short in a removal",
     "bad: tag",
+    "bad: tag 6",
     "bad: length",
+    "bad: length of a removal",
     "bad: file over 64,200",
     "bad: tag 0 later",
     "end: not stopped",
@@ -98,12 +108,13 @@ const EXPECTED: &[&str] = &[
 ];
 
 /// The causes that lines of a trace can show, 0 for a call carried out. A refused fresh is a bad entry, without a line.
-const TRACED: [(&str, &[u8]); 5] = [
+const TRACED: [(&str, &[u8]); 6] = [
     ("fresh", &[0]),
     ("request", &[0, 2, 3, 5, 6, 7, 8, 9, 12]),
     ("file", &[0, 11, 12]),
     ("cancel", &[0, 2, 4, 5, 12]),
     ("close", &[0, 2, 10]),
+    ("removal", &[0, 2, 4]),
 ];
 
 /// Never in a journal, and why.
@@ -119,7 +130,7 @@ pub const UNREACHABLE: &[(&str, &str)] = &[
 
 /// Every label that a run should reach.
 pub fn expected() -> Vec<String> {
-    let mut labels: Vec<String> = EXPECTED.iter().map(|label| label.to_string()).collect();
+    let mut labels: Vec<String> = EXPECTED.iter().chain(borders::LABELS).map(|label| label.to_string()).collect();
     for kind in ["RSP", "SUP"] {
         for code in [6, 7, 8, 10, 14, 16, 17, 20, 21, 22, 23, 24, 25, 26] {
             labels.push(format!("{kind} BR{code:02}"));
@@ -131,7 +142,7 @@ pub fn expected() -> Vec<String> {
     for (call, causes) in TRACED {
         labels.extend(causes.iter().map(|cause| format!("trace: {call} {cause:02}")));
     }
-    for code in [1, 5, 6, 7, 8, 9, 10, 11, 14, 16, 17, 19, 20, 21, 22, 23, 24, 25, 26] {
+    for code in [1, 5, 6, 7, 8, 9, 10, 11, 12, 13, 14, 16, 17, 19, 20, 21, 22, 23, 24, 25, 26] {
         labels.push(format!("trace: group BR{code:02}"));
     }
     labels

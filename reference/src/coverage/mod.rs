@@ -1,5 +1,6 @@
 //! What journals reach: counted from a journal's bytes and the reference's notices and trace, whatever the maker meant.
 
+mod borders;
 mod labels;
 
 use std::collections::BTreeMap;
@@ -7,7 +8,7 @@ use std::collections::BTreeMap;
 use crate::dates::Date;
 use crate::fields::{digits, Product, RateCode};
 use crate::file::{at, groups, records, Group, FILE_LIMIT, RECORD_LENGTH};
-use crate::journal::{carry_out, fresh, Effect, Entries, Entry, Next, FILE, FRESH};
+use crate::journal::{carry_out, fresh, Effect, Entries, Entry, Next, FILE, FRESH, REMOVAL};
 use crate::ledger::{Ledger, BILL_LIMIT, USED_UP};
 use crate::Cause;
 
@@ -108,7 +109,7 @@ impl Coverage {
     fn bad_first(&mut self, journal: &[u8]) {
         self.count(match journal {
             [] => "bad: empty journal",
-            [1..=4, ..] => "bad: another tag first",
+            [1..=5, ..] => "bad: another tag first",
             _ => "bad: first entry otherwise",
         });
     }
@@ -118,8 +119,11 @@ impl Coverage {
             [_] => "bad: stray byte",
             [_, _] => "bad: cut short in the length",
             [FRESH, ..] => "bad: tag 0 later",
-            [5..=255, ..] => "bad: tag",
+            [6, ..] => "bad: tag 6",
+            [7..=255, ..] => "bad: tag",
             [FILE, high, low, ..] if u16::from_be_bytes([*high, *low]) > FILE_LIMIT as u16 => "bad: file over 64,200",
+            [REMOVAL, 0, 20, ..] => "bad: cut short in a removal",
+            [REMOVAL, ..] => "bad: length of a removal",
             [tag, high, low, ..] if *tag != FILE && [*high, *low] != [0, [26, 56, 0, 16, 8][*tag as usize]] => {
                 "bad: length"
             }
@@ -129,9 +133,9 @@ impl Coverage {
 
     /// Carries the call out and counts it; returns the entry's length in the journal.
     fn call(&mut self, ledger: &mut Ledger, entry: Entry, out: &mut [u8]) -> usize {
-        let held = ledger.bills().len();
+        let before = ledger.clone();
         let result = carry_out(ledger, entry, Some(out));
-        let grew = ledger.bills().len() > held;
+        let grew = ledger.bills().len() > before.bills().len();
         let (name, length) = match entry {
             Entry::Request(_) if result.is_ok() && grew => ("request done, new bill", 56),
             Entry::Request(_) if result.is_ok() => ("request done, known bill", 56),
@@ -139,6 +143,7 @@ impl Coverage {
             Entry::File(file) => ("file", file.len()),
             Entry::Cancel(_) => ("cancel", 16),
             Entry::Close(_) => ("close", 8),
+            Entry::Removal(_) => ("removal", 20),
             Entry::Fresh(_) => ("fresh", 26),
         };
         match (&result, entry) {
@@ -149,6 +154,9 @@ impl Coverage {
         match (entry, result) {
             (Entry::File(file), result) => self.file(ledger, file, result, out),
             (Entry::Request(body), Err(Cause::BadField)) => self.bad_fields(body),
+            (Entry::Request(body), Ok(_)) => self.requested(ledger, body, grew),
+            (Entry::Removal(body), Err(Cause::BadField)) => self.bad_removal(body),
+            (Entry::Removal(body), Ok(_)) => self.removal(&before, body),
             _ => {}
         }
         self.state(ledger);
@@ -225,6 +233,7 @@ impl Coverage {
     fn accepted(&mut self, ledger: &Ledger, group: &Group, kind: &str) {
         let bill = ledger.bills().iter().find(|bill| is_bill(group, bill)).expect("an accepted bill");
         self.count(&format!("{kind} accepted, {}", bill.product.letter() as char));
+        self.last_days(ledger.today(), bill, group, kind, "accepted");
     }
 
     fn rejected(&mut self, ledger: &Ledger, group: &Group, kind: &str, code: &str) {
@@ -235,6 +244,9 @@ impl Coverage {
             ("SUP", "BR05", Some(bill)) if bill.sequence == 999 => self.count("SUP BR05, bill at 999"),
             ("SUP", "BR05", _) => self.count("SUP BR05, sequence not 000"),
             _ => self.count(&format!("{kind} {code}")),
+        }
+        if let Some(bill) = bill {
+            self.last_days(ledger.today(), bill, group, kind, code);
         }
         if code == "BR17" {
             self.form(group);

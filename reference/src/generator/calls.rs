@@ -18,7 +18,7 @@ pub struct Wish {
 
 impl Wish {
     /// A request for a known bill that changes nothing yet.
-    fn of(bill: &Bill, scheduled: u32) -> Wish {
+    pub fn of(bill: &Bill, scheduled: u32) -> Wish {
         Wish {
             rate_code: *bill.rate_code.bytes(),
             account: bill.identity.account(),
@@ -61,6 +61,8 @@ pub fn good_fresh(rng: &mut Prng, near_end: bool) -> ([u8; 26], Ledger) {
         b"29991228",
         b"29991231",
         b"20240229",
+        b"20010226",
+        b"20170227",
     ];
     let today = if rng.chance(25) { **rng.pick(edge) } else { filled(20171100 + rng.range(1, 30) as u64) };
     let number = |rng: &mut Prng, near: bool| -> u64 {
@@ -203,7 +205,7 @@ impl Maker {
         self.push(CLOSE, &date);
     }
 
-    fn body(&mut self, wish: &Wish) -> [u8; 56] {
+    pub fn body(&mut self, wish: &Wish) -> [u8; 56] {
         let mut body = [0; 56];
         body[..5].copy_from_slice(&wish.rate_code);
         body[5..17].copy_from_slice(&filled::<12>(wish.account));
@@ -211,7 +213,7 @@ impl Maker {
         body[21] = wish.product;
         // Billing and From Date may stand in any order.
         let dates = [b"20171113", b"20171013", b"19000101", b"29991231", b"20000229"];
-        body[22..30].copy_from_slice(*self.rng.pick(&dates));
+        body[22..30].copy_from_slice(&filled::<8>(self.some_billing().into()));
         body[30..38].copy_from_slice(*self.rng.pick(&dates));
         body[38..48].copy_from_slice(&filled::<10>(wish.consumption));
         body[48..].copy_from_slice(&filled::<8>(wish.scheduled.into()));

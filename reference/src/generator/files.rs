@@ -18,7 +18,7 @@ impl Maker {
     }
 
     /// So many groups, for different bills as long as there are some.
-    fn some_groups(&mut self, count: usize) -> Vec<Sent> {
+    pub fn some_groups(&mut self, count: usize) -> Vec<Sent> {
         let mut places: Vec<usize> = (0..self.ledger.bills().len()).collect();
         self.rng.shuffle(&mut places);
         let again = self.rng.chance(10);
@@ -161,12 +161,13 @@ impl Maker {
             billing_date: date,
             from_date: date,
             scheduled_date: date,
+            removal_date: None,
         };
         let kind = *self.rng.pick(&[Notification::Rsp, Notification::Sup]);
         self.group(&bill, kind)
     }
 
-    fn group(&mut self, bill: &Bill, kind: Notification) -> Sent {
+    pub fn group(&mut self, bill: &Bill, kind: Notification) -> Sent {
         let charge = self.some_charge();
         let applied = match self.rng.below(4) {
             0 => 0,
@@ -226,7 +227,7 @@ impl Maker {
         }
     }
 
-    fn spoil(&mut self, sent: &mut Sent, ways: &[Spoil]) {
+    pub fn spoil(&mut self, sent: &mut Sent, ways: &[Spoil]) {
         // A group without details has nothing more to spoil.
         if !sent.details.is_empty() {
             let way = *self.rng.pick(ways);

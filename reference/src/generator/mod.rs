@@ -8,11 +8,12 @@ pub mod days;
 mod ends;
 mod files;
 pub mod lines;
+mod removals;
 mod spoils;
 
 use crate::fields::put_number;
 use crate::groups;
-use crate::journal::{self, Entry, CANCEL, CLOSE, FILE, REQUEST};
+use crate::journal::{self, Entry, CANCEL, CLOSE, FILE, REMOVAL, REQUEST};
 use crate::ledger::Ledger;
 use crate::prng::Prng;
 
@@ -22,6 +23,8 @@ struct Maker {
     ledger: Ledger,
     rate_codes: Vec<[u8; 5]>,
     accounts: Vec<u64>,
+    /// Whether it has removals and SUPs about their last days.
+    late: bool,
     /// How often, in percent, a body gets a byte changed at random.
     noise: usize,
 }
@@ -40,6 +43,7 @@ pub fn make(seed: u64) -> Vec<u8> {
         ledger,
         rate_codes: calls::rate_codes(&mut rng),
         accounts: calls::accounts(&mut rng),
+        late: rng.chance(60),
         noise: 1,
         rng,
     };
@@ -75,10 +79,10 @@ impl Maker {
         }
     }
 
-    /// Ordinary days: requests, files, now and then a cancel, a close or a call that is refused.
+    /// Ordinary days: requests, files, now and then a cancel, a close, a removal or a call that is refused.
     fn traffic(&mut self, least: usize, most: usize) {
         for _ in 0..self.rng.range(least, most) {
-            match self.rng.below(100) {
+            match self.rng.below(if self.late { 115 } else { 100 }) {
                 0..=15 => self.new_request(),
                 16..=29 => self.renewing_request(),
                 30..=38 => self.loose_request(),
@@ -88,7 +92,9 @@ impl Maker {
                 85..=86 => self.push(FILE, &[]),
                 87..=91 => self.cancel(),
                 92..=97 => self.close(),
-                _ => self.refused_close(),
+                98..=99 => self.refused_close(),
+                100..=105 => self.removal(),
+                _ => self.last_day(),
             }
         }
     }
@@ -123,6 +129,7 @@ impl Maker {
             REQUEST => Entry::Request(body[..].try_into().expect("56 bytes")),
             CANCEL => Entry::Cancel(body[..].try_into().expect("16 bytes")),
             CLOSE => Entry::Close(body[..].try_into().expect("8 bytes")),
+            REMOVAL => Entry::Removal(body[..].try_into().expect("20 bytes")),
             _ => Entry::File(&body),
         };
         let _ = journal::carry_out(&mut self.ledger, entry, None);

@@ -2,11 +2,12 @@
 //!
 //! It asks the ledger nothing and shares none of its code but what a date is and which one follows it: fields stay the
 //! bytes they came as, and every rule is a row of a list whose first true row counts. Slow, plain, and a second opinion
-//! on every verdict and every business day.
+//! on every verdict, every business day and every last day for a SUP.
 
-use std::iter::successors;
+mod days;
 
 use crate::dates::Date;
+use days::{are_holidays, further, is_over_a_year, is_over_sixty_days};
 
 /// A call after fresh, with its fields as they stand in a journal.
 #[derive(Clone, Copy, Debug)]
@@ -17,9 +18,10 @@ pub enum Call<'a> {
     File(&'a [u8]),
     Cancel(&'a [u8; 16]),
     Close(&'a [u8; 8]),
+    Removal(&'a [u8; 20]),
 }
 
-/// Every field of a bill but the posted amounts, and but Billing and From Date, which no rule reads.
+/// Every field of a bill but the posted amounts, and but the From Date, which no rule reads.
 struct PastBill {
     identity: Vec<u8>,
     rate_code: Vec<u8>,
@@ -29,7 +31,9 @@ struct PastBill {
     cancelled: bool,
     tracking: u64,
     consumption: Vec<u8>,
+    billing: Vec<u8>,
     scheduled: Vec<u8>,
+    removal: Option<Vec<u8>>,
 }
 
 pub struct History {
@@ -68,6 +72,7 @@ impl History {
             Call::File(file) => self.file(file, output),
             Call::Cancel(body) => self.cancel(body, output),
             Call::Close(body) => self.close(body),
+            Call::Removal(body) => self.removal(body),
         }
     }
 
@@ -140,7 +145,9 @@ impl History {
             cancelled: false,
             tracking: self.tracking,
             consumption: body[38..48].to_vec(),
+            billing: body[22..30].to_vec(),
             scheduled: body[48..].to_vec(),
+            removal: place.and_then(|place| self.bills[place].removal.clone()),
         };
         match place {
             Some(place) => self.bills[place] = bill,
@@ -172,6 +179,17 @@ impl History {
         let cause = first(&[(!is_date(date), 2), (date[..] <= self.today[..], 10)]);
         if cause.is_none() {
             self.today = date.to_vec();
+        }
+        cause
+    }
+
+    fn removal(&mut self, body: &[u8; 20]) -> Option<u8> {
+        let (account, date) = body.split_at(12);
+        let places: Vec<usize> =
+            (0..self.bills.len()).filter(|at| self.bills[*at].identity.starts_with(account)).collect();
+        let cause = first(&[(!numeric(account) || !is_date(date), 2), (places.is_empty(), 4)]);
+        if cause.is_none() {
+            places.into_iter().for_each(|at| self.bills[at].removal = Some(date.to_vec()));
         }
         cause
     }
@@ -236,6 +254,8 @@ impl History {
             (rsp && field(54, 56) != sequence, 5),
             (!rsp && bill.cancelled, 9),
             (!rsp && open, 11),
+            (!rsp && is_over_a_year(&self.today, &bill.billing), 12),
+            (!rsp && bill.removal.as_ref().is_some_and(|removal| is_over_sixty_days(&self.today, removal)), 13),
             (!rsp && (field(54, 56) != b"000" || bill.sequence == 999), 5),
             (!numeric(field(57, 66)), 8),
             (field(57, 66) != bill.consumption, 6),
@@ -257,32 +277,6 @@ fn has_bad_field(body: &[u8; 56]) -> bool {
         || !b"BP".contains(&body[21])
         || !numeric(&body[38..48])
         || ![&body[22..30], &body[30..38], &body[48..]].into_iter().all(is_date)
-}
-
-/// Today for 0, else the business day of this number after it; None if there is no such day.
-fn further(today: &[u8], number: u64, holidays: &[u64]) -> Option<Vec<u8>> {
-    let later = successors(Date::read(today), |date| date.next()).skip(1);
-    let business = later.map(|date| date.number()).filter(|day| is_business_day(*day, holidays));
-    match number {
-        0 => Some(today.to_vec()),
-        _ => business.take(9).nth(number as usize - 1).map(|day| day.to_string().into_bytes()),
-    }
-}
-
-/// Neither a Saturday nor a Sunday, by Zeller's congruence, in which a Saturday is 0, nor a holiday.
-fn is_business_day(day: u32, holidays: &[u64]) -> bool {
-    let (year, month) = (day / 10_000, day / 100 % 100);
-    // January and February are months 13 and 14 of the year before.
-    let (year, month) = if month < 3 { (year - 1, month + 12) } else { (year, month) };
-    let weekday = (day % 100 + 13 * (month + 1) / 5 + year + year / 4 - year / 100 + year / 400) % 7;
-    weekday > 1 && !holidays.contains(&day.into())
-}
-
-fn are_holidays(days: &[u64]) -> bool {
-    let mut sorted = days.to_vec();
-    sorted.sort();
-    sorted.dedup();
-    sorted == days && days.len() < 65 && days.iter().all(|day| is_date(day.to_string().as_bytes()))
 }
 
 /// Lines 1 and 2.
