@@ -54,6 +54,10 @@ const JOURNALS: &[(&str, u64, Make)] = &[
         made(Workload::new(out, 128)?, |work| work.responses(files, 100))
     }),
     ("mixed, 128 bills", 1_000_000, |out, entries| made(Workload::new(out, 128)?, |work| work.mixed(entries))),
+    ("removals, 128 bills", 1_000_000, |out, entries| made(Workload::new(out, 128)?, |work| work.removals(entries))),
+    ("late SUPs, BR13 and BR12, 128 bills", 300_000, |out, files| {
+        made(Workload::new(out, 0)?, |work| work.late_supplements(files))
+    }),
     ("bills held: 1 (RSP, 1 group a file)", 300_000, |out, files| {
         made(Workload::new(out, 1)?, |work| work.responses(files, 1))
     }),

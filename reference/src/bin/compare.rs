@@ -27,7 +27,11 @@ compare --make SEED
     writes that journal to standard output
 compare --show JOURNAL
     lists the entries of a journal with what the reference makes of each
-Exit status: 0 all equal, 1 a difference, or an argument answered otherwise, 2 a wrong use or a program not run.";
+Exit status: 0 all equal and, with 1000 seeds or more, all reached that a journal can reach, 1 if not, or if an argument
+is answered otherwise, 2 a wrong use or a program not run.";
+
+/// So many seeds must reach all that there is to reach.
+const ENOUGH: u64 = 1000;
 
 /// What each program is given to see that it says how it is used.
 const ARGUMENTS: [&str; 2] = ["--help", "journal.bin"];
@@ -93,6 +97,10 @@ fn main() {
     );
     if tally.failures > 0 {
         println!("{} runs ended with a status other than 0", tally.failures);
+    }
+    if plan.count >= ENOUGH && !tally.coverage.missing().is_empty() {
+        println!("NEVER REACHED: {}", tally.coverage.missing().join("; "));
+        exit(1);
     }
 }
 
