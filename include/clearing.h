@@ -1,7 +1,7 @@
 /*
- * clearing.h: the calls of the clearing ledger for Bill Ready and Prepay charges (document 01) and its business-day
- * calendar (document 02, paper 1), proved and compiled to libclearing_c.a (`rt staticlib clearing_c`, then
- * target/staticlib/), for C and C++ on x86-64 Linux.
+ * clearing.h: the calls of the clearing ledger for Bill Ready and Prepay charges (document 01), its business-day
+ * calendar and its removals (document 02, papers 1 and 2), proved and compiled to libclearing_c.a (`rt staticlib
+ * clearing_c`, then target/staticlib/), for C and C++ on x86-64 Linux.
  *
  * Every function returns 0 if the call is carried out, else one of the causes below; then all that was lent to it for
  * writing (ledger, out, change, counts, place, amounts, written, weekday, day, found, result) holds what it held
@@ -27,8 +27,9 @@ extern "C" {
 #endif
 
 /* Lengths. */
-#define CLEARING_WORDS 2436        /* words of a ledger: 4, then 128 places of 19 */
+#define CLEARING_WORDS 2564        /* words of a ledger: 4, then those of the places */
 #define CLEARING_BILLS 128         /* places for bills */
+#define CLEARING_PLACE_WORDS 20    /* words of a place */
 #define CLEARING_RECORD_BYTES 321  /* a record of a supplier file or a notice */
 #define CLEARING_NOTICE_BYTES 642  /* what a request or a cancel writes */
 #define CLEARING_FILE_BYTES 64200  /* the longest supplier file */
@@ -42,14 +43,14 @@ enum {
     CLEARING_NEXT_CONFIRMATION = 2, /* the same */
     CLEARING_COUNT = 3              /* how many places hold a bill, from place 0 on, in order of first request */
 };
-#define CLEARING_PLACE(i) (4 + 19 * (i))
+#define CLEARING_PLACE(i) (4 + CLEARING_PLACE_WORDS * (i))
 
 /*
- * The words of a place. A ledger is sound if each word is in its range, dates are dates (1900 to 2999), no account
- * and key stand twice, the kind is 0 or the product's, that of a cancelled bill is 0, and applied plus owed is the
- * charge (kind 2). A place past the count holds no bill and bears on no answer; its words only keep to the form: code
- * words under 256, product 66 or 80, cancelled 0 or 1, kind 0 to 2, and 0 for amounts that the kind does not use.
- * After clearing_fresh every place has product 66 and zeros.
+ * The words of a place. A ledger is sound if each word is in its range, dates are dates (1900 to 2999; the removal date
+ * may be 0), no account and key stand twice, the kind is 0 or the product's, that of a cancelled bill is 0, and applied
+ * plus owed is the charge (kind 2). A place past the count holds no bill and bears on no answer; its words only keep to
+ * the form: code words under 256, product 66 or 80, cancelled 0 or 1, kind 0 to 2, and 0 for amounts that the kind does
+ * not use. After clearing_fresh every place has product 66 and zeros.
  */
 enum {
     CLEARING_ACCOUNT = 0,       /* Customer Account Number, 12 digits */
@@ -67,7 +68,8 @@ enum {
     CLEARING_KIND = 15,         /* posted amounts: 0 none, 1 Bill Ready, 2 Prepay */
     CLEARING_CHARGE = 16,       /* cents, 13 digits; 0 for kind 0 */
     CLEARING_APPLIED = 17,      /* cents; 0 for kinds 0 and 1 */
-    CLEARING_OWED = 18          /* cents; 0 for kinds 0 and 1, although a Bill Ready charge counts as owed */
+    CLEARING_OWED = 18,         /* cents; 0 for kinds 0 and 1, although a Bill Ready charge counts as owed */
+    CLEARING_REMOVAL = 19       /* removal date; 0 if there is none */
 };
 
 /* What a call returns. */
@@ -121,7 +123,8 @@ uint64_t clearing_request_by_calendar(uint64_t *ledger, size_t ledger_len, const
                                       uint64_t counts[4]);
 
 /* File: decides the groups of a supplier file (its bytes, CLEARING_FILE_BYTES at most) in order and writes an ACF or
-   REJ for each. out_len must be file_len or more, although less may be written. Refused: 2, 11, 1, 12. */
+   REJ for each. A SUP gets BR12 from the day after the anniversary of the Billing Date on, BR13 from day 61 after the
+   removal date on. out_len must be file_len or more, although less may be written. Refused: 2, 11, 1, 12. */
 uint64_t clearing_file(uint64_t *ledger, size_t ledger_len, const uint8_t *file, size_t file_len, uint8_t *out,
                        size_t out_len, int64_t *change, uint64_t counts[4]);
 
@@ -133,6 +136,11 @@ uint64_t clearing_cancel(uint64_t *ledger, size_t ledger_len, uint64_t account, 
 /* Close of day: today, a date, becomes the ledger's; counts[3]: bills that were open before and are not after.
    Refused: 2, 10. */
 uint64_t clearing_close(uint64_t *ledger, size_t ledger_len, uint64_t today, int64_t *change, uint64_t counts[4]);
+
+/* Removal: the date becomes the removal date of all bills of the account, cancelled and issued ones too; any date will
+   do. It writes nothing and uses no number; change and counts are 0. Refused: 2, 4 (the account has no bill). */
+uint64_t clearing_removal(uint64_t *ledger, size_t ledger_len, uint64_t account, uint64_t date, int64_t *change,
+                          uint64_t counts[4]);
 
 /* The lookups read the ledger and leave it alone. */
 

@@ -1,6 +1,7 @@
-/* Document 01's example through the calls and lookups, its dates through the calendar, then the example through the
-   table and streamed entry by entry; prints what the calendar found, the table of the journal and that of the ledger
-   which the entries left. Any other answer than expected ends it with status 1. */
+/* Document 01's example through the calls and lookups, its dates through the calendar, a SUP that is late after a
+   removal, then the example through the table and streamed entry by entry; prints what the calendar found, what the SUP
+   got, the table of the journal and that of the ledger which the entries left. Any other answer than expected ends it
+   with status 1. */
 #include "clearing.h"
 
 #include <assert.h>
@@ -8,6 +9,7 @@
 #include <string.h>
 
 static_assert(CLEARING_PLACE(CLEARING_BILLS) == CLEARING_WORDS, "the places fill the ledger");
+static_assert(CLEARING_REMOVAL == CLEARING_PLACE_WORDS - 1, "the last word of a place");
 static_assert(CLEARING_NOTICE_BYTES == 2 * CLEARING_RECORD_BYTES, "a header and a detail");
 static_assert(CLEARING_FILE_BYTES == 200 * CLEARING_RECORD_BYTES, "200 records");
 static_assert(CLEARING_TABLE_BYTES == 56 + 128 * 85 + 23 + 11, "heading, lines, total, stopped");
@@ -69,7 +71,8 @@ static int try_words(void) {
         {"Tracking ID", CLEARING_TRACKING, 1}, {"consumption", CLEARING_CONSUMPTION, 85},
         {"Billing Date", CLEARING_BILLING, 20171113}, {"From Date", CLEARING_FROM, 20171013},
         {"Scheduled Date", CLEARING_SCHEDULED, 20171116}, {"kind", CLEARING_KIND, 1},
-        {"charge", CLEARING_CHARGE, 4250}, {"applied", CLEARING_APPLIED, 0}, {"owed", CLEARING_OWED, 0}};
+        {"charge", CLEARING_CHARGE, 4250}, {"applied", CLEARING_APPLIED, 0}, {"owed", CLEARING_OWED, 0},
+        {"removal date", CLEARING_REMOVAL, 0}};
     int good = expect("today", ledger[CLEARING_TODAY], 20171113)
         && expect("next Tracking ID", ledger[CLEARING_NEXT_TRACKING], 2)
         && expect("next Confirmation Number", ledger[CLEARING_NEXT_CONFIRMATION], 3)
@@ -134,6 +137,41 @@ static int try_calendar(void) {
     return good;
 }
 
+/* Closes the day and sends the example's group as a SUP. */
+static int try_supplement(const uint8_t *file, uint64_t today) {
+    uint8_t sent[CLEARING_NOTICE_BYTES];
+    memcpy(sent, file, sizeof sent);
+    put(sent, 31, "SUP");
+    put(sent + CLEARING_RECORD_BYTES, 31, "SUP");
+    put(sent + CLEARING_RECORD_BYTES, 54, "000");
+    return expect("close", clearing_close(ledger, CLEARING_WORDS, today, &change, counts), CLEARING_DONE)
+        && expect("file",
+                  clearing_file(ledger, CLEARING_WORDS, sent, sizeof sent, out, sizeof sent, &change, counts),
+                  CLEARING_DONE);
+}
+
+/* A removal: a SUP passes on day 60 after it and gets BR13 on day 61. */
+static int try_removal(const uint8_t *file) {
+    const uint8_t code[5] = {'Z', 'Z', 'C', '4', '0'};
+    const uint64_t account = 123456780019;
+    const char *rejected = (const char *)out + CLEARING_RECORD_BYTES + 259;
+    int good = expect("fresh", clearing_fresh(ledger, CLEARING_WORDS, 20171113, 1, 1, &change, counts), CLEARING_DONE)
+        && expect("removal, no bill", clearing_removal(ledger, CLEARING_WORDS, account, 20171101, &change, counts),
+                  CLEARING_NO_SUCH_BILL)
+        && expect("request",
+                  clearing_request(ledger, CLEARING_WORDS, code, account, 7, 'B', 20171113, 20171013, 85, 20171116, out,
+                                   CLEARING_NOTICE_BYTES, &change, counts),
+                  CLEARING_DONE)
+        && expect("removal", clearing_removal(ledger, CLEARING_WORDS, account, 20171101, &change, counts),
+                  CLEARING_DONE)
+        && expect("bytes of a removal", counts[0], 0)
+        && expect("removal date", ledger[CLEARING_PLACE(0) + CLEARING_REMOVAL], 20171101)
+        && try_supplement(file, 20171231) && expect("accepted", counts[1], 1)
+        && try_supplement(file, 20180101) && expect("rejected", counts[2], 1);
+    printf("removed on 20171101: a SUP passes on 20171231, on 20180101 it gets %.4s\n", rejected);
+    return good;
+}
+
 /* Streams a journal, lending 100 bytes more of it where an entry is cut short. */
 static int try_stream(const uint8_t *journal, size_t length) {
     uint64_t seen = 0, found[2] = {9, 9};
@@ -165,7 +203,7 @@ int main(void) {
     uint64_t result[2] = {9, 9}, written = 9;
     make_file(file);
     size_t length = make_journal(journal, file);
-    if (!try_calls(file) || !try_calendar()
+    if (!try_calls(file) || !try_calendar() || !try_removal(file)
         || !expect("notices", clearing_notices(journal, length, out, sizeof out, result), CLEARING_DONE)
         || !expect("bytes of the notices", result[0], 3 * CLEARING_RECORD_BYTES)
         || !expect("table", clearing_table(journal, length, out, sizeof out, result), CLEARING_DONE)

@@ -33,7 +33,7 @@ pub struct CalendarRequest {
     pub number: u64,
 }
 
-/// Fresh: today and the two next numbers; any 2436 words do.
+/// Fresh: today and the two next numbers; any 2564 words do.
 pub fn fresh(
     ledger: &mut [u64],
     today: u64,
@@ -148,6 +148,13 @@ pub fn close(ledger: &mut [u64], today: u64, change: &mut i64, counts: &mut [u64
     let (words, length) = (ledger.as_mut_ptr(), ledger.len());
     // SAFETY: as for fresh.
     unsafe { raw::clearing_close(words, length, today, change, counts.as_mut_ptr()) }
+}
+
+/// Removal: sets the removal date of all bills of an account.
+pub fn removal(ledger: &mut [u64], account: u64, date: u64, change: &mut i64, counts: &mut [u64; 4]) -> u64 {
+    let (words, length) = (ledger.as_mut_ptr(), ledger.len());
+    // SAFETY: as for fresh.
+    unsafe { raw::clearing_removal(words, length, account, date, change, counts.as_mut_ptr()) }
 }
 
 /// The place of an open bill of an account.

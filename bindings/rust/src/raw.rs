@@ -66,6 +66,14 @@ unsafe extern "C" {
         counts: *mut u64,
     ) -> u64;
     pub fn clearing_close(ledger: *mut u64, ledger_len: usize, today: u64, change: *mut i64, counts: *mut u64) -> u64;
+    pub fn clearing_removal(
+        ledger: *mut u64,
+        ledger_len: usize,
+        account: u64,
+        date: u64,
+        change: *mut i64,
+        counts: *mut u64,
+    ) -> u64;
     pub fn clearing_open_bill(ledger: *const u64, ledger_len: usize, account: u64, place: *mut u64) -> u64;
     pub fn clearing_amounts(ledger: *const u64, ledger_len: usize, account: u64, key: u64, amounts: *mut u64) -> u64;
     pub fn clearing_ledger_table(

@@ -71,6 +71,10 @@ fn carry_out(call: &Call, mut ledger: Ledger, out: &mut [u8]) -> Done {
             let done = ledger.cancel(&text(account, 12), &text(key, 4), Some(out))?;
             (done.change, [done.written, 0, 0, 0])
         }
+        ("removal", &[account, date]) => {
+            ledger.removal(&text(account, 12), &text(date, 8))?;
+            (0, [0; 4])
+        }
         (_, today) => (0, [0, 0, 0, ledger.close(&text(today[0], 8))?]),
     };
     Ok((ledger, change, counts))
@@ -188,6 +192,7 @@ fn call_of(entry: Entry<'_>) -> Call<'_> {
         Entry::File(body) => call("file", body, vec![]),
         Entry::Cancel(body) => call("cancel", &[], [&body[..12], &body[12..]].map(number).to_vec()),
         Entry::Close(body) => call("close", &[], vec![number(body)]),
+        Entry::Removal(body) => call("removal", &[], [&body[..12], &body[12..]].map(number).to_vec()),
     }
 }
 

@@ -129,6 +129,20 @@ pub unsafe extern "C" fn clearing_close(
 }
 
 #[no_mangle]
+pub unsafe extern "C" fn clearing_removal(
+    ledger: *mut u64,
+    ledger_len: usize,
+    account: u64,
+    date: u64,
+    change: *mut i64,
+    counts: *mut u64,
+) -> u64 {
+    let no_output = (std::ptr::dangling_mut(), 0);
+    let call = Call { name: "removal", bytes: &[], numbers: vec![account, date] };
+    calls::change(&call, &mut lent((ledger, ledger_len), no_output, change, counts))
+}
+
+#[no_mangle]
 pub unsafe extern "C" fn clearing_open_bill(
     ledger: *const u64,
     ledger_len: usize,
