@@ -69,7 +69,12 @@ fn bad_later_entries() {
         let journal = [&good[..], &bad, if cut { &[] } else { &more }].concat();
         assert_eq!(printed(&journal), format!("{HEADING}{LINE}{NOTHING}"));
     }
-    // Refused calls are passed over.
+}
+
+#[test]
+fn refused_calls_are_passed_over() {
+    let good = [entry(FRESH, FIRST), entry(REQUEST, BILL)].concat();
+    let more = entry(CLOSE, b"20171120");
     for refused in [
         entry(FILE, &[b' '; 64_200]),
         entry(FILE, b"x"),

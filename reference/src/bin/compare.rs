@@ -84,6 +84,14 @@ fn main() {
         report_difference(&plan, *seed, told);
         exit(1);
     }
+    report(&plan, &tally, started);
+    if plan.count >= ENOUGH && !tally.coverage.missing().is_empty() {
+        exit(1);
+    }
+}
+
+/// What the journals reached, how much was compared and how long it took.
+fn report(plan: &Plan, tally: &Tally, started: Instant) {
     print!("{}", tally.coverage.report());
     println!(
         "{} seeds equal: {} calls, {} bytes of journals, {} of tables, {} of notices, {} of traces, {:.1} s",
@@ -97,10 +105,6 @@ fn main() {
     );
     if tally.failures > 0 {
         println!("{} runs ended with a status other than 0", tally.failures);
-    }
-    if plan.count >= ENOUGH && !tally.coverage.missing().is_empty() {
-        println!("NEVER REACHED: {}", tally.coverage.missing().join("; "));
-        exit(1);
     }
 }
 
