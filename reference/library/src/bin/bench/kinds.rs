@@ -66,6 +66,7 @@ pub fn all(bills: usize) -> Vec<Kind> {
         file(&format!("file, {GROUPS} RSP, {accepted}"), &words, ledger::longest_file()),
         cancel(&words, account(last)),
         close(&words),
+        removal(&words, account(last)),
         open_bill(&words, account(last)),
         amounts(&words, account(last)),
         ledger_table(&words),
@@ -214,6 +215,24 @@ fn close(words: &[u64]) -> Kind {
         output: 0,
         library: Box::new(move |lent| clearing::close(&mut lent.words, today, &mut lent.change, &mut lent.counts)),
         reference: Box::new(move |lent| change(lent, |ledger, _| Ok((0, [0, 0, 0, ledger.close(&text(today, 8))?])))),
+    }
+}
+
+fn removal(words: &[u64], account: u64) -> Kind {
+    let date = 20171101;
+    Kind {
+        name: "removal, of one bill".into(),
+        words: words.to_vec(),
+        output: 0,
+        library: Box::new(move |lent| {
+            clearing::removal(&mut lent.words, account, date, &mut lent.change, &mut lent.counts)
+        }),
+        reference: Box::new(move |lent| {
+            change(lent, |ledger, _| {
+                ledger.removal(&text(account, 12), &text(date, 8))?;
+                Ok((0, [0; 4]))
+            })
+        }),
     }
 }
 

@@ -21,7 +21,7 @@ bench [--rounds N] [--milliseconds M]
 Exit status: 0, or 1 if the two sides differ or refuse a call, 2 for a wrong use.";
 
 const COUNTED: &str = "\
-Counted on both sides: copying the 2,436 words into the ledger lent, then the call. The library's call works on the
+Counted on both sides: copying the 2,564 words into the ledger lent, then the call. The library's call works on the
 words; the reference's is words to its ledger (asking if it is sound), the call, and the ledger back to the words.
 A table or notices start from a journal's bytes, the calendar from numbers, and nothing is copied. The bill asked for
 is the last one held. An exact output is as long as the notices, which the library then makes twice; an ample one is as

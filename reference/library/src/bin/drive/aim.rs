@@ -1,6 +1,7 @@
 //! Calls aimed at the state of a ledger: ones that it carries out, and ones that it refuses for each cause.
 
 use clearing::Request;
+use reference::calendar::moved;
 use reference::dates::Date;
 use reference::file::{FILE_LIMIT, RECORD_LENGTH};
 use reference::generator::days;
@@ -13,12 +14,15 @@ use crate::call::Call;
 use crate::entry;
 use crate::spoil::spoil;
 
-pub const DATES: [u64; 9] = [19000101, 19001231, 20000229, 20171112, 20171113, 20171114, 20171116, 24000229, 29991231];
+#[rustfmt::skip]
+pub const DATES: [u64; 11] = [
+    19000101, 19001231, 20000229, 20010228, 20010301, 20171112, 20171113, 20171114, 20171116, 24000229, 29991231,
+];
 
 /// A call of any kind, most often one that is carried out.
 pub fn some_call(rng: &mut Prng, ledger: &Ledger) -> Call {
     let (account, key) = some_identity(rng, ledger);
-    let mut call = match rng.below(42) {
+    let mut call = match rng.below(46) {
         0..=7 => Call::Request(some_request(rng, ledger)),
         8..=11 => some_by_calendar(rng, ledger),
         12..=21 => Call::File(some_file(rng, ledger)),
@@ -27,6 +31,7 @@ pub fn some_call(rng: &mut Prng, ledger: &Ledger) -> Call {
         32..=35 => Call::OpenBill { account },
         36..=38 => Call::Amounts { account, key },
         39..=40 => Call::LedgerTable,
+        41..=44 => Call::Removal { account, date: some_removal(rng, ledger.today().number().into()) },
         _ => Call::Fresh { today: *rng.pick(&DATES), tracking: next_number(rng), confirmation: next_number(rng) },
     };
     if rng.chance(12) {
@@ -79,6 +84,18 @@ pub fn some_day(rng: &mut Prng, today: Date, before: usize) -> u64 {
     day.number().into()
 }
 
+/// A Billing Date: any, of the last days, or about a year before today.
+pub fn some_billing(rng: &mut Prng, today: u64) -> u64 {
+    let days = *rng.pick(&[0, -1, -30, -364, -365, -366, -367]);
+    moved(today, days).filter(|_| rng.chance(75)).unwrap_or(*rng.pick(&DATES))
+}
+
+/// A removal date: any, about today, or about 60 days before it.
+pub fn some_removal(rng: &mut Prng, today: u64) -> u64 {
+    let days = *rng.pick(&[1, 0, -1, -59, -60, -61, -62]);
+    moved(today, days).filter(|_| rng.chance(75)).unwrap_or(*rng.pick(&DATES))
+}
+
 pub fn some_consumption(rng: &mut Prng) -> u64 {
     *rng.pick(&[0, 1, 85, 86, 4_294_967_381, 9_999_999_999])
 }
@@ -95,7 +112,7 @@ fn some_request(rng: &mut Prng, ledger: &Ledger) -> Request {
         account,
         key,
         product,
-        billing: *rng.pick(&DATES),
+        billing: some_billing(rng, ledger.today().number().into()),
         from: *rng.pick(&DATES),
         consumption: same.unwrap_or(some_consumption(rng)),
         scheduled: some_day(rng, ledger.today(), 10),

@@ -23,7 +23,7 @@ struct Held<'a> {
 }
 
 pub fn drive(tally: &mut Tally) -> Result<(), String> {
-    let (words, out) = (Lent::new(&[u64::MAX; 2436], 1, 0), Lent::new(&[b'#'; OUTPUT], 2, 1));
+    let (words, out) = (Lent::new(&[u64::MAX; 2564], 1, 0), Lent::new(&[b'#'; OUTPUT], 2, 1));
     let mut held = Held { words, out, figures: Figures::new(7), tally };
     fresh(&mut held)?;
     request(&mut held)?;
@@ -33,6 +33,7 @@ pub fn drive(tally: &mut Tally) -> Result<(), String> {
     empty(&mut held)?;
     streamed(&mut held)?;
     by_calendar(&mut held)?;
+    removal(&mut held)?;
     days(&mut held)
 }
 
@@ -75,8 +76,8 @@ impl Held<'_> {
 fn fresh(held: &mut Held) -> Result<(), String> {
     held.change(&Call::Fresh { today: 20171113, tracking: 20171114, confirmation: 20171115 }, 0, [0; 4])?;
     held.words(0, 3, &[20171113, 20171114, 20171115, 0])?;
-    let blank = [0, 0, 0, 0, 0, 0, 66, 0, 0, 0, 0, 0, 0, 0, 0, 0, 0, 0, 0];
-    held.words.inside()[4..].chunks(19).try_for_each(|place| expect("a blank place", place, &blank))
+    let blank = [0, 0, 0, 0, 0, 0, 66, 0, 0, 0, 0, 0, 0, 0, 0, 0, 0, 0, 0, 0];
+    held.words.inside()[4..].chunks(20).try_for_each(|place| expect("a blank place", place, &blank))
 }
 
 /// Account, consumption and the three dates are all dates, and each would do for the other.
@@ -88,9 +89,9 @@ fn request(held: &mut Held) -> Result<(), String> {
     held.words(0, 3, &[20171113, 20171115, 20171116, 1])?;
     #[rustfmt::skip]
     let place = [
-        20171121, 22, 65, 55, 51, 57, 80, 1, 1, 0, 20171114, 20171125, 20171123, 20171124, 20171126, 0, 0, 0, 0,
+        20171121, 22, 65, 55, 51, 57, 80, 1, 1, 0, 20171114, 20171125, 20171123, 20171124, 20171126, 0, 0, 0, 0, 0,
     ];
-    held.words(4, 22, &place)?;
+    held.words(4, 23, &place)?;
     let out = held.out.inside();
     let header = b"34A7C3900002017112102017111401BIL201711130201711152017112601 ";
     expect("BIL header", &out[..61], header)?;
@@ -125,14 +126,14 @@ fn crossed(held: &mut Held) -> Result<(), String> {
         expect("place", held.figures.place.inside(), &[place])?;
     }
     // Posted by hand: 31 on the first, 32 on the second.
-    held.words.lend()[4 + 19 + 15..4 + 19 + 17].copy_from_slice(&[1, 31]);
-    held.words.lend()[4 + 38 + 15..4 + 38 + 17].copy_from_slice(&[1, 32]);
+    held.words.lend()[4 + 20 + 15..4 + 20 + 17].copy_from_slice(&[1, 31]);
+    held.words.lend()[4 + 40 + 15..4 + 40 + 17].copy_from_slice(&[1, 32]);
     held.amounts(12, 7, [32, 0, 32])
 }
 
 fn cancel_and_close(held: &mut Held) -> Result<(), String> {
     held.change(&Call::Cancel { account: 12, key: 7 }, -32, [642, 0, 0, 0])?;
-    let marks: Vec<u64> = (0..3).map(|place| held.words.inside()[4 + 19 * place + 9]).collect();
+    let marks: Vec<u64> = (0..3).map(|place| held.words.inside()[4 + 20 * place + 9]).collect();
     expect("cancelled", &marks[..], &[0, 0, 1])?;
     expect("CXL", &held.out.inside()[..28], b"34ZZC40000000000012020171117")?;
     held.change(&Call::Close { today: 20171114 }, 0, [0, 0, 0, 1])?;
@@ -148,9 +149,9 @@ fn streamed(held: &mut Held) -> Result<(), String> {
     held.entry(request, 999_999_999, 59, [642, 0, 0, 0])?;
     #[rustfmt::skip]
     let place = [
-        20171121, 22, 65, 55, 51, 57, 80, 1, 1, 0, 20171114, 20171125, 20171123, 20171124, 20171126, 0, 0, 0, 0,
+        20171121, 22, 65, 55, 51, 57, 80, 1, 1, 0, 20171114, 20171125, 20171123, 20171124, 20171126, 0, 0, 0, 0, 0,
     ];
-    held.words(4, 22, &place)?;
+    held.words(4, 23, &place)?;
     expect("BIL header", &held.out.inside()[..28], b"34A7C39000020171121020171114")?;
     // Posted by hand.
     held.words.lend()[19..23].copy_from_slice(&[2, 4250, 4000, 250]);
@@ -178,10 +179,27 @@ fn by_calendar(held: &mut Held) -> Result<(), String> {
     held.words(0, 3, &[20171113, 20171115, 20171116, 1])?;
     #[rustfmt::skip]
     let place = [
-        20171121, 22, 65, 55, 51, 57, 80, 1, 1, 0, 20171114, 20171125, 20171123, 20171124, 20171122, 0, 0, 0, 0,
+        20171121, 22, 65, 55, 51, 57, 80, 1, 1, 0, 20171114, 20171125, 20171123, 20171124, 20171122, 0, 0, 0, 0, 0,
     ];
-    held.words(4, 22, &place)?;
+    held.words(4, 23, &place)?;
     expect("BIL header", &held.out.inside()[41..58], b"02017111520171122")
+}
+
+/// One more bill on the same ledger; each bill's account is the date of the other's removal.
+fn removal(held: &mut Held) -> Result<(), String> {
+    let (code, account, key, product, consumption) = (*b"ZZC40", 20171122, 1, b'B', 85);
+    let (billing, from, scheduled) = (20171101, 20171001, 20171113);
+    let request = Request { code, account, key, product, billing, from, consumption, scheduled };
+    held.change(&Call::Request(request), 0, [642, 0, 0, 0])?;
+    let dates = |held: &Held| [23, 43, 63].map(|word| held.words.inside()[word]);
+    held.change(&Call::Removal { account: 20171121, date: 20171122 }, 0, [0; 4])?;
+    expect("removal dates", &dates(held), &[20171122, 0, 0])?;
+    held.change(&Call::Removal { account: 20171122, date: 20171121 }, 0, [0; 4])?;
+    expect("removal dates", &dates(held), &[20171122, 20171121, 0])?;
+    held.entry(b"\x05\x00\x1400002017112120171123\x00", 5, 23, [0; 4])?;
+    expect("change", held.figures.change.inside(), &[0])?;
+    expect("removal dates", &dates(held), &[20171123, 20171121, 0])?;
+    held.words(0, 3, &[20171113, 20171116, 20171117, 2])
 }
 
 /// Weekday, next business day and business day, by literal numbers; without holidays the pointer points nowhere.

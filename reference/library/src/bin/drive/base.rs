@@ -2,7 +2,7 @@
 
 use clearing::Request;
 use reference::groups::{self, Amounts};
-use reference::journal::{CLOSE, REQUEST};
+use reference::journal::{CLOSE, REMOVAL, REQUEST};
 use reference::table::LONGEST;
 use reference::verdict::Notification;
 use reference::words::{self, BLANK, FIELDS};
@@ -13,15 +13,17 @@ use crate::tally::Tally;
 
 pub type Place = [u64; FIELDS.len()];
 
-/// Bill Ready posted and not, Prepay posted and not, a cancelled one, and ones with a sequence above the count.
+/// Bill Ready posted and not, Prepay posted and not, a cancelled one, and ones with a sequence above the count; removed
+/// or not.
 #[rustfmt::skip]
 pub const BILLS: [Place; 6] = [
-    [123456780019, 7, 90, 90, 52, 48, 66, 1, 1, 0, 1, 85, 20171113, 20171013, 20171116, 1, 4250, 0, 0],
-    [123456780019, 8, 90, 90, 52, 48, 80, 2, 2, 0, 5, 86, 20171101, 20171001, 20171114, 2, 4250, 4000, 250],
-    [0, 0, 65, 57, 48, 55, 66, 3, 1, 0, 2, 0, 20000229, 19000101, 29991231, 0, 0, 0, 0],
-    [999999999999, 9999, 48, 48, 57, 57, 80, 999, 999, 0, 9, 9999999999, 20171113, 20171013, 20171112, 0, 0, 0, 0],
-    [7, 12, 90, 90, 52, 49, 66, 4, 3, 1, 4, 85, 20171113, 20171013, 20171116, 0, 0, 0, 0],
-    [12, 7, 90, 90, 52, 49, 80, 5, 2, 0, 6, 85, 20171113, 20171013, 20171113, 2, 9999999999999, 1, 9999999999998],
+    [123456780019, 7, 90, 90, 52, 48, 66, 1, 1, 0, 1, 85, 20171113, 20171013, 20171116, 1, 4250, 0, 0, 0],
+    [123456780019, 8, 90, 90, 52, 48, 80, 2, 2, 0, 5, 86, 20171101, 20171001, 20171114, 2, 4250, 4000, 250, 20171001],
+    [0, 0, 65, 57, 48, 55, 66, 3, 1, 0, 2, 0, 20000229, 19000101, 29991231, 0, 0, 0, 0, 19000101],
+    [999999999999, 9999, 48, 48, 57, 57, 80, 999, 999, 0, 9, 9999999999, 20171113, 20171013, 20171112, 0, 0, 0, 0,
+        20170914],
+    [7, 12, 90, 90, 52, 49, 66, 4, 3, 1, 4, 85, 20171113, 20171013, 20171116, 0, 0, 0, 0, 20170913],
+    [12, 7, 90, 90, 52, 49, 80, 5, 2, 0, 6, 85, 20171113, 20171013, 20171113, 2, 9999999999999, 1, 9999999999998, 0],
 ];
 
 /// A ledger of these bills.
@@ -51,6 +53,10 @@ fn undated(key: u64, consumption: u64) -> Request {
     Request { code, account, key, product, billing, from, consumption, scheduled }
 }
 
+fn entry(tag: u8, body: &[u8]) -> Call {
+    Call::Entry { journal: groups::entry(tag, body), seen: 1 }
+}
+
 /// Calls that the ledger of `BILLS` carries out, and ones that it refuses for another cause than 2; with their outputs.
 pub fn calls() -> Vec<(Call, usize)> {
     let request =
@@ -64,7 +70,6 @@ pub fn calls() -> Vec<(Call, usize)> {
     let amounts = Amounts { charge: 4000, applied: 0, owed: 4000, balance: 0 };
     let file = groups::file(&[groups::group(&sound.bills()[0], Notification::Rsp, amounts, sound.today())]);
     let body = b"ZZC401234567800190007B2017111020171010000000009020171113";
-    let entry = |tag: u8, body: &[u8]| Call::Entry { journal: groups::entry(tag, body), seen: 1 };
     vec![
         (request(7, 90, 20171113), 642),
         (request(9, 90, 20171116), 700),
@@ -80,6 +85,8 @@ pub fn calls() -> Vec<(Call, usize)> {
         (Call::Cancel { account: 7, key: 12 }, 0),
         (Call::Close { today: 20171117 }, 0),
         (Call::Close { today: 20171113 }, 0),
+        (Call::Removal { account: 123_456_780_019, date: 20171120 }, 0),
+        (Call::Removal { account: 8, date: 20171120 }, 0),
         (Call::OpenBill { account: 123_456_780_019 }, 0),
         (Call::OpenBill { account: 8 }, 0),
         (Call::Amounts { account: 123_456_780_019, key: 8 }, 0),
@@ -88,6 +95,7 @@ pub fn calls() -> Vec<(Call, usize)> {
         (Call::LedgerTable, LONGEST - 1),
         (entry(REQUEST, body), 642),
         (entry(CLOSE, b"20171113"), 0),
+        (entry(REMOVAL, b"00000000000720171120"), 0),
     ]
 }
 

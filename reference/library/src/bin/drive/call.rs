@@ -6,6 +6,7 @@ use clearing::{CalendarRequest, Request};
 use reference::calendar::FURTHEST;
 use reference::fields::{Product, RateCode};
 use reference::journal::{carry_out, fresh, start, Entry, Start};
+use reference::ledger::Done;
 use reference::notices::NOTICE_LENGTH;
 use reference::table;
 use reference::words::{consumption, date, identity, text};
@@ -35,6 +36,10 @@ pub enum Call {
     },
     Close {
         today: u64,
+    },
+    Removal {
+        account: u64,
+        date: u64,
     },
     OpenBill {
         account: u64,
@@ -72,6 +77,7 @@ impl Call {
             Call::File(_) => "file",
             Call::Cancel { .. } => "cancel",
             Call::Close { .. } => "close",
+            Call::Removal { .. } => "removal",
             Call::OpenBill { .. } => "open_bill",
             Call::Amounts { .. } => "amounts",
             Call::LedgerTable => "ledger_table",
@@ -115,26 +121,23 @@ impl Call {
             return answer_entry(start(journal, *seen), ledger, out);
         }
         let ledger = ledger.as_mut().ok_or(Cause::BadField)?;
+        let notice = |done: Done| figures(done.change, [done.written, 0, 0, 0]);
         match self {
             Call::Fresh { .. } | Call::Entry { .. } => unreachable!("answered above"),
-            Call::Request(request) => {
-                let done = ledger.request(&read(request).ok_or(Cause::BadField)?, Some(out))?;
-                Ok(figures(done.change, [done.written, 0, 0, 0]))
-            }
+            Call::Request(request) => ledger.request(&read(request).ok_or(Cause::BadField)?, Some(out)).map(notice),
             Call::Calendar { request, number, holidays } => {
                 let asked = read_by_calendar(&by_calendar(request, *number)).ok_or(Cause::BadField)?;
-                let done = ledger.request_by_calendar(&asked, holidays, Some(out))?;
-                Ok(figures(done.change, [done.written, 0, 0, 0]))
+                ledger.request_by_calendar(&asked, holidays, Some(out)).map(notice)
             }
             Call::File(file) => {
                 let done = ledger.file(file, Some(out))?;
                 Ok(figures(done.change, [done.written, done.accepted, done.rejected, 0]))
             }
-            Call::Cancel { account, key } => {
-                let done = ledger.cancel(&text(*account, 12), &text(*key, 4), Some(out))?;
-                Ok(figures(done.change, [done.written, 0, 0, 0]))
-            }
+            Call::Cancel { account, key } => ledger.cancel(&text(*account, 12), &text(*key, 4), Some(out)).map(notice),
             Call::Close { today } => Ok(figures(0, [0, 0, 0, ledger.close(&text(*today, 8))?])),
+            Call::Removal { account, date } => {
+                ledger.removal(&text(*account, 12), &text(*date, 8)).map(|()| figures(0, [0; 4]))
+            }
             Call::OpenBill { account } => ledger.open_bill(&text(*account, 12)).map(|_| Answer::Open),
             Call::Amounts { account, key } => {
                 let (charge, applied, owed) = ledger.amounts(&text(*account, 12), &text(*key, 4))?;
@@ -174,6 +177,7 @@ impl Call {
             Call::File(_) => vec![],
             Call::Cancel { account: a, key: k } | Call::Amounts { account: a, key: k } => vec![account(*a), key(*k)],
             Call::Close { today } => vec![day("today", *today)],
+            Call::Removal { account: a, date } => vec![account(*a), day("date", *date)],
             Call::OpenBill { account: a } => vec![account(*a)],
             Call::LedgerTable => vec![],
             Call::Entry { journal, seen } => vec![("body", entry::body_is_good(journal, *seen))],

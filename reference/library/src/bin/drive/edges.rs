@@ -50,6 +50,7 @@ fn edges() -> Vec<Change> {
         single(place(at) + 10, &[1, 999_999_999]);
         single(place(at) + 11, &[0, 9_999_999_999]);
         (12..15).for_each(|field| single(place(at) + field, &dates));
+        single(place(at) + 19, &[0, 19000101, 20000229, 20171114, 29991231]);
     }
     // Bills without amounts: the other product, the mark, a posted charge of 0.
     (2..5).for_each(|at| single(place(at) + 6, &[66, 80]));

@@ -1,8 +1,9 @@
 //! A journal entry as a call: what stands in the bytes lent, and the entry that makes a call.
 
+use reference::dates::Date;
 use reference::fields::digits;
 use reference::groups;
-use reference::journal::{start, Entry, Start, CANCEL, CLOSE, FILE, FRESH, REQUEST};
+use reference::journal::{start, Entry, Start, CANCEL, CLOSE, FILE, FRESH, REMOVAL, REQUEST};
 use reference::notices::NOTICE_LENGTH;
 use reference::words::text;
 use reference::Request;
@@ -22,9 +23,9 @@ pub fn told(journal: &[u8], seen: u64) -> [u64; 2] {
 pub fn fault(journal: &[u8], seen: u64) -> &'static str {
     let [tag, high, low, body @ ..] = journal else { return "cut short in tag or length" };
     let length = usize::from(*high) * 256 + usize::from(*low);
-    let lengths = [26..=26, 56..=56, 0..=64_200, 16..=16, 8..=8];
+    let lengths = [26..=26, 56..=56, 0..=64_200, 16..=16, 8..=8, 20..=20];
     match (*tag, seen) {
-        (5.., _) => "tag",
+        (6.., _) => "tag",
         (FRESH, 1..) => "fresh later",
         (1.., 0) => "another tag first",
         (_, 1_000_000_000..) => "after the 1,000,000,000th",
@@ -59,7 +60,8 @@ pub fn body_is_good(journal: &[u8], seen: u64) -> bool {
     match start(journal, seen) {
         Start::Entry(Entry::Request(body), _) => Request::read(body).is_ok(),
         Start::Entry(Entry::Cancel(body), _) => digits(body).is_some(),
-        Start::Entry(Entry::Close(body), _) => reference::dates::Date::read(body).is_some(),
+        Start::Entry(Entry::Close(body), _) => Date::read(body).is_some(),
+        Start::Entry(Entry::Removal(body), _) => digits(&body[..12]).is_some() && Date::read(&body[12..]).is_some(),
         _ => true,
     }
 }
@@ -80,6 +82,7 @@ pub fn of_call(call: &Call) -> Option<Vec<u8>> {
         Call::File(file) => (FILE, file.clone()),
         Call::Cancel { account, key } => (CANCEL, [field(*account, 12), field(*key, 4)].concat()),
         Call::Close { today } => (CLOSE, field(*today, 8)),
+        Call::Removal { account, date } => (REMOVAL, [field(*account, 12), field(*date, 8)].concat()),
         _ => return None,
     };
     (body.len() < 1 << 16).then(|| groups::entry(tag, &body))

@@ -4,7 +4,7 @@ use reference::generator::days::NO_DATES;
 use reference::prng::Prng;
 use reference::words::{self, BLANK, COUNT, FIELDS, HEAD, WORDS};
 
-use crate::aim::{some_call, some_consumption, DATES};
+use crate::aim::{some_billing, some_call, some_consumption, some_removal, DATES};
 use crate::both::Both;
 use crate::tally::Tally;
 
@@ -64,8 +64,9 @@ fn some_bill(rng: &mut Prng, today: u64, key: u64) -> Place {
     bill[4..6].copy_from_slice(&[*rng.pick(b"0459"), *rng.pick(b"0459")].map(u64::from));
     bill[6..10].copy_from_slice(&[product, sequence, *rng.pick(&[1, sequence, sequence.div_ceil(2)]), cancelled]);
     bill[10..12].copy_from_slice(&[*rng.pick(&[1, 77, 123_456_789, 999_999_999]), some_consumption(rng)]);
-    bill[12..15].copy_from_slice(&[*rng.pick(&DATES), *rng.pick(&DATES), scheduled]);
-    bill[15..].copy_from_slice(&amounts);
+    bill[12..15].copy_from_slice(&[some_billing(rng, today), *rng.pick(&DATES), scheduled]);
+    bill[15..19].copy_from_slice(&amounts);
+    bill[19] = if rng.chance(40) { 0 } else { some_removal(rng, today) };
     bill
 }
 
@@ -82,7 +83,7 @@ fn past_the_count(rng: &mut Prng, bill: Place) -> Place {
             place[15] %= 3;
             // Words that the kind does not use are 0.
             let unused = if place[15] == 2 { 19 } else { 16 + place[15] as usize };
-            place[unused..].fill(0);
+            place[unused..19].fill(0);
             place
         }
     }

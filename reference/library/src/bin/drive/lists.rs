@@ -101,5 +101,6 @@ fn call_of(entry: Entry, rng: &mut Prng) -> Call {
         Entry::File(file) => Call::File(file.to_vec()),
         Entry::Cancel(body) => Call::Cancel { account: number(&body[..12]), key: number(&body[12..]) },
         Entry::Close(body) => Call::Close { today: number(body) },
+        Entry::Removal(body) => Call::Removal { account: number(&body[..12]), date: number(&body[12..]) },
     }
 }

@@ -22,7 +22,7 @@ pub fn drive(tally: &mut Tally) -> Result<(), String> {
     Ok(())
 }
 
-fn calls(ledger: &Ledger, bill: &Bill) -> [Call; 7] {
+fn calls(ledger: &Ledger, bill: &Bill) -> [Call; 8] {
     let (account, key) = (bill.identity.account(), bill.identity.key());
     let amounts = Amounts { charge: 4000, applied: 1, owed: 3999, balance: 0 };
     let kind = if ledger.is_open(bill) { Notification::Rsp } else { Notification::Sup };
@@ -46,5 +46,6 @@ fn calls(ledger: &Ledger, bill: &Bill) -> [Call; 7] {
         Call::Request(request),
         Call::File(groups::file(&[groups::group(bill, kind, amounts, ledger.today())])),
         Call::Cancel { account, key },
+        Call::Removal { account, date: 20171110 },
     ]
 }

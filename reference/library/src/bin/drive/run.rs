@@ -114,14 +114,13 @@ pub fn run(call: &Call, words: &mut [u64], out: &mut [u8], figures: &mut Figures
         }
         Call::Cancel { account, key } => clearing::cancel(words, *account, *key, out, change, counts),
         Call::Close { today } => clearing::close(words, *today, change, counts),
+        Call::Removal { account, date } => clearing::removal(words, *account, *date, change, counts),
         Call::LedgerTable => clearing::ledger_table(words, out, &mut figures.written.lend()[0]),
         Call::OpenBill { account } => clearing::open_bill(words, *account, &mut figures.place.lend()[0]),
         Call::Amounts { account, key } => clearing::amounts(words, *account, *key, figures.three_amounts()),
     };
-    if *std::hint::black_box(&given) != *call {
-        return Err("an argument lent for reading was changed".into());
-    }
-    Ok(number)
+    let unchanged = *std::hint::black_box(&given) == *call;
+    unchanged.then_some(number).ok_or("an argument lent for reading was changed".into())
 }
 
 /// A look past the list would make tomorrow a holiday.

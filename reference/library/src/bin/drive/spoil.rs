@@ -38,6 +38,10 @@ pub fn spoil(rng: &mut Prng, call: &mut Call) {
             _ => *key = too_wide(rng, 4, *key),
         },
         Call::Close { today } => *today = *rng.pick(&NO_DATES),
+        Call::Removal { account, date } => match rng.below(2) {
+            0 => *account = too_wide(rng, 12, *account),
+            _ => *date = *rng.pick(&NO_DATES),
+        },
         Call::OpenBill { account } => *account = too_wide(rng, 12, *account),
         Call::LedgerTable | Call::Entry { .. } => {}
     }

@@ -2,7 +2,7 @@
 
 use reference::generator;
 use reference::groups::entry;
-use reference::journal::{replay, CANCEL, CLOSE, FILE, FRESH, REQUEST};
+use reference::journal::{replay, CANCEL, CLOSE, FILE, FRESH, REMOVAL, REQUEST};
 use reference::prng::Prng;
 use reference::words;
 
@@ -63,6 +63,12 @@ fn step(both: &mut Both, tally: &mut Tally, rng: &mut Prng, rest: &[u8], seen: u
     Ok(length)
 }
 
+/// Lengths about those of the entries, their two bytes in both orders.
+#[rustfmt::skip]
+const SIZES: [usize; 23] = [
+    0, 7, 8, 9, 15, 16, 17, 19, 20, 21, 25, 26, 27, 55, 56, 57, 321, 8 << 8, 20 << 8, 26 << 8, 64_200, 64_201, 65_535,
+];
+
 /// Every byte as a tag, lengths about the right ones, counts of entries about the limits, and a ledger of another
 /// length; each with the body whole, cut short by one and not there.
 pub fn heads(tally: &mut Tally) -> Result<(), String> {
@@ -70,8 +76,8 @@ pub fn heads(tally: &mut Tally) -> Result<(), String> {
     words::read(&words).ok_or("drive itself takes the ledger for unsound")?;
     for length in [words.len(), words.len() - 1] {
         for tag in 0..=255 {
-            for size in [0, 7, 8, 9, 15, 16, 17, 25, 26, 27, 55, 56, 57, 321, 8 << 8, 26 << 8, 64_200, 64_201, 65_535] {
-                if tag < 6 || size == 8 {
+            for size in SIZES {
+                if tag < 7 || size == 8 {
                     head(&words[..length], (tag, size), tally)
                         .map_err(|told| format!("tag {tag}, length {size}: {told}"))?;
                 }
@@ -96,12 +102,13 @@ fn head(words: &[u64], (tag, size): (u8, usize), tally: &mut Tally) -> Result<()
 
 /// Bodies that are carried out, byte by byte longer, up to one byte too many; and each byte of them made no digit.
 fn good_bodies(words: &[u64], tally: &mut Tally) -> Result<(), String> {
-    let bodies: [(u8, u64, &[u8]); 5] = [
+    let bodies: [(u8, u64, &[u8]); 6] = [
         (FRESH, 0, b"20171201000000005000000006"),
         (REQUEST, 1, b"ZZC401234567800190009B2017111020171010000000009020171116"),
         (FILE, 2, b""),
         (CANCEL, 3, b"0000000000120007"),
         (CLOSE, 999_999_999, b"20171117"),
+        (REMOVAL, 4, b"00000000001220171120"),
     ];
     for (tag, seen, body) in bodies {
         let good = [&entry(tag, body)[..], b"\x05"].concat();

@@ -6,13 +6,14 @@ use crate::call::Call;
 use crate::{days, entry};
 
 /// Every function, those on a ledger first, and the numbers that documents 01 and 02 allow for it.
-const ALLOWED: [(&str, &[u64]); 15] = [
+const ALLOWED: [(&str, &[u64]); 16] = [
     ("fresh", &[0, 2]),
     ("request", &[0, 1, 2, 3, 5, 6, 7, 8, 9, 12]),
     ("request_by_calendar", &[0, 1, 2, 3, 5, 6, 7, 8, 12, 14, 15]),
     ("file", &[0, 1, 2, 11, 12]),
     ("cancel", &[0, 1, 2, 4, 5, 12]),
     ("close", &[0, 2, 10]),
+    ("removal", &[0, 2, 4]),
     ("open_bill", &[0, 2, 4]),
     ("amounts", &[0, 2, 4]),
     ("ledger_table", &[0, 1, 2]),
@@ -24,10 +25,10 @@ const ALLOWED: [(&str, &[u64]); 15] = [
     ("business_day", &[0, 2, 14, 15]),
 ];
 /// How many of them take a ledger.
-const ON_LEDGERS: usize = 10;
+const ON_LEDGERS: usize = 11;
 
 /// Each argument that alone must have been the cause of a 2.
-const ARGUMENTS: [(&str, &[&str]); 11] = [
+const ARGUMENTS: [(&str, &[&str]); 12] = [
     ("fresh", &["today", "next Tracking ID", "next Confirmation Number"]),
     (
         "request",
@@ -39,6 +40,7 @@ const ARGUMENTS: [(&str, &[&str]); 11] = [
     ),
     ("cancel", &["account", "key"]),
     ("close", &["today"]),
+    ("removal", &["account", "date"]),
     ("open_bill", &["account"]),
     ("amounts", &["account", "key"]),
     ("entry", &["body"]),
