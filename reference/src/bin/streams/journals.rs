@@ -62,12 +62,13 @@ pub struct Journals {
     pub places: Vec<usize>,
 }
 
-/// So many bills, files of one RSP and of several, a cancel that is refused, a close.
+/// So many bills, files of one RSP and of several, a removal, a cancel that is refused, a close.
 fn journal(bills: usize, files: u64) -> io::Result<Vec<u8>> {
     let mut bytes = Vec::new();
     let mut work = Workload::new(&mut bytes, bills)?;
     work.responses(files, 1)?;
     work.responses(1, bills.min(3))?;
+    bytes.extend(entry(5, b"12345678000019000101"));
     bytes.extend(entry(3, b"9999999999999999"));
     bytes.extend(entry(2, b""));
     bytes.extend(entry(4, b"19000102"));
@@ -84,7 +85,9 @@ pub fn make(place: &Place, seeds: usize) -> io::Result<Journals> {
         ("another tag first", entry(4, b"20171120")),
         ("stray byte", with(&[4])),
         ("cut short in the body", with(&entry(4, b"20171120")[..8])),
-        ("bad tag", with(&entry(5, b""))),
+        ("cut short in a removal", with(&entry(5, b"12345678000019000101")[..15])),
+        ("removal of a wrong length", with(&entry(5, b"123456780000"))),
+        ("bad tag", with(&entry(6, b""))),
         ("bad entry, then good ones", [with(&entry(0, b"")), small.clone()].concat()),
     ];
     let of_length =
