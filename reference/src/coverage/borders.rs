@@ -29,10 +29,12 @@ pub const LABELS: &[&str] = &[
     "SUP accepted on 28 February, billed on the 29th",
     "SUP accepted on day 60",
     "SUP accepted, removal date after today",
+    "SUP accepted, over a year by the group's Billing Date",
     "SUP accepted, billed in 2999",
     "SUP accepted, day 60 after 29991231",
     "SUP BR12 the day after the anniversary",
     "SUP BR12 on 1 March, billed on 29 February",
+    "SUP BR12, in time by the group's Billing Date",
     "SUP BR12, BR13 true too",
     "SUP BR12, BR05 true too",
     "SUP BR13 on day 61",
@@ -89,7 +91,8 @@ impl Coverage {
     pub(super) fn last_days(&mut self, today: Date, bill: &Bill, group: &Group, kind: &str, outcome: &str) {
         let today = u64::from(today.number());
         let removal = bill.removal_date.map(|date| u64::from(date.number()));
-        let (year, sixty) = (anniversary(bill), removal.and_then(|date| moved(date, 60)));
+        let (year, sixty) = (anniversary(bill.billing_date), removal.and_then(|date| moved(date, 60)));
+        let of_group = Date::read(at(&group.details[0], 46, 53)).and_then(anniversary);
         let over = |last: Option<u64>| last.is_some_and(|last| today > last);
         let first_over = |last: Option<u64>| last.and_then(|last| moved(last, 1)) == Some(today);
         let leap_day = bill.billing_date.number() % 10_000 == 229;
@@ -100,12 +103,14 @@ impl Coverage {
                 (year == Some(today) && leap_day, " on 28 February, billed on the 29th"),
                 (sixty == Some(today), " on day 60"),
                 (removal > Some(today), ", removal date after today"),
+                (over(of_group), ", over a year by the group's Billing Date"),
                 (bill.billing_date.number() > 29990000, ", billed in 2999"),
                 (removal.is_some() && sixty.is_none(), ", day 60 after 29991231"),
             ],
             ("SUP", "BR12") => &[
                 (first_over(year), " the day after the anniversary"),
                 (first_over(year) && leap_day, " on 1 March, billed on 29 February"),
+                (of_group >= Some(today), ", in time by the group's Billing Date"),
                 (over(sixty), ", BR13 true too"),
                 (sequence, ", BR05 true too"),
             ],
@@ -119,8 +124,8 @@ impl Coverage {
 }
 
 /// The date with the same month and day 366 days on, else the one 365 days on, which for 29 February is the 28th.
-fn anniversary(bill: &Bill) -> Option<u64> {
-    let billing = u64::from(bill.billing_date.number());
+fn anniversary(billing: Date) -> Option<u64> {
+    let billing = u64::from(billing.number());
     let same_day = |date: &u64| date % 10_000 == billing % 10_000;
     moved(billing, 366).filter(same_day).or_else(|| moved(billing, 365))
 }

@@ -179,6 +179,9 @@ impl Maker {
         self.spread(&mut sent.details[0], 7, 10, bill.consumption.0);
         self.spread(&mut sent.details[0], 17, 13, charge);
         self.litter(&mut sent, bill.product, kind);
+        if kind == Notification::Sup && self.rng.chance(40) {
+            self.redate(&mut sent, bill);
+        }
         sent
     }
 

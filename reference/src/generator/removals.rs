@@ -6,8 +6,10 @@ use super::spoils::TURN;
 use super::{filled, Maker};
 use crate::calendar::moved;
 use crate::dates::Date;
-use crate::groups;
+use crate::file::number;
+use crate::groups::{self, Sent};
 use crate::journal::{CLOSE, FILE, REMOVAL, REQUEST};
+use crate::ledger::Bill;
 use crate::verdict::Notification;
 
 const FAR_DATES: [u32; 7] = [19000101, 20000229, 20160229, 20171113, 29991101, 29991102, 29991231];
@@ -113,6 +115,17 @@ impl Maker {
         }
         groups.push(sent);
         self.push(FILE, &groups::file(&groups));
+    }
+
+    /// Puts dates into the fields of a SUP that no line reads: the bill's Billing Date, today, far ones.
+    pub fn redate(&mut self, sent: &mut Sent, bill: &Bill) {
+        let dates = [bill.billing_date.number(), self.ledger.today().number(), 19000101, 29991231];
+        for position in [34, 51] {
+            number(&mut sent.header, position, 8, u64::from(*self.rng.pick(&dates)));
+        }
+        for position in [34, 46, 80] {
+            number(&mut sent.details[0], position, 8, u64::from(*self.rng.pick(&dates)));
+        }
     }
 }
 
