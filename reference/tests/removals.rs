@@ -8,6 +8,8 @@ use reference::generator::days::some_start;
 use reference::groups;
 use reference::history::{Call, History};
 use reference::prng::Prng;
+use reference::trace::trace;
+use reference::workload::Workload;
 use reference::{Cause, Ledger};
 
 /// The Bill Ready bill billed on a date, issued, and removed on another if there is one; then it is this day.
@@ -181,6 +183,23 @@ fn causes() {
     let mut last = Ledger::fresh(b"20171113", b"999999999", b"999999999").unwrap();
     request(&mut last, BILL_READY).unwrap();
     assert_eq!(last.removal(ACCOUNT, b"20171113"), Ok(()));
+}
+
+#[test]
+fn journals_for_measuring() {
+    let (mut removals, mut late) = (Vec::new(), Vec::new());
+    Workload::new(&mut removals, 128).unwrap().removals(300).unwrap();
+    Workload::new(&mut late, 0).unwrap().late_supplements(200).unwrap();
+    let count = |journal: &[u8], words: &str| {
+        let mut lines = Vec::new();
+        trace(journal, &mut lines).unwrap();
+        String::from_utf8(lines).unwrap().lines().filter(|line| line.contains(words)).count()
+    };
+    assert_eq!([",removal,00,", ",SUP,"].map(|words| count(&removals, words)), [300, 0]);
+    assert_eq!(
+        [",removal,00,", ",SUP,BR13", ",SUP,BR12", ",SUP,"].map(|words| count(&late, words)),
+        [128, 100, 100, 200]
+    );
 }
 
 /// The ledger's code and the history's for one bill, on the days about each of its last days.
