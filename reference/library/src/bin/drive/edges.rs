@@ -1,8 +1,12 @@
-//! Words at the edge of their range, which are still sound, and words past the count, which change no answer.
+//! Words at the edge of their range, which are still sound, words past the count, which change no answer, and removals
+//! at the edge of theirs.
 
+use reference::generator::days::NO_DATES;
 use reference::words::{self, place, BLANK, COUNT};
 
 use crate::base::{changed, describe, ledger, numbers, Change, BILLS};
+use crate::both::Both;
+use crate::call::Call;
 use crate::tally::Tally;
 
 pub fn drive(tally: &mut Tally) -> Result<(), String> {
@@ -19,6 +23,23 @@ pub fn drive(tally: &mut Tally) -> Result<(), String> {
     for change in past_the_count() {
         if try_change(&words, &change, tally)? != plain {
             return Err(format!("{}: an answer changed", describe(&change)));
+        }
+    }
+    removals(&words, tally)
+}
+
+/// Accounts and dates of a removal at the edge of their range, and past it.
+fn removals(words: &[u64], tally: &mut Tally) -> Result<(), String> {
+    let known = BILLS[0][0];
+    let dates = [19000101, 20000229, 29991231].map(|date| (known, date, 0));
+    let no_dates = NO_DATES.map(|date| (known, date, 2));
+    let others = [0, 10_u64.pow(12) - 1].map(|account| (account, 20171120, 0));
+    let too_wide = [10_u64.pow(12), 10_u64.pow(12) + known, known + (1 << 40), known + (1 << 63), u64::MAX];
+    let too_wide = too_wide.map(|account| (account, 20171120, 2));
+    for (account, date, wanted) in [&dates[..], &no_dates, &others, &too_wide].concat() {
+        let call = Call::Removal { account, date };
+        if Both::of(words).plain(tally, &call)? != wanted {
+            return Err(format!("{call}: not {wanted}"));
         }
     }
     Ok(())
