@@ -9,7 +9,7 @@
  * holidays, the ledger of a lookup) always stays as it is. Output past the bytes written is untouched. Nothing is kept
  * between calls, and nothing but what was lent is read or written. A call needs no heap. Stack: less than 8 KB for a
  * call, a lookup, the calendar, clearing_entry and clearing_ledger_table, 32 KB for clearing_table (measured), 192 KB
- * for clearing_notices (tested: 128,400 bytes of it are the buffer of the last notices, 39,000 its ledgers).
+ * for clearing_notices (tested: 128,400 bytes of it are the buffer of the last notices, 41,000 its ledgers).
  *
  * Pointers may not be null, must be aligned for their type and may not overlap one another; a pointer with a length
  * must have that many elements, and for an empty one (length 0) any pointer that is not null will do.
