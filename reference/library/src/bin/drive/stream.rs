@@ -70,12 +70,13 @@ const SIZES: [usize; 23] = [
 ];
 
 /// Every byte as a tag, lengths about the right ones, counts of entries about the limits, and a ledger of another
-/// length; each with the body whole, cut short by one and not there.
+/// length; each with the body whole, cut short by one and not there, and each tag with no whole length.
 pub fn heads(tally: &mut Tally) -> Result<(), String> {
     let words = ledger(&BILLS);
     words::read(&words).ok_or("drive itself takes the ledger for unsound")?;
     for length in [words.len(), words.len() - 1] {
         for tag in 0..=255 {
+            cut_short(&words[..length], tag, tally).map_err(|told| format!("tag {tag}, cut short: {told}"))?;
             for size in SIZES {
                 if tag < 7 || size == 8 {
                     head(&words[..length], (tag, size), tally)
@@ -85,6 +86,16 @@ pub fn heads(tally: &mut Tally) -> Result<(), String> {
         }
     }
     good_bodies(&words, tally)
+}
+
+/// A tag alone, and with the first byte of a length.
+fn cut_short(words: &[u64], tag: u8, tally: &mut Tally) -> Result<(), String> {
+    for seen in [0, 1, 1_000_000_000] {
+        for journal in [vec![tag], vec![tag, 0]] {
+            Both::of(words).call(tally, &Call::Entry { journal, seen }, 642)?;
+        }
+    }
+    Ok(())
 }
 
 fn head(words: &[u64], (tag, size): (u8, usize), tally: &mut Tally) -> Result<(), String> {
