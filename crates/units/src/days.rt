@@ -2,7 +2,7 @@
 // or so many days past another.
 ghost use mathlib.Core.Path.{_≡_};
 ghost use mathlib.Core.Bool.{true};
-ghost use Prim.Native.Nat.{_-_, _≤_, _<_};
+ghost use Prim.Native.Nat.{_-_, _≤_, _<_, _^_};
 ghost use Rattle.rules.specs.declared.Found.the-variants.{At};
 ghost use Rattle.units.specs.Calendar.{isDate};
 ghost use Rattle.units.specs.Days.{lastDate, daysOfYears, daysOfMonths, dayNumber, weekday, nextDate, yearPast, daysPast};
@@ -87,7 +87,7 @@ impl Date {
 
     // Whether it is more than n days past another date.
     pub fn is_days_past(self, n: u64, from: Date) -> bool
-        requires { ⌜ (isDate (self .0) ≡ true) × (isDate (from .0) ≡ true) × (n ≤ 1000) ⌝ }
+        requires { ⌜ (isDate (self .0) ≡ true) × (isDate (from .0) ≡ true) × (n < 2 ^ 63) ⌝ }
         ensures { λ r. ⌜ r ≡ daysPast n (from .0) (self .0) ⌝ }
     {
         from.number() + n < self.number()
