@@ -6,4 +6,5 @@ pub mod DemandsHold
 pub mod PapersHold
 pub mod Anniversary
 pub mod SupDates
+pub mod NoRemovals
 pub mod PaperTwo

@@ -24,7 +24,7 @@ use Rattle.ledger.proofs.SoundLaws.{ledger-count}
 use Rattle.causes.specs.declared.AccountRemoval.{AccountRemoval}
 use Rattle.causes.specs.Causes.{removal, removalCauses}
 use Rattle.calls.specs.declared.Called.{Called}
-use Rattle.calls.specs.Machine.{nextWritten, outcome, causeIn, stepIn, called}
+use Rattle.calls.specs.Machine.{fresh, nextWritten, outcome, causeIn, stepIn, called}
 use Rattle.calls.specs.Days.{quietAnswer}
 use Rattle.calls.proofs.CallLaws.{clear-sound}
 use Rattle.calls.proofs.RemovalCalls.{removal-cause, removal-done}
@@ -32,6 +32,7 @@ use Rattle.history.proofs.CaseProofs.{removals-hold}
 use Rattle.statements.specs.Papers.{RemovalMade, Paper2}
 use Rattle.statements.proofs.Anniversary.{one-year-on}
 use Rattle.statements.proofs.SupDates.{sup-dates}
+use Rattle.statements.proofs.NoRemovals.{none-removed}
 
 -- each of the first n bills, with f applied to it
 first-at : (f : Bill → Bill) (n : ℕ) (bs : List Bill) (i : ℕ) (d : Bill) → i < n → i < length bs → getD (mapFirst f n bs) i d ≡ f (getD bs i d)
@@ -78,6 +79,7 @@ pub paper-2 : Paper2
 paper-2 =
     record {
       empty = λ id code p latest. refl;
+      untilThen = λ s cs n. none-removed cs (fresh s) n refl;
       made = removal-made;
       refused = λ l a h. removal-cause l a h (has (ofAccount (a .account)) (live l)) refl _ _ refl refl;
       dates = sup-dates;

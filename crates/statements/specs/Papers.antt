@@ -2,14 +2,14 @@
 -- proofs/PaperTwo) fill them in. Assumes nothing.
 use Prim.Native.Nat.{ℕ, _≤_, _<_, _+_, _%_}
 use mathlib.Core.Path.{_≡_}
-use mathlib.Core.Bool.{true, false, cond}
+use mathlib.Core.Bool.{Bool, true, false, cond}
 use mathlib.Core.List.{List, []}
 use lib.Dec.{eqb}
 use lib.ListN.{length, getD}
 use Rattle.rules.specs.declared.Found.the-variants.{At}
 use Rattle.rules.specs.declared.Check.the-variants.{Clear, Stop}
 use Rattle.rules.specs.Rules.{first}
-use Rattle.rules.specs.Lists.{has}
+use Rattle.rules.specs.Lists.{every, has}
 use Rattle.units.specs.Calendar.{isDate, year, month, day}
 use Rattle.units.specs.declared.Date.{Date}
 use Rattle.units.specs.Days.{dayNumber, yearOn}
@@ -20,8 +20,10 @@ use Rattle.ledger.specs.declared.Identity.{Identity}
 use Rattle.ledger.specs.declared.RateCode.{RateCode}
 use Rattle.ledger.specs.declared.Product.{Product}
 use Rattle.ledger.specs.declared.Latest.{Latest}
+use Rattle.ledger.specs.declared.Removal.{Removal}
 use Rattle.ledger.specs.declared.Removal.the-variants.{Never, On}
 use Rattle.ledger.specs.declared.Terms.{Terms}
+use Rattle.ledger.specs.declared.Bill.{Bill}
 use Rattle.ledger.specs.Bills.{isOpen, blankBill, firstBill, removedBill}
 use Rattle.ledger.specs.Books.{live, ofAccount}
 use Rattle.ledger.specs.Sound.{soundLedger}
@@ -29,10 +31,11 @@ use Rattle.ledger.specs.Limits.{ledgerPlaces}
 use Rattle.verdict.specs.declared.Notification.the-variants.{Response, Supplement}
 use Rattle.verdict.specs.Lines.{removalDays, line6}
 use Rattle.causes.specs.declared.CalendarRequest.{CalendarRequest}
-use Rattle.causes.specs.Causes.{Call, request, calendar, workedOut, scheduleCauses, removal, removalCauses}
+use Rattle.causes.specs.declared.Start.{Start}
+use Rattle.causes.specs.Causes.{Call, request, calendar, file, cancel, close, removal, workedOut, scheduleCauses, removalCauses}
 use Rattle.calls.specs.declared.Answer.the-variants as answer
 use Rattle.causes.specs.declared.AccountRemoval.{AccountRemoval}
-use Rattle.calls.specs.Machine.{stepIn, called, causeIn}
+use Rattle.calls.specs.Machine.{fresh, after, causeIn, stepIn, called}
 use Rattle.calls.specs.Days.{quietAnswer}
 use Rattle.history.specs.Claim.{All}
 use Rattle.history.specs.Cases.{Holds}
@@ -99,9 +102,27 @@ pub record SupDates (today : Date) (h d : List ℕ) (t : Terms) : Type 0 where
   -- an RSP gets neither
   pub response : (n : ℕ) → first (line6 Response today h d t) ≡ Stop n → (n ≡ 12 → ⊥) × (n ≡ 13 → ⊥)
 
+-- a removal, and a bill without a removal date
+abbrev pub isRemoval : Call → Bool
+isRemoval (request r room) = false
+isRemoval (calendar q hs room) = false
+isRemoval (file s room) = false
+isRemoval (cancel id room) = false
+isRemoval (close d) = false
+isRemoval (removal a) = true
+
+abbrev pub isEmpty : Removal → Bool
+isEmpty Never = true
+isEmpty (On d) = false
+
+abbrev pub noRemoval : Bill → Bool
+noRemoval b = isEmpty (b .terms .removal)
+
 pub record Paper2 : Type 0 where
   -- "A bill record gains a removal date, empty until a removal call sets it"
   pub empty : (id : Identity) (code : RateCode) (p : Product) (latest : Latest) → firstBill id code p latest .terms .removal ≡ Never
+  -- "until": where no removal stands among the calls, as in a journal without tag 5, no bill has a removal date, so that no SUP gets BR13 (`SupDates`)
+  pub untilThen : (s : Start) (cs : List Call) → has isRemoval cs ≡ false → every noRemoval (after (fresh s) cs .bills) ≡ true
   pub made : (l : Ledger) (a : AccountRemoval) → length (l .bills) ≡ ledgerPlaces → causeIn l (removal a) ≡ Clear → RemovalMade l a
   -- "The call gives 2, or 4 for an account without bills."
   pub refused : (l : Ledger) (a : AccountRemoval) → soundLedger l ≡ true
