@@ -144,7 +144,8 @@ uint64_t clearing_removal(uint64_t *ledger, size_t ledger_len, uint64_t account,
 
 /* The lookups read the ledger and leave it alone. */
 
-/* place: that of an open bill of the account, from 0; which one, where there are several, is free. Refused: 2, 4. */
+/* place: that of the account's open bill with the earliest Scheduled Date, from 0; of equals the one first requested,
+   which is the lowest place. Refused: 2, 4 (the account has no open bill). */
 uint64_t clearing_open_bill(const uint64_t *ledger, size_t ledger_len, uint64_t account, uint64_t *place);
 
 /* amounts: charge, applied and owed of one bill; zeros for none, owed the charge for Bill Ready. Refused: 2, 4. */

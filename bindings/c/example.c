@@ -1,7 +1,7 @@
 /* Document 01's example through the calls and lookups, its dates through the calendar, a SUP that is late after a
-   removal, then the example through the table and streamed entry by entry; prints what the calendar found, what the SUP
-   got, the table of the journal and that of the ledger which the entries left. Any other answer than expected ends it
-   with status 1. */
+   removal, the open bills of an account as they fall due, then the example through the table and streamed entry by entry;
+   prints what the calendar found, what the SUP got, the order of the bills, the table of the journal and that of the
+   ledger which the entries left. Any other answer than expected ends it with status 1. */
 #include "clearing.h"
 
 #include <assert.h>
@@ -172,6 +172,38 @@ static int try_removal(const uint8_t *file) {
     return good;
 }
 
+/* Requests a bill of the example's account. */
+static int request_due(uint64_t key, uint64_t scheduled) {
+    const uint8_t code[5] = {'Z', 'Z', 'C', '4', '0'};
+    return expect("request",
+                  clearing_request(ledger, CLEARING_WORDS, code, 123456780019, key, 'B', 20171113, 20171013, 85,
+                                   scheduled, out, CLEARING_NOTICE_BYTES, &change, counts),
+                  CLEARING_DONE);
+}
+
+/* Three open bills, two of them due on the same day: each is cancelled once it was named, until there is none. */
+static int try_due(void) {
+    const uint64_t account = 123456780019, named[3] = {1, 2, 0};
+    uint64_t place = 99;
+    int good = expect("fresh", clearing_fresh(ledger, CLEARING_WORDS, 20171113, 1, 1, &change, counts), CLEARING_DONE)
+        && request_due(7, 20171117) && request_due(8, 20171116) && request_due(9, 20171116);
+    printf("due first:");
+    for (size_t i = 0; i < 3; i++) {
+        good = good
+            && expect("open bill", clearing_open_bill(ledger, CLEARING_WORDS, account, &place), CLEARING_DONE)
+            && expect("place", place, named[i])
+            && expect("cancel",
+                      clearing_cancel(ledger, CLEARING_WORDS, account, 7 + place, out, CLEARING_NOTICE_BYTES, &change,
+                                      counts),
+                      CLEARING_DONE);
+        printf(" %04llu", (unsigned long long)ledger[CLEARING_PLACE(place) + CLEARING_KEY]);
+    }
+    printf("\n");
+    return good
+        && expect("no open bill", clearing_open_bill(ledger, CLEARING_WORDS, account, &place), CLEARING_NO_SUCH_BILL)
+        && expect("place", place, 0);
+}
+
 /* Streams a journal, lending 100 bytes more of it where an entry is cut short. */
 static int try_stream(const uint8_t *journal, size_t length) {
     uint64_t seen = 0, found[2] = {9, 9};
@@ -203,7 +235,7 @@ int main(void) {
     uint64_t result[2] = {9, 9}, written = 9;
     make_file(file);
     size_t length = make_journal(journal, file);
-    if (!try_calls(file) || !try_calendar() || !try_removal(file)
+    if (!try_calls(file) || !try_calendar() || !try_removal(file) || !try_due()
         || !expect("notices", clearing_notices(journal, length, out, sizeof out, result), CLEARING_DONE)
         || !expect("bytes of the notices", result[0], 3 * CLEARING_RECORD_BYTES)
         || !expect("table", clearing_table(journal, length, out, sizeof out, result), CLEARING_DONE)

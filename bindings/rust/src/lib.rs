@@ -157,7 +157,7 @@ pub fn removal(ledger: &mut [u64], account: u64, date: u64, change: &mut i64, co
     unsafe { raw::clearing_removal(words, length, account, date, change, counts.as_mut_ptr()) }
 }
 
-/// The place of an open bill of an account.
+/// The place of the open bill of an account that is due first; of equals the one first requested.
 pub fn open_bill(ledger: &[u64], account: u64, place: &mut u64) -> u64 {
     // SAFETY: as for fresh.
     unsafe { raw::clearing_open_bill(ledger.as_ptr(), ledger.len(), account, place) }

@@ -24,7 +24,6 @@ use Rattle.lookups.specs.declared.Place.the-variants as place
 use Rattle.lookups.specs.declared.Amounts.{Amounts}
 use Rattle.lookups.specs.declared.Amounts.the-variants as amounts
 use Rattle.calls.specs.Days.{freshCalled}
-use Rattle.lookups.specs.Lookups.{OpenBill}
 use Rattle.journal.specs.declared.Body.{Body}
 use Rattle.journal.specs.declared.Body.the-variants as body
 use Rattle.journal.specs.declared.Head.{Head}
@@ -146,13 +145,6 @@ placeNumber (place.Refused n) = n
 abbrev pub placeLeft : ℕ → Place → ℕ
 placeLeft x (place.At p) = p
 placeLeft x (place.Refused n) = x
-
--- the number answered and the place after a lookup of an open bill; "which one is free"
-pub record Opens (l : Ledger) (account x x₁ n : ℕ) : Type 0 where
-  pub found : Place
-  pub bill : OpenBill l account found
-  pub number : n ≡ placeNumber found
-  pub place : x₁ ≡ placeLeft x found
 
 abbrev pub amountsNumber : Amounts → ℕ
 amountsNumber (amounts.Posted charge applied owed) = 0

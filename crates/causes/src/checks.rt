@@ -34,7 +34,7 @@ pub fn lacks(tracking: u64, confirmation: u64, t: u64, c: u64) -> bool
 pub fn good_identity(id: Identity) -> bool
     ensures { λ r. ⌜ r ≡ goodIdentity id ⌝ }
 {
-    (id.account < 1000000000000) & (id.key < 10000)
+    (id.account < ledger::ACCOUNT_END) & (id.key < ledger::KEY_END)
 }
 
 // The rate code that five bytes hold.
@@ -237,7 +237,7 @@ fn good_removal(a: AccountRemoval) -> bool
     ensures { λ r. ⌜ r ≡ goodRemoval a ⌝ }
 {
     let date = a.date;
-    (a.account < 1000000000000) & date.valid()
+    (a.account < ledger::ACCOUNT_END) & date.valid()
 }
 
 // The first cause against a removal: held says whether there is a bill of the account.

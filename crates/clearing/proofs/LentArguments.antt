@@ -25,7 +25,8 @@ use Rattle.causes.specs.Causes.{Call, close, removal, calendar}
 use Rattle.calls.specs.declared.Called.{Called}
 use Rattle.calls.specs.Machine.{stepIn, called}
 use Rattle.lookups.specs.declared.Amounts.{Amounts}
-use Rattle.lookups.specs.Lookups.{amountsIn}
+use Rattle.lookups.specs.declared.Place.{Place}
+use Rattle.lookups.specs.Lookups.{openIn, amountsIn}
 use Rattle.lookups.proofs.Amounts as A
 use Rattle.lookups.proofs.Amounts.Laws as A′
 use Rattle.lookups.proofs.Place as P
@@ -56,12 +57,16 @@ amounts = enumerated A.the-type A′.the-laws tt A′.the-plain A′.the-copy
 abbrev pub place : Arg P.the-row
 place = enumerated P.the-type P′.the-laws tt P′.the-plain P′.the-copy
 
--- a close, a removal, and the amounts of a bill
+-- a close and a removal
 abbrev pub closed : Ledger → Date → Called
 closed l d = called l (close d)
 
 abbrev pub removed : Ledger → AccountRemoval → Called
 removed l a = called l (removal a)
+
+-- the lookups: an open bill of an account, the amounts of a bill
+abbrev pub Named : Ledger → ℕ → Place → Type 0
+Named l account r = r ≡ openIn l account
 
 abbrev pub Found : Ledger → Identity → Amounts → Type 0
 Found l id r = r ≡ amountsIn l id

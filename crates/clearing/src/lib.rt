@@ -5,7 +5,7 @@ ghost use Rattle.causes.specs.Causes.{request, calendar, file, cancel, close, r
 ghost use Rattle.calls.specs.Machine.{called};
 ghost use Rattle.calls.specs.Days.{freshCalled};
 ghost use Rattle.clearing.specs.LentLeaves.{LentLeaves};
-ghost use Rattle.lookups.specs.Lookups.{OpenBill, amountsIn};
+ghost use Rattle.lookups.specs.Lookups.{openIn, amountsIn};
 use calls::Answer;
 use causes::AccountRemoval;
 use causes::CalendarRequest;
@@ -85,9 +85,9 @@ pub fn take_file(ledger: &mut Ledger, s: &[u8], out: &mut [u8]) -> Answer
     c.answer
 }
 
-// The place of an open bill of an account.
+// The place of the open bill of an account that is due first; of equals it is the one first requested.
 pub fn open_bill_of(ledger: &Ledger, account: u64) -> Place
-    ensures { λ a. ⌜ OpenBill (now (ledger .entry)) account a ⌝ }
+    ensures { λ a. ⌜ a ≡ openIn (now (ledger .entry)) account ⌝ }
 {
     lookups::open_bill_of(*ledger, account)
 }

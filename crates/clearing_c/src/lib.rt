@@ -10,9 +10,9 @@ ghost use Rattle.fields.specs.Put.{put};
 ghost use Rattle.words.specs.Layout.{ledgerOf};
 ghost use Rattle.causes.specs.Causes.{request, calendar, file, cancel, close, removal};
 ghost use Rattle.calls.specs.Machine.{stepIn, called};
-ghost use Rattle.lookups.specs.Lookups.{amountsIn};
+ghost use Rattle.lookups.specs.Lookups.{openIn, amountsIn};
 ghost use Rattle.journal.specs.Entries.{headOf};
-ghost use Rattle.boundary.specs.Boundary.{startOf, identityFrom, removalFrom, requestOf, calendarOf, freshIn, Gives, headCalled, headWritten, headFound, Opens, amountsNumber, amountsLeft, Prints};
+ghost use Rattle.boundary.specs.Boundary.{startOf, identityFrom, removalFrom, requestOf, calendarOf, freshIn, Gives, headCalled, headWritten, headFound, placeNumber, placeLeft, amountsNumber, amountsLeft, Prints};
 ghost use Rattle.units.specs.Calendar.{dateOf};
 use causes::AccountRemoval;
 use causes::CalendarRequest;
@@ -201,10 +201,11 @@ pub extern "C" fn clearing_cancel(
     boundary::call(ledger, out, change, counts, Body::Cancel(id), b"")
 }
 
-// Lookup: the place of an open bill of an account.
+// Lookup: the place of the open bill of an account that is due first; of equals it is the one first requested.
 #[no_mangle]
 pub extern "C" fn clearing_open_bill(ledger: &[u64], account: u64, place: &mut u64) -> u64
-    ensures { λ n. ⌜ Opens (ledgerOf (now (ledger .entry))) account (now (place .entry)) (now (place .exit)) n ⌝ }
+    ensures { λ n. ⌜ n ≡ placeNumber (openIn (ledgerOf (now (ledger .entry))) account) ⌝ }
+    ensures { λ _. ⌜ now (place .exit) ≡ placeLeft (now (place .entry)) (openIn (ledgerOf (now (ledger .entry))) account) ⌝ }
 {
     let found = lookups_in_words::open_bill_in(ledger, account);
     match found {

@@ -19,7 +19,12 @@ pub const LAST_NUMBER: u64 = 999999999;
 
 pub const USED_UP: u64 = 1000000000;
 
-// What identifies a bill: Customer Account Number (12 digits) and Bill Key (4).
+// The first number past the 12 digits of a Customer Account Number, and past the 4 of a Bill Key.
+pub const ACCOUNT_END: u64 = 1000000000000;
+
+pub const KEY_END: u64 = 10000;
+
+// What identifies a bill: Customer Account Number and Bill Key.
 pub struct Identity {
     pub account: u64,
     pub key: u64,

@@ -55,8 +55,8 @@ impl Terms {
         let code = self.code;
         let latest = self.latest;
         let removal = self.removal;
-        (id.account < 1000000000000)
-            & (id.key < 10000)
+        (id.account < crate::ACCOUNT_END)
+            & (id.key < crate::KEY_END)
             & code.valid()
             & (1 <= self.requests)
             & (self.requests <= self.sequence)

@@ -1,2 +1,3 @@
 -- The two lookups.
 pub mod Lookups
+pub mod parts

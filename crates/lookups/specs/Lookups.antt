@@ -1,20 +1,20 @@
--- "Lookups, journal and table": an open bill of an account, and the amounts of one bill. A lookup changes nothing. Assumes nothing.
-use Prim.Native.Nat.{ℕ, _<_}
-use mathlib.Core.Path.{_≡_}
-use mathlib.Core.Bool.{Bool, true, not, _&&_}
+-- "Lookups, journal and table": the open bill of an account that is due first, and the amounts of one bill. A lookup changes nothing. Assumes nothing.
+use Prim.Native.Nat.{ℕ}
+use mathlib.Core.Bool.{Bool, not, _&&_}
 use mathlib.Core.List.{List, [], _∷_}
-use lib.Dec.{eqb}
-use lib.ListN.{getD}
+use lib.Dec.{eqb, ltb}
 use Rattle.fields.specs.Digits.{fits}
 use Rattle.units.specs.declared.Date.{Date}
 use Rattle.ledger.specs.declared.Identity.{Identity}
 use Rattle.ledger.specs.declared.Posted.{Posted}
 use Rattle.ledger.specs.declared.Bill.{Bill}
 use Rattle.ledger.specs.declared.Ledger.{Ledger}
-use Rattle.rules.specs.Lists.{has}
-use Rattle.ledger.specs.Bills.{isOpen, chargeOf, appliedOf, owedOf, blankBill}
+use Rattle.rules.specs.Lists.{has, find}
+use Rattle.ledger.specs.Bills.{isOpen, chargeOf, appliedOf, owedOf}
 use Rattle.ledger.specs.Books.{live}
 use Rattle.ledger.specs.Sound.{holdsId, soundLedger}
+use Rattle.rules.specs.declared.Found.{Found}
+use Rattle.rules.specs.declared.Found.the-variants.{At, Nothing}
 use Rattle.rules.specs.declared.Check.{Check}
 use Rattle.rules.specs.declared.Check.the-variants.{Clear, Stop}
 use Rattle.rules.specs.Rules.{Rule, rule, first}
@@ -25,7 +25,7 @@ use Rattle.lookups.specs.declared.Amounts.the-variants as amounts
 use Rattle.causes.specs.Causes.{goodIdentity}
 use Rattle.calls.specs.Machine.{billOf}
 
--- ---- "Open bill of an account: returns the place (from 0) of an open bill of it; where there are several, which one is free; 4 if there is none."
+-- ---- "Open bill of an account: returns the place (from 0) of an open bill of it; .. 4 if there is none."
 abbrev pub isOpenOf : ℕ → Date → Bill → Bool
 isOpenOf account today b = eqb (b .terms .identity .account) account && isOpen today (b .terms)
 
@@ -37,20 +37,23 @@ openCauses l account =
     ∷ rule (not (has (isOpenOf account (l .today)) (live l))) 4
     ∷ []
 
--- document 01's number for each case of the answer
-abbrev pub placeCheck : Place → Check
-placeCheck (place.At p) = Clear
-placeCheck (place.Refused n) = Stop n
+-- a bill's Scheduled Date
+abbrev pub due : Bill → ℕ
+due b = b .terms .latest .scheduled .0
 
--- the place that is named has an open bill of the account
-abbrev pub OpenAt : Ledger → ℕ → Place → Type 0
-OpenAt l account (place.At p) = (p < l .count) × (isOpenOf account (l .today) (getD (l .bills) p blankBill) ≡ true)
-OpenAt l account (place.Refused n) = Unit {0}
+-- paper 3 of document 02, "It shall be the one with the earliest Scheduled Date": an open bill of the account, and none of bs is due earlier
+abbrev pub isEarliest : ℕ → Date → List Bill → Bill → Bool
+isEarliest account today bs b = isOpenOf account today b && not (has (λ (o : Bill). isOpenOf account today o && ltb (due o) (due b)) bs)
 
--- what is promised of the answer: its number, and the bill at its place; "which one is free"
-pub record OpenBill (l : Ledger) (account : ℕ) (r : Place) : Type 0 where
-  pub number : placeCheck r ≡ first (openCauses l account)
-  pub bill : OpenAt l account r
+-- the cause's number, else the place that was found; that one is found where there is no cause is a theorem (`none-found`, proofs/EarliestLaws)
+abbrev pub placeBy : Check → Found → Place
+placeBy (Stop n) f = place.Refused n
+placeBy Clear (At p) = place.At p
+placeBy Clear Nothing = place.Refused 4
+
+-- ".. and of equals the one first requested": the bills stand "in order of first request", so it is the first of equals
+unfoldable pub openIn : Ledger → ℕ → Place
+openIn l account = placeBy (first (openCauses l account)) (find (isEarliest account (l .today) (live l)) 0 (live l))
 
 -- ---- "Amounts of one bill: charge, applied and owed, zeros for none; 4 if unknown."
 -- "Lookups: 2, 4."

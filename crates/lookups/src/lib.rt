@@ -1,9 +1,9 @@
-// The two lookups: an open bill of an account, and the amounts of one bill.
+// The two lookups: the open bill of an account that is due first, and the amounts of one bill.
 ghost use mathlib.Core.Path.{_≡_};
 ghost use Prim.Native.Nat.{_≤_};
-ghost use Rattle.rules.specs.Lists.{find};
 ghost use Rattle.ledger.specs.Books.{live};
-ghost use Rattle.lookups.specs.Lookups.{isOpenOf, OpenBill, countedBy, amountsIn};
+ghost use Rattle.lookups.specs.Lookups.{isOpenOf, openIn, countedBy, amountsIn};
+ghost use Rattle.lookups.specs.parts.Walk.{noneDue, dueWith, dueAfter, placeDue};
 ghost use Rattle.ledger.specs.Limits.{ledgerPlaces};
 use causes::checks;
 use ledger::Bill;
@@ -37,39 +37,85 @@ pub fn is_open_of(b: Bill, account: u64, today: Date) -> bool
     (t.identity.account == account) & t.is_open(today)
 }
 
-// The place of the first open bill of an account.
-fn find_open(l: Ledger, account: u64) -> Found
+// The open bill due first among those that a walk has seen, once there is one: its place and its Scheduled Date.
+pub struct DueFirst {
+    pub held: bool,
+    pub place: usize,
+    pub due: Date,
+}
+
+impl DueFirst {
+    // Before the first bill.
+    pub fn none() -> DueFirst
+        ensures { λ r. ⌜ r ≡ noneDue ⌝ }
+    {
+        DueFirst {
+            held: false,
+            place: 0,
+            due: Date(0),
+        }
+    }
+
+    // After the bill at place p: of two that are due the same day, the one seen first is kept.
+    pub fn with(self, p: usize, b: Bill, account: u64, today: Date) -> DueFirst
+        ensures { λ r. ⌜ r ≡ dueWith account today p b self ⌝ }
+    {
+        if !is_open_of(b, account, today) {
+            return self;
+        }
+        let t = b.terms;
+        let due = t.latest.scheduled;
+        let earliest = self.due;
+        if self.held & earliest.at_most(due) {
+            return self;
+        }
+        DueFirst {
+            held: true,
+            place: p,
+            due,
+        }
+    }
+
+    // Its place, or 4 if there is none.
+    pub fn answer(self) -> Place
+        ensures { λ r. ⌜ r ≡ placeDue self ⌝ }
+    {
+        if self.held {
+            return Place::At(self.place);
+        }
+        Place::Refused(4)
+    }
+}
+
+// The open bill of an account that is due first.
+fn due_first(l: Ledger, account: u64) -> DueFirst
     requires { ⌜ l .count ≤ ledgerPlaces ⌝ }
-    ensures { λ r. ⌜ r ≡ find (isOpenOf account (l .today)) 0 (live l) ⌝ }
+    ensures { λ r. ⌜ r ≡ dueAfter account (l .today) 0 noneDue (live l) ⌝ }
 {
     let today = l.today;
     let n = l.count;
+    let mut first = DueFirst::none();
     let mut i = 0;
     while i < n {
         let b = l.bills[i];
-        if is_open_of(b, account, today) {
-            return Found::At(i);
-        }
+        first = first.with(i, b, account, today);
         i += 1;
     }
-    Found::Nothing
+    first
 }
 
-// The place of an open bill of an account.
+// The place of the open bill of an account that is due first; of equals it is the one first requested.
 pub fn open_bill_of(l: Ledger, account: u64) -> Place
-    ensures { λ r. ⌜ OpenBill l account r ⌝ }
+    ensures { λ r. ⌜ r ≡ openIn l account ⌝ }
 {
     if !sound_ledger::sound(l) {
         return Place::Refused(2);
     }
-    if 1000000000000 <= account {
+    if ledger::ACCOUNT_END <= account {
         return Place::Refused(2);
     }
-    let f = find_open(l, account);
-    match f {
-        Found::At(p) => Place::At(p),
-        Found::Nothing => Place::Refused(4),
-    }
+    let first = due_first(l, account);
+    first.answer()
 }
 
 // What the posted amounts count for.

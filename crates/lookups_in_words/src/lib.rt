@@ -3,52 +3,49 @@ ghost use mathlib.Core.Path.{_≡_};
 ghost use mathlib.Core.Bool.{true};
 ghost use Prim.Native.Nat.{_≤_};
 ghost use lib.ListN.{take};
-ghost use Rattle.rules.specs.Lists.{find};
 ghost use Rattle.words.specs.Layout.{holdsLedger, ledgerOf};
 ghost use Rattle.ledger.specs.Limits.{ledgerPlaces};
-ghost use Rattle.lookups.specs.Lookups.{isOpenOf, OpenBill, amountsIn};
+ghost use Rattle.lookups.specs.Lookups.{openIn, amountsIn};
+ghost use Rattle.lookups.specs.parts.Walk.{noneDue, dueAfter};
 use causes::checks;
 use ledger::Identity;
 use lookups::Amounts;
+use lookups::DueFirst;
 use lookups::Place;
 use places::place;
 use rules::Found;
 use units::Date;
 
-// The place of the first bill of an account among the first n that is open.
-fn find_open(ws: &[u64], n: usize, account: u64, today: Date) -> Found
+// The open bill of an account that is due first, of the first n.
+fn due_first(ws: &[u64], n: usize, account: u64, today: Date) -> DueFirst
     requires { ⌜ (holdsLedger (now ws) ≡ true) × (n ≤ ledgerPlaces) ⌝ }
-    ensures { λ r. ⌜ r ≡ find (isOpenOf account today) 0 (take n (ledgerOf (now (ws .entry)) .bills)) ⌝ }
+    ensures { λ r. ⌜ r ≡ dueAfter account today 0 noneDue (take n (ledgerOf (now (ws .entry)) .bills)) ⌝ }
 {
+    let mut first = DueFirst::none();
     let mut i = 0;
     while i < n {
         let b = place::bill_at(ws, i);
-        if lookups::is_open_of(b, account, today) {
-            return Found::At(i);
-        }
+        first = first.with(i, b, account, today);
         i += 1;
     }
-    Found::Nothing
+    first
 }
 
-// The place of an open bill of an account.
+// The place of the open bill of an account that is due first; of equals it is the one first requested.
 pub fn open_bill_in(ws: &[u64], account: u64) -> Place
-    ensures { λ r. ⌜ OpenBill (ledgerOf (now (ws .entry))) account r ⌝ }
+    ensures { λ r. ⌜ r ≡ openIn (ledgerOf (now (ws .entry))) account ⌝ }
 {
     if !places::checks::sound(ws) {
         return Place::Refused(2);
     }
-    if 1000000000000 <= account {
+    if ledger::ACCOUNT_END <= account {
         return Place::Refused(2);
     }
     let h = place::header(ws);
     let n = h.count;
     let today = h.today;
-    let f = find_open(ws, n, account, today);
-    match f {
-        Found::At(p) => Place::At(p),
-        Found::Nothing => Place::Refused(4),
-    }
+    let first = due_first(ws, n, account, today);
+    first.answer()
 }
 
 // The amounts of the bill with this identity.

@@ -8,3 +8,5 @@ pub mod Anniversary
 pub mod SupDates
 pub mod NoRemovals
 pub mod PaperTwo
+pub mod KeptPlaces
+pub mod PaperThree

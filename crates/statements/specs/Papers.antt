@@ -1,11 +1,12 @@
--- What document 02 claims beside the demands, paper by paper, each with its words. Every field is a theorem: `paper-1` and `paper-2` (proofs/PapersHold,
--- proofs/PaperTwo) fill them in. Assumes nothing.
+-- What document 02 claims beside the demands, paper by paper, each with its words. Every field is a theorem: `paper-1`, `paper-2` and `paper-3`
+-- (proofs/PapersHold, PaperTwo, PaperThree) fill them in. Assumes nothing.
 use Prim.Native.Nat.{ℕ, _≤_, _<_, _+_, _%_}
 use mathlib.Core.Path.{_≡_}
 use mathlib.Core.Bool.{Bool, true, false, cond}
 use mathlib.Core.List.{List, []}
 use lib.Dec.{eqb}
 use lib.ListN.{length, getD}
+use Rattle.fields.specs.Digits.{fits}
 use Rattle.rules.specs.declared.Found.the-variants.{At}
 use Rattle.rules.specs.declared.Check.the-variants.{Clear, Stop}
 use Rattle.rules.specs.Rules.{first}
@@ -25,7 +26,7 @@ use Rattle.ledger.specs.declared.Removal.the-variants.{Never, On}
 use Rattle.ledger.specs.declared.Terms.{Terms}
 use Rattle.ledger.specs.declared.Bill.{Bill}
 use Rattle.ledger.specs.Bills.{isOpen, blankBill, firstBill, removedBill}
-use Rattle.ledger.specs.Books.{live, ofAccount}
+use Rattle.ledger.specs.Books.{Book, live, ofAccount}
 use Rattle.ledger.specs.Sound.{soundLedger}
 use Rattle.ledger.specs.Limits.{ledgerPlaces}
 use Rattle.verdict.specs.declared.Notification.the-variants.{Response, Supplement}
@@ -37,6 +38,8 @@ use Rattle.calls.specs.declared.Answer.the-variants as answer
 use Rattle.causes.specs.declared.AccountRemoval.{AccountRemoval}
 use Rattle.calls.specs.Machine.{fresh, after, causeIn, stepIn, called}
 use Rattle.calls.specs.Days.{quietAnswer}
+use Rattle.lookups.specs.declared.Place.the-variants as place
+use Rattle.lookups.specs.Lookups.{isOpenOf, due, openIn}
 use Rattle.history.specs.Claim.{All}
 use Rattle.history.specs.Cases.{Holds}
 use Rattle.history.specs.RemovalCases.{removalTable}
@@ -133,3 +136,38 @@ pub record Paper2 : Type 0 where
   pub last : (d e : ℕ) → isDate d ≡ true → year d ≡ 2999 → isDate e ≡ true → e ≤ yearOn d
   -- the borders, call by call
   pub cases : All Holds removalTable
+
+-- ---- Paper 3. Earliest due first
+-- whether the bill at place q is open and of the account, and its Scheduled Date
+abbrev pub openAt : Ledger → ℕ → ℕ → Bool
+openAt l account q = isOpenOf account (l .today) (getD (live l) q blankBill)
+
+abbrev pub dueAt : Ledger → ℕ → ℕ
+dueAt l q = due (getD (live l) q blankBill)
+
+-- the bill at place p is the one that paper 3 asks for
+pub record DueFirstAt (l : Ledger) (account p : ℕ) : Type 0 where
+  pub held : p < length (live l)
+  pub opens : openAt l account p ≡ true
+  -- "the one with the earliest Scheduled Date"
+  pub earliest : (q : ℕ) → q < length (live l) → openAt l account q ≡ true → dueAt l p ≤ dueAt l q
+  -- "and of equals the one first requested": it stands before them
+  pub equals : (q : ℕ) → q < length (live l) → openAt l account q ≡ true → dueAt l q ≡ dueAt l p → p ≤ q
+
+-- the identity of the bill at place i
+abbrev pub identityAt : Book → ℕ → Identity
+identityAt l i = getD (l .bills) i blankBill .terms .identity
+
+pub record Paper3 : Type 0 where
+  -- "It shall be the one with the earliest Scheduled Date, and of equals the one first requested.": it and no other
+  pub such : (l : Ledger) (account p : ℕ) → openIn l account ≡ place.At p → DueFirstAt l account p
+  pub only : (l : Ledger) (account p : ℕ) → soundLedger l ≡ true → fits 12 account ≡ true → DueFirstAt l account p → openIn l account ≡ place.At p
+  -- document 01: "4 if there is none", and only then; "Lookups: 2, 4."
+  pub none : (l : Ledger) (account : ℕ) → soundLedger l ≡ true → fits 12 account ≡ true
+      → ((q : ℕ) → q < length (live l) → openAt l account q ≡ false) → openIn l account ≡ place.Refused 4
+  pub four : (l : Ledger) (account q : ℕ) → openIn l account ≡ place.Refused 4 → q < length (live l) → openAt l account q ≡ false
+  pub unsound : (l : Ledger) (account : ℕ) → soundLedger l ≡ false → openIn l account ≡ place.Refused 2
+  pub wide : (l : Ledger) (account : ℕ) → fits 12 account ≡ false → openIn l account ≡ place.Refused 2
+  -- "first requested": whatever calls follow, a bill keeps its place, so one that is requested for the first time later stands behind it
+  pub kept : (l : Book) (cs : List Call) (i : ℕ) → i < length (l .bills)
+      → (i < length (after l cs .bills)) × (identityAt (after l cs) i ≡ identityAt l i)

@@ -1,5 +1,5 @@
 -- `clearing_c::clearing_open_bill` meets its contract.
-use mathlib.Core.Path.{sym, ap}
+use mathlib.Core.Path.{sym, ap, _∙_}
 use Rattle.boundary.specs.Boundary.{placeNumber, placeLeft}
 use borrow.Author.Needs.{needs}
 use Rattle.clearing_c.proofs.clearing_open_bill.Statement.{statement}
@@ -15,10 +15,10 @@ enum-known-found-2 : tie.Need-enum-known-found-2
 enum-known-found-2 c = search needs
 
 returns : tie.Need-returns
-returns c = record { found = c .before .before .before .open-bill-in .result; bill = c .before .before .before .open-bill-in .ensures; number = sym (ap placeNumber (c .before .found .given .1)); place = sym (ap (placeLeft _) (c .before .found .given .1)) }
+returns c = let e = sym (c .before .before .before .open-bill-in .ensures) ∙ c .before .found .given .1 in (sym (ap placeNumber e), sym (ap (placeLeft _) e))
 
 returns-2 : tie.Need-returns-2
-returns-2 c = record { found = c .before .before .before .open-bill-in .result; bill = c .before .before .before .open-bill-in .ensures; number = sym (ap placeNumber (c .before .found2 .given .1)); place = sym (ap (placeLeft _) (c .before .found2 .given .1)) }
+returns-2 c = let e = sym (c .before .before .before .open-bill-in .ensures) ∙ c .before .found2 .given .1 in (sym (ap placeNumber e), sym (ap (placeLeft _) e))
 
 pub clearing-open-bill-spec : {M : Type 1} → statement M
 clearing-open-bill-spec =

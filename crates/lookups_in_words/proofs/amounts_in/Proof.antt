@@ -8,7 +8,7 @@ use Rattle.ledger.proofs.SoundLaws.{ledger-count}
 use Rattle.words.specs.Layout.{ledgerOf}
 use Rattle.words.proofs.WordLaws.{sound-holds}
 use Rattle.lookups.specs.Lookups.{countedBy}
-use Rattle.lookups_in_words.proofs.LookupLaws.{amounts-unsound, amounts-wide, amounts-none, amounts-spot, amounts-at}
+use Rattle.lookups_in_words.proofs.AmountLaws.{amounts-unsound, amounts-wide, amounts-none, amounts-spot, amounts-at}
 use borrow.Author.Needs.{needs}
 use Rattle.lookups_in_words.proofs.amounts_in.Statement.{statement}
 use Rattle.lookups_in_words.proofs.amounts_in.Tie as tie

@@ -1,0 +1,2 @@
+-- Definitions that serve the contracts of inner functions; they state no rule of the documents.
+pub mod Walk
