@@ -6,6 +6,7 @@ pub mod DemandsHold
 pub mod PapersHold
 pub mod Anniversary
 pub mod SupDates
+pub mod OverCalls
 pub mod NoRemovals
 pub mod PaperTwo
 pub mod KeptPlaces

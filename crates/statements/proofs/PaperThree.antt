@@ -133,5 +133,5 @@ paper-3 =
       four = four;
       unsound = unsound;
       wide = wide;
-      kept = λ l cs. places-kept cs l;
+      kept = places-kept;
     }
