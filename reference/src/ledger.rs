@@ -225,11 +225,14 @@ impl Ledger {
         Ok(())
     }
 
-    /// Lookup: the place of an open bill of an account; the first one, where there are several.
+    /// Lookup, by paper 3: "the one with the earliest Scheduled Date, and of equals the one first requested".
     pub fn open_bill(&self, account: &[u8]) -> Result<usize, Cause> {
         let account = fields::account(account).ok_or(Cause::BadField)?;
         let wanted = |bill: &Bill| bill.identity.account() == account && self.is_open(bill);
-        self.bills.iter().position(wanted).ok_or(Cause::NoSuchBill)
+        let open = self.bills.iter().enumerate().filter(|(_, bill)| wanted(bill));
+        let mut due: Vec<(Date, usize)> = open.map(|(place, bill)| (bill.scheduled_date, place)).collect();
+        due.sort();
+        due.first().map(|(_, place)| *place).ok_or(Cause::NoSuchBill)
     }
 
     /// Lookup: charge, applied and owed of one bill.
