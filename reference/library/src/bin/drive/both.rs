@@ -67,7 +67,7 @@ impl Both {
         if answer.is_ok() {
             self.ledger = ledger;
         }
-        figures.compare(self.turn, call, answer, self.ledger())?;
+        figures.compare(self.turn, call, answer)?;
         Ok(number)
     }
 }

@@ -61,8 +61,8 @@ pub enum Call {
 pub enum Answer {
     /// Change and counts.
     Done(i64, [u64; 4]),
-    /// The place of any open bill of the account.
-    Open,
+    /// The place of the account's open bill that is due first.
+    Open(u64),
     Amounts([u64; 3]),
     /// Bytes of a table.
     Written(u64),
@@ -138,7 +138,7 @@ impl Call {
             Call::Removal { account, date } => {
                 ledger.removal(&text(*account, 12), &text(*date, 8)).map(|()| figures(0, [0; 4]))
             }
-            Call::OpenBill { account } => ledger.open_bill(&text(*account, 12)).map(|_| Answer::Open),
+            Call::OpenBill { account } => ledger.open_bill(&text(*account, 12)).map(|place| Answer::Open(place as u64)),
             Call::Amounts { account, key } => {
                 let (charge, applied, owed) = ledger.amounts(&text(*account, 12), &text(*key, 4))?;
                 Ok(Answer::Amounts([charge.0, applied.0, owed.0]))

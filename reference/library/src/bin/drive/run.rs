@@ -1,7 +1,7 @@
 //! Gives a call to the library, with what it may write lent between margins.
 
 use reference::calendar::moved;
-use reference::{Cause, Ledger};
+use reference::Cause;
 
 use crate::call::{by_calendar, Answer, Call};
 use crate::lent::{same, Lent};
@@ -40,13 +40,7 @@ impl Figures {
     }
 
     /// Holds what the call left against its answer; what it does not answer stays as it was.
-    pub fn compare(
-        &self,
-        turn: u64,
-        call: &Call,
-        answer: Result<Answer, Cause>,
-        ledger: Option<&Ledger>,
-    ) -> Result<(), String> {
+    pub fn compare(&self, turn: u64, call: &Call, answer: Result<Answer, Cause>) -> Result<(), String> {
         let mut wanted = Figures::new(turn);
         match answer {
             Ok(Answer::Done(change, counts)) => {
@@ -55,13 +49,7 @@ impl Figures {
             }
             Ok(Answer::Amounts(amounts)) => wanted.amounts.lend().copy_from_slice(&amounts),
             Ok(Answer::Written(written)) => wanted.written.lend()[0] = written,
-            Ok(Answer::Open) => {
-                let place = self.place.inside()[0];
-                if !ledger.is_some_and(|ledger| is_open_bill(ledger, call, place)) {
-                    return Err(format!("place {place} is no open bill of the account"));
-                }
-                wanted.place.lend()[0] = place;
-            }
+            Ok(Answer::Open(place)) => wanted.place.lend()[0] = place,
             Err(_) => {}
         }
         if let Some(told) = call.told() {
@@ -74,12 +62,6 @@ impl Figures {
         same(&self.written, wanted.written.inside(), "written", &|_| "it".into())?;
         same(&self.told, wanted.told.inside(), "told", &|at| format!("number {at}"))
     }
-}
-
-fn is_open_bill(ledger: &Ledger, call: &Call, place: u64) -> bool {
-    let bill = usize::try_from(place).ok().and_then(|place| ledger.bills().get(place));
-    let Call::OpenBill { account } = call else { return false };
-    bill.is_some_and(|bill| bill.identity.account() == *account && ledger.is_open(bill))
 }
 
 /// Gives a call to the library; what is lent for reading only must stay as it is.
