@@ -26,11 +26,18 @@ impl Both {
         self.ledger.as_ref()
     }
 
+    pub fn words(&self) -> &[u64] {
+        self.words.inside()
+    }
+
     /// Makes a call with an output of this length; returns its number, or what differed.
     pub fn call(&mut self, tally: &mut Tally, call: &Call, length: usize) -> Result<u64, String> {
         self.turn += 1;
         let number = self.carry_out(call, length).map_err(|told| format!("{call}, output {length}: {told}"))?;
         tally.call(call, length, number, self.words.inside().len() == WORDS, self.ledger.is_some());
+        if let (Call::OpenBill { account }, Some(ledger), 0 | 4) = (call, &self.ledger, number) {
+            tally.lookup(ledger, *account);
+        }
         Ok(number)
     }
 

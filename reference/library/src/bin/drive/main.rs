@@ -14,8 +14,10 @@ mod journals;
 mod ledgers;
 mod lent;
 mod lists;
+mod lookups;
 mod places;
 mod run;
+mod situations;
 mod spoil;
 mod stream;
 mod tally;
@@ -29,8 +31,8 @@ use tally::Tally;
 const USAGE: &str = "\
 drive --seeds FROM COUNT
     for each seed a list of calls, ten ledgers made word by word with some calls each, and a journal, whole and streamed
-    entry by entry, and questions to the calendar; before them the place of every argument, every word of a ledger made
-    bad and every head of an entry; after them every date
+    entry by entry, and questions to the calendar; before them the place of every argument, named ledgers for the lookup,
+    every word of a ledger made bad and every head of an entry; after them every date
 Exit status: 0 all equal and every cause reached, 1 a difference or a cause not reached, 2 a wrong use.";
 
 /// Ledgers made word by word for each seed.
@@ -57,6 +59,7 @@ fn main() {
 
 fn drive(from: u64, count: u64, tally: &mut Tally) -> Result<(), String> {
     arguments::drive(tally).map_err(|told| format!("places of arguments: {told}"))?;
+    lookups::drive(tally)?;
     places::drive(tally)?;
     edges::drive(tally)?;
     unsound::drive(tally)?;

@@ -2,8 +2,10 @@
 
 use std::collections::BTreeMap;
 
+use reference::Ledger;
+
 use crate::call::Call;
-use crate::{days, entry};
+use crate::{days, entry, situations};
 
 /// Every function, those on a ledger first, and the numbers that documents 01 and 02 allow for it.
 const ALLOWED: [(&str, &[u64]); 16] = [
@@ -91,6 +93,11 @@ impl Tally {
         }
     }
 
+    /// Counts the situations of a lookup that named an open bill or found none.
+    pub fn lookup(&mut self, ledger: &Ledger, account: u64) {
+        situations::of(ledger, account).into_iter().for_each(|situation| self.label(situation));
+    }
+
     pub fn number(&mut self, name: &'static str, number: u64) {
         *self.numbers.entry((name, number)).or_default() += 1;
     }
@@ -155,6 +162,7 @@ fn required() -> Vec<String> {
         }
     }
     labels.extend(of_calendar());
+    labels.extend(situations::all());
     for name in ["request", "request_by_calendar", "file", "cancel", "ledger_table", "entry", "table", "notices"] {
         for kind in ["0: 1", "short by one: 1", "exact: 0", "long: 0"] {
             labels.push(format!("{name}, output {kind}"));
