@@ -28,7 +28,7 @@ pub fn some_call(rng: &mut Prng, ledger: &Ledger) -> Call {
         12..=21 => Call::File(some_file(rng, ledger)),
         22..=27 => Call::Cancel { account, key },
         28..=31 => Call::Close { today: some_day(rng, ledger.today(), 25) },
-        32..=35 => Call::OpenBill { account },
+        32..=35 => Call::OpenBill { account: some_owner(rng, ledger) },
         36..=38 => Call::Amounts { account, key },
         39..=40 => Call::LedgerTable,
         41..=44 => Call::Removal { account, date: some_removal(rng, ledger.today().number().into()) },
@@ -67,6 +67,16 @@ pub fn some_identity(rng: &mut Prng, ledger: &Ledger) -> (u64, u64) {
     }
 }
 
+/// An account to look up: most often one with several open bills, if there is one.
+pub fn some_owner(rng: &mut Prng, ledger: &Ledger) -> u64 {
+    let open = || ledger.bills().iter().filter(|bill| ledger.is_open(bill)).map(|bill| bill.identity.account());
+    let several: Vec<u64> = open().filter(|account| open().filter(|other| other == account).count() > 1).collect();
+    if several.is_empty() || rng.chance(20) {
+        return some_identity(rng, ledger).0;
+    }
+    *rng.pick(&several)
+}
+
 /// A next number that fresh takes.
 pub fn next_number(rng: &mut Prng) -> u64 {
     *rng.pick(&[1, 2, 7, 20171116, 123_456_789, 999_999_990, 999_999_998, 999_999_999])
@@ -102,6 +112,11 @@ pub fn some_consumption(rng: &mut Prng) -> u64 {
 
 fn some_request(rng: &mut Prng, ledger: &Ledger) -> Request {
     let (account, key) = some_identity(rng, ledger);
+    request_of(rng, ledger, account, key)
+}
+
+/// A request for a bill, new or known.
+pub fn request_of(rng: &mut Prng, ledger: &Ledger, account: u64, key: u64) -> Request {
     let of_identity = |bill: &&Bill| (bill.identity.account(), bill.identity.key()) == (account, key);
     let bill = ledger.bills().iter().find(of_identity);
     let code = bill.filter(|_| rng.chance(94)).map_or(*rng.pick(&[b"ZZC40", b"A9C07"]), |bill| bill.rate_code.bytes());

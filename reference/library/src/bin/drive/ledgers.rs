@@ -5,10 +5,9 @@ use reference::prng::Prng;
 use reference::words::{self, BLANK, COUNT, FIELDS, HEAD, WORDS};
 
 use crate::aim::{some_billing, some_call, some_consumption, some_removal, DATES};
+use crate::base::Place;
 use crate::both::Both;
 use crate::tally::Tally;
-
-type Place = [u64; FIELDS.len()];
 
 /// Makes a ledger, one of several of a seed, and some calls on it.
 pub fn drive(seed: u64, which: u64, tally: &mut Tally) -> Result<(), String> {
@@ -45,7 +44,7 @@ fn some_ledger(rng: &mut Prng) -> Vec<u64> {
     words
 }
 
-fn some_bill(rng: &mut Prng, today: u64, key: u64) -> Place {
+pub fn some_bill(rng: &mut Prng, today: u64, key: u64) -> Place {
     let sequence = *rng.pick(&[1, 1, 2, 3, 500, 998, 999]);
     let cancelled = u64::from(rng.chance(12));
     let product = *rng.pick(&[66, 80]);

@@ -7,7 +7,7 @@ use reference::journal::{Entries, Entry, Next};
 use reference::prng::Prng;
 use reference::words::WORDS;
 
-use crate::aim::{next_number, some_identity, DATES};
+use crate::aim::{next_number, some_identity, some_owner, DATES};
 use crate::both::Both;
 use crate::call::Call;
 use crate::spoil::{spoil, too_wide};
@@ -20,8 +20,11 @@ pub fn drive(seed: u64, tally: &mut Tally) -> Result<(), String> {
     let mut calls = calls_of(&generator::make(seed), &mut rng);
     let (tracking, confirmation) = (next_number(&mut rng), next_number(&mut rng));
     calls.push(Call::Fresh { today: *rng.pick(&DATES), tracking, confirmation });
+    let mut asking = Prng::new(seed ^ 0x100c_0000_0000_0000);
     for (at, call) in calls.iter().enumerate() {
-        step(&mut both, tally, &mut rng, call).map_err(|told| format!("seed {seed}, call {at} of its list: {told}"))?;
+        let told = |told: String| format!("seed {seed}, call {at} of its list: {told}");
+        step(&mut both, tally, &mut rng, call).map_err(told)?;
+        look_up(&mut both, tally, &mut asking).map_err(told)?;
     }
     Ok(())
 }
@@ -46,6 +49,15 @@ fn step(both: &mut Both, tally: &mut Tally, rng: &mut Prng, call: &Call) -> Resu
         both.plain(tally, &aside(both, rng, call))?;
     }
     both.call(tally, call, enough + *rng.pick(&[0, 0, 1, 7, 321, 1000]))?;
+    Ok(())
+}
+
+/// After some calls the bill due first is asked for, of an account that most often has several.
+fn look_up(both: &mut Both, tally: &mut Tally, rng: &mut Prng) -> Result<(), String> {
+    if let Some(ledger) = both.ledger().filter(|_| rng.chance(20)) {
+        let account = some_owner(rng, ledger);
+        both.plain(tally, &Call::OpenBill { account })?;
+    }
     Ok(())
 }
 

@@ -8,6 +8,7 @@ mod base;
 mod both;
 mod call;
 mod days;
+mod dues;
 mod edges;
 mod entry;
 mod journals;
@@ -30,9 +31,10 @@ use tally::Tally;
 
 const USAGE: &str = "\
 drive --seeds FROM COUNT
-    for each seed a list of calls, ten ledgers made word by word with some calls each, and a journal, whole and streamed
-    entry by entry, and questions to the calendar; before them the place of every argument, named ledgers for the lookup,
-    every word of a ledger made bad and every head of an entry; after them every date
+    for each seed a list of calls, ten ledgers made word by word with some calls each, one with lookups of the bill due
+    first, and a journal, whole and streamed entry by entry, and questions to the calendar; before them the place of
+    every argument, named ledgers for the lookup, every word of a ledger made bad and every head of an entry; after them
+    every date
 Exit status: 0 all equal and every cause reached, 1 a difference or a cause not reached, 2 a wrong use.";
 
 /// Ledgers made word by word for each seed.
@@ -68,6 +70,7 @@ fn drive(from: u64, count: u64, tally: &mut Tally) -> Result<(), String> {
     for seed in from..from + count {
         lists::drive(seed, tally)?;
         (0..LEDGERS).try_for_each(|which| ledgers::drive(seed, which, tally))?;
+        dues::drive(seed, tally)?;
         journals::drive(seed, tally)?;
         stream::drive(seed, tally)?;
         days::drive(seed, tally)?;
