@@ -5,11 +5,12 @@ use std::path::{Path, PathBuf};
 use std::process::{exit, Command, Output};
 use std::{env, fs, io};
 
-const FAULTS: [&str; 7] = [
+const FAULTS: [&str; 8] = [
     include_str!("../../faults/arguments.txt"),
     include_str!("../../faults/calendar.txt"),
     include_str!("../../faults/causes.txt"),
     include_str!("../../faults/entry.txt"),
+    include_str!("../../faults/lookups.txt"),
     include_str!("../../faults/removals.txt"),
     include_str!("../../faults/soundness.txt"),
     include_str!("../../faults/writing.txt"),
