@@ -67,7 +67,8 @@ pub fn all(bills: usize) -> Vec<Kind> {
         cancel(&words, account(last)),
         close(&words),
         removal(&words, account(last)),
-        open_bill(&words, account(last)),
+        open_bill("open_bill", &words, account(last)),
+        open_bill("open_bill, all of one account, open, falling", &words::of(&ledger::one_account(bills)), account(0)),
         amounts(&words, account(last)),
         ledger_table(&words),
         entry("entry, request, known bill", &words, groups::entry(REQUEST, &ledger::request_body(last, 86))),
@@ -236,9 +237,9 @@ fn removal(words: &[u64], account: u64) -> Kind {
     }
 }
 
-fn open_bill(words: &[u64], account: u64) -> Kind {
+fn open_bill(name: &str, words: &[u64], account: u64) -> Kind {
     Kind {
-        name: "open_bill".into(),
+        name: name.into(),
         words: words.to_vec(),
         output: 0,
         library: Box::new(move |lent| clearing::open_bill(&lent.words, account, &mut lent.place)),

@@ -64,6 +64,17 @@ pub fn holding(bills: usize) -> Ledger {
     ledger
 }
 
+/// So many open bills of one account, each due a day before the one requested before it: the last is due first.
+pub fn one_account(bills: usize) -> Ledger {
+    let mut ledger = Ledger::fresh(b"20171113", b"000000001", b"000000001").expect("a good fresh");
+    for bill in 0..bills {
+        let scheduled = moved(20171113, (bills - bill) as isize).expect("a date");
+        let asked = Request { account: account(0), key: bill as u64, scheduled, ..request(bill, 85) };
+        ledger.request(&read(&asked).expect("a good request"), None).expect("taken");
+    }
+    ledger
+}
+
 /// A file of one RSP for each of these bills.
 pub fn responses(bills: &[Bill], charge: u64) -> Vec<u8> {
     let amounts = Amounts { charge, applied: 0, owed: charge, balance: 0 };
