@@ -80,7 +80,7 @@ fn dressed(bills: &[Due], falling: bool) -> Vec<u64> {
     ledger(&(0..).zip(bills).map(bill).collect::<Vec<_>>())
 }
 
-/// The same with a bill past the count that is due before all others, if there is room.
+/// The same with a bill of the account due today past the count, if there is room.
 fn one_more(mut words: Vec<u64>) -> Vec<u64> {
     let count = words[COUNT] as usize;
     if count < 128 {
