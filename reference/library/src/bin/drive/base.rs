@@ -47,7 +47,7 @@ pub fn full() -> Vec<u64> {
 pub type Change = Vec<(usize, u64)>;
 
 /// A request for a bill of the first one's account, without a date.
-fn undated(key: u64, consumption: u64) -> Request {
+pub fn undated(key: u64, consumption: u64) -> Request {
     let (code, account, product) = (*b"ZZC40", 123_456_780_019, b'B');
     let (billing, from, scheduled) = (20171110, 20171010, 0);
     Request { code, account, key, product, billing, from, consumption, scheduled }

@@ -1,10 +1,10 @@
-//! Words at the edge of their range, which are still sound, words past the count, which change no answer, and removals
-//! at the edge of theirs.
+//! Words at the edge of their range, which are still sound, words past the count, which change no answer, removals at
+//! the edge of theirs, and requests by calendar on the last date.
 
 use reference::generator::days::NO_DATES;
 use reference::words::{self, place, BLANK, COUNT};
 
-use crate::base::{changed, describe, ledger, numbers, Change, BILLS};
+use crate::base::{changed, describe, ledger, numbers, undated, Change, BILLS};
 use crate::both::Both;
 use crate::call::Call;
 use crate::tally::Tally;
@@ -25,7 +25,20 @@ pub fn drive(tally: &mut Tally) -> Result<(), String> {
             return Err(format!("{}: an answer changed", describe(&change)));
         }
     }
-    removals(&words, tally)
+    removals(&words, tally)?;
+    last_day(&words, tally)
+}
+
+/// On the last date there is no business day further on, by each number.
+fn last_day(words: &[u64], tally: &mut Tally) -> Result<(), String> {
+    let words = changed(words, &vec![(0, 29991231)]);
+    for number in 1..=9 {
+        let call = Call::Calendar { request: undated(9, 90), number, holidays: vec![] };
+        if Both::of(&words).plain(tally, &call)? != 15 {
+            return Err(format!("{call} on 29991231: not 15"));
+        }
+    }
+    Ok(())
 }
 
 /// Accounts and dates of a removal at the edge of their range, and past it.

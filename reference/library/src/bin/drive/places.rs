@@ -2,6 +2,7 @@
 
 use clearing::Request;
 use reference::groups::{self, Amounts};
+use reference::journal::REQUEST;
 use reference::verdict::Notification;
 use reference::{words, Bill, Ledger};
 
@@ -22,7 +23,7 @@ pub fn drive(tally: &mut Tally) -> Result<(), String> {
     Ok(())
 }
 
-fn calls(ledger: &Ledger, bill: &Bill) -> [Call; 8] {
+fn calls(ledger: &Ledger, bill: &Bill) -> [Call; 9] {
     let (account, key) = (bill.identity.account(), bill.identity.key());
     let amounts = Amounts { charge: 4000, applied: 1, owed: 3999, balance: 0 };
     let kind = if ledger.is_open(bill) { Notification::Rsp } else { Notification::Sup };
@@ -38,11 +39,13 @@ fn calls(ledger: &Ledger, bill: &Bill) -> [Call; 8] {
     };
     // 128 bills are held, so that another is refused (3).
     let another = Request { account: 400, ..request.clone() };
+    let as_entry = groups::entry(REQUEST, b"ZZC400000000004000007B2017111020171010000000009120171115");
     [
         Call::OpenBill { account },
         Call::Amounts { account, key },
         Call::Calendar { request: request.clone(), number: 9, holidays: vec![20171115] },
         Call::Calendar { request: another, number: 1, holidays: vec![] },
+        Call::Entry { journal: as_entry, seen: 1 },
         Call::Request(request),
         Call::File(groups::file(&[groups::group(bill, kind, amounts, ledger.today())])),
         Call::Cancel { account, key },
