@@ -15,37 +15,13 @@ use Rattle.fields.proofs.BoolLaws.{cases}
 use Rattle.rules.specs.declared.Found.{Found}
 use Rattle.rules.specs.declared.Found.the-variants.{At, Nothing}
 use Rattle.rules.specs.Lists.{has, find}
-use Rattle.rules.proofs.ListLaws.{slice-end}
+use Rattle.rules.proofs.ListLaws.{has-none, has-some, find-none, find-first, slice-end}
 use Rattle.units.specs.declared.Date.{Date}
 use Rattle.ledger.specs.declared.Bill.{Bill}
 use Rattle.ledger.specs.Bills.{blankBill}
 use Rattle.lookups.specs.declared.DueFirst.{DueFirst}
-use Rattle.lookups.specs.Lookups.{isOpenOf, due, isEarliest}
+use Rattle.lookups.specs.Lookups.{isOpenOf, due, isDueBefore, isEarliest}
 use Rattle.lookups.specs.parts.Walk.{noneDue, isSooner, dueWith, dueAfter, foundDue}
-
--- ---- a list by its places
-module _ {A : Type 0} (p : A → Bool) (d : A) where
-  pub has-none : (xs : List A) → ((q : ℕ) → q < length xs → p (getD xs q d) ≡ false) → has p xs ≡ false
-  has-none [] f = refl
-  has-none (x ∷ xs) f = rw (f 0 (omega arith)) (has-none xs (λ q h. f (suc q) (omega arith)))
-
-  pub has-some : (xs : List A) (q : ℕ) → q < length xs → p (getD xs q d) ≡ true → has p xs ≡ true
-  has-some [] q h e = absurd (omega arith)
-  has-some (x ∷ xs) zero h e = rw e
-  has-some (x ∷ xs) (suc q) h e =
-      cases (p x) (λ t. rw t) (λ t. rw t (has-some xs q (omega arith) e))
-
-  find-none : (n : ℕ) (xs : List A) → ((q : ℕ) → q < length xs → p (getD xs q d) ≡ false) → find p n xs ≡ Nothing
-  find-none n [] f = refl
-  find-none n (x ∷ xs) f = rw (f 0 (omega arith)) (find-none (suc n) xs (λ q h. f (suc q) (omega arith)))
-
-  find-first : (n : ℕ) (xs : List A) (i : ℕ) → i < length xs → p (getD xs i d) ≡ true → ((q : ℕ) → q < i → p (getD xs q d) ≡ false)
-      → find p n xs ≡ At (n + i)
-  find-first n [] i h e f = absurd (omega arith)
-  find-first n (x ∷ xs) zero h e f = rw e (ap At (omega arith))
-  find-first n (x ∷ xs) (suc i) h e f =
-      let m : suc n + i ≡ n + suc i = omega arith in
-      rw (f 0 (omega arith)) (find-first (suc n) xs i (omega arith) e (λ q k. f (suc q) (omega arith)) ∙ ap At m)
 
 -- ---- one turn of a loop over the bills from i up to n, and its end
 module _ (account : ℕ) (today : Date) (n i : ℕ) (h : DueFirst) (bs : List Bill) where
@@ -168,8 +144,8 @@ module _ (account : ℕ) (today : Date) (bs : List Bill) where
   module _ (p : ℕ) (l : Leads (length bs) p) where
     leads-earliest : isEarliest account today bs (at p) ≡ true
     leads-earliest =
-        let n : has (λ (o : Bill). isOpenOf account today o && ltb (due o) (due (at p))) bs ≡ false =
-        has-none (λ (o : Bill). isOpenOf account today o && ltb (due o) (due (at p))) blankBill bs
+        let n : has (isDueBefore account today (at p)) bs ≡ false =
+        has-none (isDueBefore account today (at p)) blankBill bs
         (λ q h. cases (opens q) (λ t. rw (t, le-ltb (due (at q)) (due (at p)) (l .earliest q h t))) (λ t. rw t)) in
         rw (l .passes, n)
 
@@ -177,8 +153,8 @@ module _ (account : ℕ) (today : Date) (bs : List Bill) where
     leads-first q h =
         cases (opens q)
         (λ t.
-        let n : has (λ (o : Bill). isOpenOf account today o && ltb (due o) (due (at q))) bs ≡ true =
-        has-some (λ (o : Bill). isOpenOf account today o && ltb (due o) (due (at q))) blankBill bs p (l .below)
+        let n : has (isDueBefore account today (at q)) bs ≡ true =
+        has-some (isDueBefore account today (at q)) blankBill bs p (l .below)
         (rw (l .passes, lt-ltb (due (at p)) (due (at q)) (l .before q h t))) in
         rw (t, n))
         (λ t. rw t)

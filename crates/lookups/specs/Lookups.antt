@@ -41,9 +41,13 @@ openCauses l account =
 abbrev pub due : Bill → ℕ
 due b = b .terms .latest .scheduled .0
 
--- paper 3 of document 02, "It shall be the one with the earliest Scheduled Date": an open bill of the account, and none of bs is due earlier
+-- o is an open bill of the account and due before b
+abbrev pub isDueBefore : ℕ → Date → Bill → Bill → Bool
+isDueBefore account today b o = isOpenOf account today o && ltb (due o) (due b)
+
+-- paper 3 of document 02, "It shall be the one with the earliest Scheduled Date": b is an open bill of the account, and none of bs is due before it
 abbrev pub isEarliest : ℕ → Date → List Bill → Bill → Bool
-isEarliest account today bs b = isOpenOf account today b && not (has (λ (o : Bill). isOpenOf account today o && ltb (due o) (due b)) bs)
+isEarliest account today bs b = isOpenOf account today b && not (has (isDueBefore account today b) bs)
 
 -- the cause's number, else the place that was found; that one is found where there is no cause is a theorem (`none-found`, proofs/EarliestLaws)
 abbrev pub placeBy : Check → Found → Place

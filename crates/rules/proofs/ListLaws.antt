@@ -8,9 +8,9 @@ use native.Mathlib.Nat.{not-suc-le-zero, le-of-suc-le-suc}
 use native.Mathlib.Numerals.{add-one}
 use lib.ListN.{length, getD, set, take, drop, take-append-drop}
 use lib.Seq.{slice, slice-cons, slice-empty, take-suc}
-use Rattle.fields.proofs.BoolLaws.{and-left, and-right}
+use Rattle.fields.proofs.BoolLaws.{cases, and-left, and-right}
 use Rattle.rules.specs.declared.Found.{Found}
-use Rattle.rules.specs.declared.Found.the-variants.{At}
+use Rattle.rules.specs.declared.Found.the-variants.{At, Nothing}
 use Rattle.rules.specs.Lists.{all, every, has, sum, find}
 
 -- tests that all pass, one by one
@@ -82,6 +82,30 @@ module _ {A : Type 0} where
   pub find-below : (p : A → Bool) (n : ℕ) (xs : List A) (i : ℕ) → find p n xs ≡ At i → i < n + length xs
   find-below p n [] i e = let z : _≡_ {A = ℕ} 0 1 = cc in omega arith
   find-below p n (x ∷ xs) i e = below-by (p x) n (length xs) i (find p (suc n) xs) (find-below p (suc n) xs i) e
+
+-- a list by its places: no element passes the test, one does, and a search finds the first that does
+module _ {A : Type 0} (p : A → Bool) (d : A) where
+  pub has-none : (xs : List A) → ((q : ℕ) → q < length xs → p (getD xs q d) ≡ false) → has p xs ≡ false
+  has-none [] f = refl
+  has-none (x ∷ xs) f = rw (f 0 (omega arith)) (has-none xs (λ q h. f (suc q) (omega arith)))
+
+  pub has-some : (xs : List A) (q : ℕ) → q < length xs → p (getD xs q d) ≡ true → has p xs ≡ true
+  has-some [] q h e = absurd (omega arith)
+  has-some (x ∷ xs) zero h e = rw e
+  has-some (x ∷ xs) (suc q) h e =
+      cases (p x) (λ t. rw t) (λ t. rw t (has-some xs q (omega arith) e))
+
+  pub find-none : (n : ℕ) (xs : List A) → ((q : ℕ) → q < length xs → p (getD xs q d) ≡ false) → find p n xs ≡ Nothing
+  find-none n [] f = refl
+  find-none n (x ∷ xs) f = rw (f 0 (omega arith)) (find-none (suc n) xs (λ q h. f (suc q) (omega arith)))
+
+  pub find-first : (n : ℕ) (xs : List A) (i : ℕ) → i < length xs → p (getD xs i d) ≡ true → ((q : ℕ) → q < i → p (getD xs q d) ≡ false)
+      → find p n xs ≡ At (n + i)
+  find-first n [] i h e f = absurd (omega arith)
+  find-first n (x ∷ xs) zero h e f = rw e (ap At (omega arith))
+  find-first n (x ∷ xs) (suc i) h e f =
+      let m : suc n + i ≡ n + suc i = omega arith in
+      rw (f 0 (omega arith)) (find-first (suc n) xs i (omega arith) e (λ q k. f (suc q) (omega arith)) ∙ ap At m)
 
 -- one turn of a loop over the elements from i up to n
 module _ {A : Type 0} (n i : ℕ) (xs : List A) (d : A) (h : i < n) (k : n ≤ length xs) where

@@ -11,6 +11,7 @@ use Rattle.rules.specs.declared.Check.the-variants.{Clear}
 use Rattle.rules.specs.declared.Found.{Found}
 use Rattle.rules.specs.declared.Found.the-variants.{At, Nothing}
 use Rattle.rules.specs.Lists.{has, find}
+use Rattle.rules.proofs.ListLaws.{has-none, has-some}
 use Rattle.ledger.specs.declared.Ledger.{Ledger}
 use Rattle.ledger.specs.Bills.{blankBill}
 use Rattle.ledger.specs.Books.{live}
@@ -18,7 +19,7 @@ use Rattle.ledger.specs.Sound.{soundLedger}
 use Rattle.lookups.specs.declared.Place.{Place}
 use Rattle.lookups.specs.declared.Place.the-variants as place
 use Rattle.lookups.specs.Lookups.{isOpenOf, isEarliest, openCauses, placeBy, openIn}
-use Rattle.lookups.proofs.EarliestLaws.{Leads, leads-found, found-leads, none-found, has-some, has-none}
+use Rattle.lookups.proofs.EarliestLaws.{Leads, leads-found, found-leads, none-found}
 use Rattle.statements.specs.Papers.{openAt, dueAt, DueFirstAt, Paper3}
 use Rattle.statements.proofs.KeptPlaces.{places-kept}
 
