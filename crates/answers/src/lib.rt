@@ -1,4 +1,6 @@
 // The answers to a supplier's group, written straight into the lent output.
+#![tactic(auto)]
+
 pub mod acf;
 pub mod rej;
 

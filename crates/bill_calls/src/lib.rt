@@ -1,4 +1,6 @@
 // The calls request, by calendar too, and cancel on a ledger by value: the bill found, the call decided on small values, and what that leaves stored.
+#![tactic(auto)]
+
 ghost use Rattle.std.specs.Prelude.{◌≡◌, length};
 ghost use Rattle.fields.specs.Put.{put};
 ghost use Rattle.causes.specs.Causes.{request, calendar, cancel};

@@ -1,4 +1,6 @@
 // A call on words that may hold anything, and what it came to given to the caller's buffers.
+#![tactic(auto)]
+
 ghost use Rattle.std.specs.Prelude.{◌≡◌, length};
 ghost use Rattle.fields.specs.Put.{put};
 ghost use Rattle.words.specs.Layout.{ledger_of};

@@ -1,4 +1,6 @@
 // Reads a journal on standard input and writes the notices of every call carried out, in order: the bytes of a BRN file.
+#![tactic(auto)]
+
 use replay::{Wanted, ending};
 use streams::output;
 

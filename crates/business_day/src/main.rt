@@ -1,4 +1,6 @@
 // Prints the date that is a number of business days after another. The holidays are read on standard input, one date a line.
+#![tactic(auto)]
+
 ghost use Rattle.std.specs.Prelude.{◌≡◌, ◌≤◌, pos, length};
 ghost use Rattle.holidays.specs.DayLine.{day_room};
 ghost use Rattle.business_day.specs.Answering.{input_room, StopsAt, Answers};

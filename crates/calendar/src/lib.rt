@@ -1,4 +1,6 @@
 // Paper 1 of document 02: weekdays and business days over a lent list of holidays.
+#![tactic(auto)]
+
 ghost use Rattle.std.specs.Prelude.{◌≡◌, true, eqb};
 ghost use Rattle.rules.specs.Lists.{has};
 ghost use Rattle.units.specs.Calendar.{is_date};

@@ -1,4 +1,6 @@
 // The calls on a ledger by value, and what they answer.
+#![tactic(auto)]
+
 pub mod carried_out;
 pub mod days;
 pub mod files;

@@ -1,4 +1,6 @@
 // The calls on a ledger that is lent: each makes the call by value and stores the ledger that it left.
+#![tactic(auto)]
+
 ghost use Rattle.std.specs.Prelude.{◌≡◌, length};
 ghost use Rattle.causes.specs.Causes.{request, calendar, file, cancel, close, removal};
 ghost use Rattle.calls.specs.Machine.{called};

@@ -1,6 +1,8 @@
 // The calls for C and Rust programs: numbers and lent slices only, the ledger lent as 2,564 words (crate words). include/clearing.h is the
 // header. Each answers 0 if it was carried out, else the number of its cause, and then every lent buffer holds what it held (but for what
 // clearing_entry found of the entry).
+#![tactic(auto)]
+
 pub mod days;
 pub mod journals;
 

@@ -1,4 +1,6 @@
 // Fixed-width fields in lent bytes: digits for every width, parts of a slice, writes into a lent output.
+#![tactic(auto)]
+
 ghost use Rattle.std.specs.Prelude.{◌≡◌, ◌+◌, ◌≤◌, length};
 ghost use Rattle.fields.specs.Digits.{digits, is_digit, numeric};
 ghost use Rattle.fields.specs.Put.{put, part, filled, same_list, holds};

@@ -1,4 +1,6 @@
 // The supplier file: its check, its groups, and lines 1 and 2.
+#![tactic(auto)]
+
 ghost use Rattle.std.specs.Prelude.{◌≡◌, ◌+◌, ◌*◌, ◌≤◌, ◌<◌, length, take};
 ghost use Rattle.rules.specs.Lists.{every, count};
 ghost use Rattle.records.specs.Limits.{record_size};

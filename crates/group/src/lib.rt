@@ -1,5 +1,7 @@
 // One group of a supplier file on small values: the bill that it names, its verdict, and its turn. Who holds the ledger finds the bill and stores what the
 // turn leaves: groups by value, engine in words.
+#![tactic(auto)]
+
 pub mod answer;
 pub mod counts;
 

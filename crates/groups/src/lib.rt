@@ -1,4 +1,6 @@
 // A supplier file's groups on a ledger by value: each decided, answered and posted in turn.
+#![tactic(auto)]
+
 ghost use Rattle.std.specs.Prelude.{true, ◌+◌, ◌-◌, ◌*◌, ◌≤◌, ◌<◌, length};
 ghost use Rattle.records.specs.Limits.{record_size, file_records};
 ghost use Rattle.records.specs.Layout.{records_from};

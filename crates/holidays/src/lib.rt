@@ -1,4 +1,6 @@
 // What program `business_day` reads and prints: a date and a number as arguments, holidays one date a line, and the date worked out or the refusal.
+#![tactic(auto)]
+
 ghost use Rattle.std.specs.Prelude.{◌≡◌, ◌+◌, ◌≤◌, length, take, drop};
 ghost use Rattle.fields.specs.Put.{put};
 ghost use Rattle.holidays.specs.Lines.{date_in, digit_in, holidays_of};

@@ -1,4 +1,6 @@
 // Standard input in pieces, for the programs.
+#![tactic(auto)]
+
 ghost use Rattle.std.specs.Prelude.{◌≡◌, ◌≤◌, ◌-◌, length};
 ghost use Rattle.libc.specs.Io.{Moved};
 ghost use Rattle.input.specs.Filled.{Fills, filled_by, not_ended, RoomFor};

@@ -1,4 +1,5 @@
 // Journal entries: what stands at the start of some bytes.
+#![tactic(auto)]
 
 ghost use Rattle.std.specs.Prelude.{◌≡◌, true, ◌+◌, ◌-◌, ◌*◌, ◌≤◌, ◌<◌, length, get_or};
 ghost use Rattle.fields.specs.Put.{part, put};

@@ -1,5 +1,7 @@
 // The ledger and its bills, by value: the types. What is done with a bill stands in bills.rt, with the ledger in
 // books.rt, and when a ledger is sound in sound.rt.
+#![tactic(auto)]
+
 pub mod bills;
 pub mod books;
 pub mod sound;

@@ -1,4 +1,6 @@
 // Document 01's example on a lent ledger: its BIL, its posted table, its ACF and the charge that is posted.
+#![tactic(auto)]
+
 ghost use Rattle.std.specs.Prelude.{◌≡◌, [], ◌∷◌, length};
 ghost use Rattle.fields.specs.Put.{put};
 ghost use Rattle.causes.specs.Causes.{request, file, close};

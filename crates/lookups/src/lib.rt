@@ -1,4 +1,6 @@
 // The two lookups: the open bill of an account that is due first, and the amounts of one bill.
+#![tactic(auto)]
+
 ghost use Rattle.std.specs.Prelude.{◌≡◌, ◌≤◌};
 ghost use Rattle.ledger.specs.Books.{live};
 ghost use Rattle.lookups.specs.Lookups.{is_open_of, open_in, counted_by, amounts_in};

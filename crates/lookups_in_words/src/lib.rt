@@ -1,4 +1,6 @@
 // The two lookups on a ledger that is lent as words: each answers what the lookup by value does.
+#![tactic(auto)]
+
 ghost use Rattle.std.specs.Prelude.{◌≡◌, true, ◌≤◌, take};
 ghost use Rattle.words.specs.Layout.{holds_ledger, ledger_of};
 ghost use Rattle.ledger.specs.Limits.{ledger_places};

@@ -1,4 +1,6 @@
 // The notices: what each holds, and BIL and CXL written straight into the lent output. Here is what our own records share; each notice has its module.
+#![tactic(auto)]
+
 pub mod acf;
 pub mod bil;
 pub mod cxl;

@@ -1,4 +1,6 @@
 // The records of a supplier's file and of the notices: their limits, where each field stands (layout), and what is read of a record.
+#![tactic(auto)]
+
 pub mod layout;
 
 ghost use Rattle.std.specs.Prelude.{◌≡◌, ◌+◌, ◌≤◌, length};

@@ -1,5 +1,7 @@
 // A journal on standard input, read in pieces: one loop for the programs. Each piece's entries are made on a ledger that is lent as words, and what the
 // caller asks for of them is written to standard output.
+#![tactic(auto)]
+
 ghost use Rattle.std.specs.Prelude.{◌≡◌, true, false, ◌≤◌, length};
 ghost use Rattle.ledger.specs.Sound.{sound_ledger};
 ghost use Rattle.words.specs.Layout.{ledger_of};

@@ -1,4 +1,6 @@
 // What a journal comes to, whole in a slice: its posted table, and its notices.
+#![tactic(auto)]
+
 pub mod brn_file;
 
 ghost use Rattle.std.specs.Prelude.{◌≡◌, length};

@@ -1,4 +1,6 @@
 // Whether an output has room for the notices of a journal, told without making its calls.
+#![tactic(auto)]
+
 ghost use Rattle.std.specs.Prelude.{◌≡◌, leb};
 ghost use Rattle.room.specs.Room.{most_of, most_in};
 

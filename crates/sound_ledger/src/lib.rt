@@ -1,4 +1,6 @@
 // Whether a ledger by value is sound. The tests are strict (`&`), in the order of the definition.
+#![tactic(auto)]
+
 ghost use Rattle.std.specs.Prelude.{◌≡◌};
 ghost use Rattle.ledger.specs.Sound.{sound_ledger};
 

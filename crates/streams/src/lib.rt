@@ -1,4 +1,6 @@
 // What a program that reads standard input in pieces writes, to which descriptor, and how the reading ends.
+#![tactic(auto)]
+
 pub mod output;
 pub mod pieces;
 

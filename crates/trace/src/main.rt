@@ -1,4 +1,6 @@
 // Reads a journal on standard input and writes what became of each of its entries.
+#![tactic(auto)]
+
 use replay::{Wanted, ending};
 use streams::output;
 

@@ -1,4 +1,6 @@
 // The lines of program `trace`, written into the lent output.
+#![tactic(auto)]
+
 pub mod group_lines;
 
 ghost use Rattle.std.specs.Prelude.{◌≡◌, ◌+◌, ◌≤◌, nat_abs, length};

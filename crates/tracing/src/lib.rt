@@ -1,4 +1,6 @@
 // The trace of the entries at the start of some bytes: each entry is made on a ledger that is lent as words, and its lines are written.
+#![tactic(auto)]
+
 ghost use Rattle.std.specs.Prelude.{◌≡◌, true, ◌+◌, ◌-◌, ◌≤◌, length};
 ghost use Rattle.ledger.specs.Sound.{sound_ledger};
 ghost use Rattle.words.specs.Layout.{ledger_of};

@@ -46,6 +46,7 @@ long f h k l =
 
 pub month-long : (y m : ℕ) → 1 ≤ m → m ≤ 12 → (28 ≤ month_days y m) × (month_days y m ≤ 31)
 unfolding month_days lengths Long
+month-long y zero h l = elim h [ ]
 month-long y (suc k) h l =
     in-any-year (λ f. Long f (suc k)) (long 29 refl k (omega arith)) (long 28 refl k (omega arith)) y
 

@@ -1,5 +1,7 @@
 // The three quantities and the dates, each a type of its own: a sum or comparison takes only its own unit. Days are
 // counted in days.rt.
+#![tactic(auto)]
+
 mod days;
 
 ghost use Rattle.std.specs.Prelude.{◌≡◌, ◌+◌, ◌<◌, ◌^◌, leb, ltb, eqb};
@@ -7,22 +9,22 @@ ghost use Rattle.units.specs.Units.{fits_cents, fits_ccf, fits_rate};
 ghost use Rattle.units.specs.Calendar.{is_leap, month_days, is_date};
 
 // Whole cents.
-#[derive(Drop)]
+#[derive(Clone, Copy)]
 pub struct Cents(pub u64);
 
 // Whole hundred cubic feet.
-#[derive(Drop)]
+#[derive(Clone, Copy)]
 pub struct Ccf(pub u64);
 
 // Hundred-thousandths of a dollar per Mcf.
-#[derive(Drop)]
+#[derive(Clone, Copy)]
 pub struct Rate(pub u64);
 
 // The last date of the "years 1900 to 2999".
 pub const LAST_DATE: u64 = 29991231;
 
 // A date as yyyymmdd.
-#[derive(Drop)]
+#[derive(Clone, Copy)]
 pub struct Date(pub u64);
 
 impl Cents {

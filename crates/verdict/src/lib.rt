@@ -1,4 +1,6 @@
 // Lines 4 to 10: the verdict of a group that passes lines 1 to 3, on the bill that it names.
+#![tactic(auto)]
+
 ghost use Rattle.std.specs.Prelude.{◌≡◌, true, ◌≤◌, length};
 ghost use Rattle.fields.specs.Put.{same_list};
 ghost use Rattle.fields.specs.Field.{field_of};

@@ -1,4 +1,6 @@
 // A ledger as an array of 64-bit words: which words are those of a ledger, and a bill read from and written as the words of a place.
+#![tactic(auto)]
+
 ghost use Rattle.std.specs.Prelude.{◌≡◌, true, ◌+◌, ◌≤◌, ◌<◌, [], ◌∷◌, ◌++◌, length, drop};
 ghost use Rattle.fields.specs.Put.{put};
 ghost use Rattle.ledger.specs.Books.{empty_ledger};

@@ -3,13 +3,11 @@ use Prim.Native.Nat.{ℕ, ◌+◌, ◌*◌, ◌/◌, ◌≤◌, ◌<◌}
 use mathlib.Core.Path.{◌≡◌}
 use mathlib.Core.Bool.{true}
 use native.Mathlib.Omega.{arith}
-use borrow.Author.Rules.{rules}
 use Rattle.units.specs.Calendar.{year, month, day, month_days, is_date}
 use Rattle.units.specs.Days.{last_date}
 use Rattle.units.proofs.DateLaws.{Next, date-parts, parts-date, no-date, date-month, next-found}
 use Rattle.units.proofs.MonthLaws.{month-long, month-some, december}
-use Rattle.units.proofs.Date.next.Statement.{statement}
-use Rattle.units.proofs.Date.next.Tie as tie
+use Rattle.units.proofs.Date.next.Goals as goal
 
 module _ (d : ℕ) (h : is_date d ≡ true) where
   in-month : day d < month_days (year d) (month d) → Next d (d + 1)
@@ -55,50 +53,18 @@ module _ (d : ℕ) (h : is_date d ≡ true) where
             omega (arith, month-long (year e) (month e) n.0 n.1));
       }
 
-month-days-requires : tie.Need-month-days-requires
-month-days-requires c κs = search rules
+pub returns-then-d-last : goal.returns-then-d-last
+returns-then-d-last c =
+    let d = c.args.self.0 in
+    next-found d (d + 1) (in-month d c.requires.0 (omega arith))
 
-add-t8 : tie.Need-overflow-add-t8
-add-t8 c = search rules
+pub returns-then-m-lt12 : goal.returns-then-m-lt12
+returns-then-m-lt12 c =
+    let d = c.args.self.0 in
+    next-found d (d / 100 * 100 + 101) (month-end d c.requires.0 (omega arith) (omega arith))
 
-returns : tie.Need-returns
+pub returns : goal.returns
 returns c =
-    let d = c.before.before.args.self.0 in
-    next-found d (d + 1) (in-month d c.before.before.requires.0 (omega arith))
-
-mul-t10 : tie.Need-overflow-mul-t10
-mul-t10 c = search rules
-
-add-t11 : tie.Need-overflow-add-t11
-add-t11 c = search rules
-
-returns-2 : tie.Need-returns-2
-returns-2 c =
-    let d = c.before.before.before.args.self.0 in
-    next-found d (d / 100 * 100 + 101) (month-end d c.before.before.before.requires.0 (omega arith) (omega arith))
-
-mul-t6 : tie.Need-overflow-mul-t6
-mul-t6 c = search rules
-
-add-t12 : tie.Need-overflow-add-t12
-add-t12 c = search rules
-
-returns-3 : tie.Need-returns-3
-returns-3 c =
-    let d = c.before.before.before.args.self.0 in
-    let q = c.before.before.before.requires in
+    let d = c.args.self.0 in
+    let q = c.requires in
     next-found d (d / 10000 * 10000 + 10101) (year-end d q.0 (omega arith) (omega arith) q.1)
-
-pub next-spec : {M : Type 1} → statement M
-next-spec =
-    tie.close
-    (tie.spec
-    month-days-requires
-    add-t8
-    returns
-    mul-t10
-    add-t11
-    returns-2
-    mul-t6
-    add-t12
-    returns-3)

@@ -1,0 +1,55 @@
+use Prim.Native.Nat.{ℕ, ◌+◌, ◌-◌, ◌*◌, ◌^◌, ◌≤◌, ◌<◌}
+use mathlib.Core.Path.{◌≡◌, refl, ap}
+use mathlib.Core.Bool.{true}
+use mathlib.Core.List.{List, [], ◌∷◌, ◌++◌}
+use native.Mathlib.Omega.{arith}
+use lib.ListN.{length, take, get_or}
+use lib.Seq.{length-take-le, take_all}
+use Rattle.fields.specs.Digits.{number, numeric}
+use Rattle.fields.proofs.PutLaws.{take_more}
+use Rattle.fields.proofs.DigitLaws.{number_lt, number-snoc, numeric-snoc, numeric-at, pow-le, field-number, field-not, is_digit-in, is_digit-low, is_digit-high}
+use Rattle.fields.proofs.read_digits.Goals as goal
+
+-- the number so far has at most eighteen digits
+small : (f : List ℕ) (n i : ℕ) → i < length f → length f ≤ 19 → numeric (take i f) ≡ true → n ≡ number (take i f) → n < 10 ^ 18
+small f n i h l k e =
+    let p : number (take i f) < 10 ^ length (take i f) = number_lt (take i f) k in
+    let q : 10 ^ length (take i f) ≤ 10 ^ 18 = pow-le (length (take i f)) 18 (omega (arith, length-take-le i f (omega arith))) in
+    omega arith
+
+pub loop-i-init : goal.loop-i-init
+unfolding numeric number
+loop-i-init c = (omega arith, refl, refl)
+
+pub returns-then-x-lt48 : goal.returns-then-x-lt48
+returns-then-x-lt48 c =
+    let f = c.args.f.now in
+    field-not f (numeric-at f c.loop-i.i (omega arith) (is_digit-low _ c.if-x-lt48.true))
+
+pub returns-then-x-gt57 : goal.returns-then-x-gt57
+returns-then-x-gt57 c =
+    let f = c.args.f.now in
+    field-not f (numeric-at f c.loop-i.i (omega arith) (is_digit-high _ c.if-x-gt57.true))
+
+pub overflow_mul-n : goal.overflow_mul-n
+overflow_mul-n c = let l = c.loop-i in omega (arith, small c.args.f.now l.n l.i (omega arith) (omega arith) l.invariant.1 l.invariant.2)
+
+pub overflow_add-n : goal.overflow_add-n
+overflow_add-n c = let l = c.loop-i in omega (arith, small c.args.f.now l.n l.i (omega arith) (omega arith) l.invariant.1 l.invariant.2)
+
+pub loop-i-preserved : goal.loop-i-preserved
+loop-i-preserved c =
+    let f = c.args.f.now in
+    let l = c.loop-i in
+    let t : take (l.i + 1) f ≡ take l.i f ++ (get_or f l.i 0 ∷ []) = take_more f l.i (omega arith) in (
+      omega arith,
+      rw t (numeric-snoc (take l.i f) (get_or f l.i 0) l.invariant.1 (is_digit-in (get_or f l.i 0) (omega arith) (omega arith))),
+      rw (t, number-snoc (take l.i f) (get_or f l.i 0)) (ap (λ (n : ℕ). n * 10 + (get_or f l.i 0 - 48)) l.invariant.2),
+    )
+
+pub returns : goal.returns
+returns c =
+    let f = c.args.f.now in
+    let l = c.loop-i in
+    let t : take l.i f ≡ f = take_all l.i f (omega arith) in
+    field-number f l.n (rw t at l.invariant.1) (rw t at l.invariant.2)
