@@ -10,7 +10,7 @@ use ledger::Ledger;
 
 // What a call that was carried out returns: the signed change in cents, how many bytes it wrote, of a file how many groups were
 // accepted and rejected, of a close how many bills it closed.
-#[derive(Drop)]
+#[derive(Clone, Copy)]
 pub struct Returned {
     pub change: i64,
     pub written: usize,
@@ -20,14 +20,14 @@ pub struct Returned {
 }
 
 // A call was carried out, or refused with the number of its cause.
-#[derive(Drop)]
+#[derive(Clone, Copy)]
 pub enum Answer {
     Done(Returned),
     Refused(u64),
 }
 
 // The ledger that a call leaves, and its answer.
-#[derive(Drop)]
+#[derive(Clone, Copy)]
 pub struct Called {
     pub ledger: Ledger,
     pub answer: Answer,

@@ -13,7 +13,7 @@ use rules::Check;
 use units::{Ccf, Date};
 
 // What fresh takes.
-#[derive(Drop)]
+#[derive(Clone, Copy)]
 pub struct Start {
     pub today: Date,
     pub tracking: u64,
@@ -21,7 +21,7 @@ pub struct Start {
 }
 
 // Five bytes that may hold a rate code.
-#[derive(Drop)]
+#[derive(Clone, Copy)]
 pub struct CodeField {
     pub first: u8,
     pub second: u8,
@@ -45,7 +45,7 @@ pub fn code_field(s: &[u8]) -> CodeField
 }
 
 // What a request takes: the rate code in five bytes, the product as B or P.
-#[derive(Drop)]
+#[derive(Clone, Copy)]
 pub struct Request {
     pub code: CodeField,
     pub identity: Identity,
@@ -57,28 +57,28 @@ pub struct Request {
 }
 
 // A request that leaves its Scheduled Date to the calendar: so many business days from today. The date that `request` holds is not read.
-#[derive(Drop)]
+#[derive(Clone, Copy)]
 pub struct CalendarRequest {
     pub request: Request,
     pub number: u64,
 }
 
 // What a removal takes: the removal date of all bills of an account.
-#[derive(Drop)]
+#[derive(Clone, Copy)]
 pub struct AccountRemoval {
     pub account: u64,
     pub date: Date,
 }
 
 // What a request or a cancel comes to: the first cause against it, and the header and the bill that it leaves.
-#[derive(Drop)]
+#[derive(Clone, Copy)]
 pub struct Decision {
     pub check: Check,
     pub update: Update,
 }
 
 // What a request or a cancel takes: each is a call on one bill.
-#[derive(Drop)]
+#[derive(Clone, Copy)]
 pub enum BillCall {
     Request(Request),
     Cancel(Identity),

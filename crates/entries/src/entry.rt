@@ -11,7 +11,7 @@ use engine::call;
 use journal::{Body, Head};
 
 // What stands before a reader: no whole good entry, and whether a bad one; or one that was made, with how many bytes it has and what its call answers.
-#[derive(Drop)]
+#[derive(Clone, Copy)]
 pub enum Stepped {
     NoEntry(bool),
     Made(usize, Answer),

@@ -14,7 +14,7 @@ use calls::Answer;
 
 // How many bytes were read, how many entries came by now, how many bytes stand of them in the output or would, whether the output has no room for another entry's, and
 // whether a bad entry stands there.
-#[derive(Drop)]
+#[derive(Clone, Copy)]
 pub struct Ran {
     pub used: usize,
     pub seen: u64,

@@ -86,7 +86,7 @@ pub fn is_digit(x: u8) -> bool
 }
 
 // What a field holds: a number, where it holds digits only.
-#[derive(Drop)]
+#[derive(Clone, Copy)]
 pub enum Field {
     Number(u64),
     NotNumeric,

@@ -11,7 +11,7 @@ ghost use Rattle.file.specs.parts.Walk.{records_after, group_at, pair_form};
 use records::{FILE_SIZE, RECORD_SIZE, layout};
 
 // What lines 1 and 2 say of a group: BR17, BR19, or its Notification Code.
-#[derive(Drop)]
+#[derive(Clone, Copy)]
 pub enum Form {
     Broken,
     Unknown,
@@ -115,7 +115,7 @@ pub fn detail_count(s: &[u8], i: usize, n: usize) -> usize
 }
 
 // How many groups there are, and how many ask for a Tracking ID: what cause 12 counts.
-#[derive(Drop)]
+#[derive(Clone, Copy)]
 pub struct Counts {
     pub groups: usize,
     pub ids: usize,

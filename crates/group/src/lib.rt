@@ -21,7 +21,7 @@ use units::Date;
 use verdict::{Notification, Sought, Verdict};
 
 // A group of a file: the record that is its header, how many records the file has, and whether the group gets BR14.
-#[derive(Drop)]
+#[derive(Clone, Copy)]
 pub struct GroupAt {
     pub header: usize,
     pub records: usize,
@@ -30,7 +30,7 @@ pub struct GroupAt {
 
 // What came of a file's groups so far: how many were accepted and rejected, how many bytes their answers have, and the sums of the charges that were posted and
 // of those that they replaced.
-#[derive(Drop)]
+#[derive(Clone, Copy)]
 pub struct Tally {
     pub accepted: u64,
     pub rejected: u64,
@@ -40,7 +40,7 @@ pub struct Tally {
 }
 
 // What a group's turn leaves: the header and the bill at its place, and the counts.
-#[derive(Drop)]
+#[derive(Clone, Copy)]
 pub struct TurnResult {
     pub update: Update,
     pub tally: Tally,

@@ -14,7 +14,7 @@ use ledger::{Bill, Identity, Ledger, LedgerHeader};
 use rules::Found;
 
 // What a group or a call reads of a ledger: the ledger but for its bills, the place of its bill if it has one, the place that its bill has or gets, and what stands there.
-#[derive(Drop)]
+#[derive(Clone, Copy)]
 pub struct Standing {
     pub header: LedgerHeader,
     pub found: Found,
@@ -46,7 +46,7 @@ pub fn read_for(l: Ledger, id: Identity) -> Standing
 }
 
 // What taking a file's groups comes to: the ledger and the counts.
-#[derive(Drop)]
+#[derive(Clone, Copy)]
 pub struct Taken {
     pub ledger: Ledger,
     pub tally: Tally,

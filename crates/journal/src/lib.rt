@@ -18,7 +18,7 @@ use units::{Ccf, Date};
 pub const ENTRY_LIMIT: u64 = 1000000000;
 
 // What an entry's body holds. Unread: a field that should be digits is not, so the call is refused with 2.
-#[derive(Drop)]
+#[derive(Clone, Copy)]
 pub enum Body {
     Fresh(Start),
     Request(Request),
@@ -30,7 +30,7 @@ pub enum Body {
 }
 
 // What stands at the start of some bytes: too few of them, a bad entry, or a whole entry and how many bytes it has.
-#[derive(Drop)]
+#[derive(Clone, Copy)]
 pub enum Head {
     Cut,
     Bad,
@@ -38,14 +38,14 @@ pub enum Head {
 }
 
 // What stands there by its tag and length alone: no whole entry, or one with this tag and so many bytes in its body.
-#[derive(Drop)]
+#[derive(Clone, Copy)]
 pub enum Frame {
     Nothing,
     Sized(u8, usize),
 }
 
 // What an account and the key behind it hold: the identity, where both hold digits only.
-#[derive(Drop)]
+#[derive(Clone, Copy)]
 enum IdentityField {
     Numeric(Identity),
     NotNumeric,

@@ -22,7 +22,7 @@ use Rattle.rules.proofs.ListLaws.{sum-set}
 
 -- what a function is told of a ledger says that its array has 128 places
 pub places : (l : Ledger) (vs : List Val) → Is the_row l vs → length l.bills ≡ 128
-places l vs p = sym (length-map l.bills _) ∙ p.1.1.1.1.1.1.0.1.0.1
+places l vs p = p.1.1.1.1.1.1.0.1.0.1
 
 -- the bills held after a bill is added, and after one is replaced
 pub live-appended : (l : Ledger) (b : Bill) → l.count < length l.bills → live (appended l b) ≡ live l ++ (b ∷ [])

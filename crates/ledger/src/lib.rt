@@ -25,14 +25,14 @@ pub const ACCOUNT_END: u64 = 1000000000000;
 pub const KEY_END: u64 = 10000;
 
 // What identifies a bill: Customer Account Number and Bill Key.
-#[derive(Drop)]
+#[derive(Clone, Copy)]
 pub struct Identity {
     pub account: u64,
     pub key: u64,
 }
 
 // Two of A-Z or 0-9, then C, then two digits: the C is not held.
-#[derive(Drop)]
+#[derive(Clone, Copy)]
 pub struct RateCode {
     pub first: u8,
     pub second: u8,
@@ -40,14 +40,14 @@ pub struct RateCode {
     pub ones: u8,
 }
 
-#[derive(Drop)]
+#[derive(Clone, Copy)]
 pub enum Product {
     BillReady,
     Prepay,
 }
 
 // A bill's posted amounts.
-#[derive(Drop)]
+#[derive(Clone, Copy)]
 pub enum Posted {
     None,
     BillReady(Cents),
@@ -59,14 +59,14 @@ pub enum Posted {
 }
 
 // When a bill's account was removed, if it was: paper 2 of document 02.
-#[derive(Drop)]
+#[derive(Clone, Copy)]
 pub enum Removal {
     Never,
     On(Date),
 }
 
 // What a bill has from its latest request.
-#[derive(Drop)]
+#[derive(Clone, Copy)]
 pub struct Latest {
     pub tracking: u64,
     pub consumption: Ccf,
@@ -76,7 +76,7 @@ pub struct Latest {
 }
 
 // A bill but for its posted amounts: what the rules read of it.
-#[derive(Drop)]
+#[derive(Clone, Copy)]
 pub struct Terms {
     pub identity: Identity,
     pub code: RateCode,
@@ -88,14 +88,14 @@ pub struct Terms {
     pub removal: Removal,
 }
 
-#[derive(Drop)]
+#[derive(Clone, Copy)]
 pub struct Bill {
     pub terms: Terms,
     pub posted: Posted,
 }
 
 // The bills held are the first `count`, in order of first request; the others play no part.
-#[derive(Drop)]
+#[derive(Clone, Copy)]
 pub struct Ledger {
     pub today: Date,
     pub next_tracking: u64,
@@ -105,7 +105,7 @@ pub struct Ledger {
 }
 
 // A ledger but for its bills.
-#[derive(Drop)]
+#[derive(Clone, Copy)]
 pub struct LedgerHeader {
     pub today: Date,
     pub tracking: u64,
@@ -114,14 +114,14 @@ pub struct LedgerHeader {
 }
 
 // What a call or a group leaves: the header, and the bill at its place.
-#[derive(Drop)]
+#[derive(Clone, Copy)]
 pub struct Update {
     pub header: LedgerHeader,
     pub bill: Bill,
 }
 
 // Where a bill stands in its life.
-#[derive(Drop)]
+#[derive(Clone, Copy)]
 pub enum State {
     Open,
     Issued,

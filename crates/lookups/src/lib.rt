@@ -13,14 +13,14 @@ use rules::Found;
 use units::{Cents, Date};
 
 // The place of an open bill, or the number of the cause against it.
-#[derive(Drop)]
+#[derive(Clone, Copy)]
 pub enum Place {
     At(usize),
     Refused(u64),
 }
 
 // A bill's amounts, or the number of the cause against them.
-#[derive(Drop)]
+#[derive(Clone, Copy)]
 pub enum Amounts {
     Posted {
         charge: Cents,
@@ -38,7 +38,7 @@ pub fn is_open_of(b: Bill, account: u64, today: Date) -> bool
 }
 
 // The open bill due first among those that a walk has seen, once there is one: its place and its Scheduled Date.
-#[derive(Drop)]
+#[derive(Clone, Copy)]
 pub struct DueFirst {
     pub held: bool,
     pub place: usize,

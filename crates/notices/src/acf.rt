@@ -3,7 +3,7 @@ use ledger::Terms;
 use units::Date;
 
 // What an ACF holds besides the sender's header: the bill's terms, the Tracking ID that a SUP takes, today and the Confirmation Number.
-#[derive(Drop)]
+#[derive(Clone, Copy)]
 pub struct Acf {
     pub terms: Terms,
     pub tracking: u64,

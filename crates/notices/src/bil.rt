@@ -10,7 +10,7 @@ use records::layout;
 use units::{Ccf, Cents, Date};
 
 // What a BIL holds: the bill as the request left it, and its consumption before that.
-#[derive(Drop)]
+#[derive(Clone, Copy)]
 pub struct Bil {
     pub bill: Bill,
     pub previous: Ccf,

@@ -9,7 +9,7 @@ use records::layout;
 use units::Date;
 
 // What a CXL holds: the bill's terms, and the numbers that the cancel uses.
-#[derive(Drop)]
+#[derive(Clone, Copy)]
 pub struct Cxl {
     pub terms: Terms,
     pub tracking: u64,

@@ -17,7 +17,7 @@ use records::layout;
 use units::Date;
 
 // What positions 1 to 41 of a record of our own hold, header and detail alike, but for type and Notification Code.
-#[derive(Drop)]
+#[derive(Clone, Copy)]
 pub struct Alike {
     pub code: RateCode,
     pub account: u64,

@@ -2,7 +2,7 @@
 use units::Date;
 
 // What a REJ holds besides the sender's records: the code, a number that stands behind BR, today and the Confirmation Number.
-#[derive(Drop)]
+#[derive(Clone, Copy)]
 pub struct Rej {
     pub code: u64,
     pub today: Date,

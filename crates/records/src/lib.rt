@@ -23,7 +23,7 @@ pub const FILE_RECORDS: usize = 200;
 pub const FILE_SIZE: usize = 64200;
 
 // A field of the four tiers: its four numbers, where each holds digits only.
-#[derive(Drop)]
+#[derive(Clone, Copy)]
 pub enum Tiers {
     Numbers(u64, u64, u64, u64),
     NotNumeric,

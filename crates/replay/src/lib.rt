@@ -20,7 +20,7 @@ use streams::{output, pieces};
 pub mod ending;
 
 // What is written of the entries: nothing, their notices, or lines that say what became of each.
-#[derive(Drop)]
+#[derive(Clone, Copy)]
 pub enum Wanted {
     Nothing,
     Notices,

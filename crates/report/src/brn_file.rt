@@ -11,7 +11,7 @@ use entries::run;
 const LAST_ROOM: usize = 2 * records::FILE_SIZE;
 
 // Whether the notices of a journal have room in an output; where they have none, whether the journal ended bad.
-#[derive(Drop)]
+#[derive(Clone, Copy)]
 enum Fit {
     Fits,
     Short(bool),

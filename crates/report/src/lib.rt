@@ -9,14 +9,14 @@ ghost use Rattle.report.specs.Report.{Reports};
 use entries::run;
 
 // So many bytes were written; or the output lent is too small: for a table one under 10,970 bytes, which the longest table has.
-#[derive(Drop)]
+#[derive(Clone, Copy)]
 pub enum Report {
     Written(usize),
     TooSmall,
 }
 
 // What came of writing a journal's table or its notices, and whether the journal ended bad (the table's `stopped,13`).
-#[derive(Drop)]
+#[derive(Clone, Copy)]
 pub struct Reported {
     pub report: Report,
     pub stopped: bool,

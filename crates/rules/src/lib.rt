@@ -2,14 +2,14 @@
 // No condition is true, or the code of the first that is.
 #![tactic(auto)]
 
-#[derive(Drop)]
+#[derive(Clone, Copy)]
 pub enum Check {
     Clear,
     Stop(u64),
 }
 
 // The place in a list of what was looked for, from 0.
-#[derive(Drop)]
+#[derive(Clone, Copy)]
 pub enum Found {
     At(usize),
     Nothing,

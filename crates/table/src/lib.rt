@@ -26,7 +26,7 @@ pub const STOP_SIZE: usize = 11;
 pub const TABLE_ROOM: usize = 10970;
 
 // What comes of asking for a table: how many bytes it has, or the number of the cause against it.
-#[derive(Drop)]
+#[derive(Clone, Copy)]
 pub enum Printed {
     Table(usize),
     Refused(u64),

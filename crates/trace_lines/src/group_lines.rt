@@ -83,7 +83,7 @@ fn next_answer(sent: &[u8], from: usize, k: usize) -> usize
 }
 
 // Where the walk over a file's groups has come to in the output and in the answers.
-#[derive(Drop)]
+#[derive(Clone, Copy)]
 struct Reached {
     end: usize,
     from: usize,

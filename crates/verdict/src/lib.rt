@@ -20,28 +20,28 @@ use rules::Check;
 use units::{Ccf, Cents, Date, Rate};
 
 // The Notification Code of a group that passes lines 1 and 2.
-#[derive(Drop)]
+#[derive(Clone, Copy)]
 pub enum Notification {
     Response,
     Supplement,
 }
 
 // The bill that a group names, if there is one.
-#[derive(Drop)]
+#[derive(Clone, Copy)]
 pub enum Sought {
     Bill(Terms),
     Nothing,
 }
 
 // Tier 1's rate, where it is numeric.
-#[derive(Drop)]
+#[derive(Clone, Copy)]
 enum TierRate {
     Of(Rate),
     NotNumeric,
 }
 
 // A group's verdict: accepted with its amounts, or rejected with its code.
-#[derive(Drop)]
+#[derive(Clone, Copy)]
 pub enum Verdict {
     Accepted(Posted),
     Rejected(u64),

@@ -1,5 +1,4 @@
 -- `ledger::books::signed_change` meets its contract.
-use borrow.Author.Rules.{rules}
 use native.Mathlib.Omega.{arith}
 use Prim.Native.Nat.{ℕ, zero, suc, ◌-◌, ◌<◌, ◌^◌}
 use mathlib.Core.Path.{◌≡◌}
@@ -10,8 +9,7 @@ use lib.Signed.{mag}
 use mir.Syntax.{w64}
 use mir.Val.{SFits, to_z, of_z}
 use mir.ValLaws.{to_z_pos, to_z-of_z}
-use Rattle.ledger.proofs.books.signed_change.Statement.{statement}
-use Rattle.ledger.proofs.books.signed_change.Tie as tie
+use Rattle.ledger.proofs.books.signed_change.Goals as goal
 
 -- the difference of two numbers below h is below h in size
 module _ (h : ℕ) where
@@ -30,17 +28,8 @@ module _ (new old : ℕ) (p : new < 2 ^ 63) (q : old < 2 ^ 63) where
   value : to_z w64 (of_z w64 (to_z w64 new -ℤ to_z w64 old)) ≡ pos new -ℤ pos old
   value = rw (to_z-of_z w64 _ fits, to_z_pos w64 new p, to_z_pos w64 old q)
 
-cast-result : tie.Need-overflow-cast-result
-cast-result c = search rules
+pub overflow_sub-result : goal.overflow_sub-result
+overflow_sub-result c = fits _ _ c.requires.0 c.requires.1
 
-cast-result-2 : tie.Need-overflow-cast-result-2
-cast-result-2 c = search rules
-
-sub-result : tie.Need-overflow-sub-result
-sub-result c = fits _ _ c.before.before.requires.0 c.before.before.requires.1
-
-returns : tie.Need-returns
-returns c = value _ _ c.before.before.requires.0 c.before.before.requires.1
-
-pub signed-change-spec : {M : Type 1} → statement M
-signed-change-spec = tie.close (tie.spec cast-result cast-result-2 sub-result returns)
+pub returns : goal.returns
+returns c = value _ _ c.requires.0 c.requires.1
