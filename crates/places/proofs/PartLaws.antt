@@ -105,9 +105,9 @@ module _ (ws : List ℕ) (h : holds_ledger ws ≡ true) where
   said_of = ap (λ (l : Ledger). every bill_said l.bills) (of_words ws h) ∙ all_said 128 (drop 4 ws) (words-bills ws h)
 
   -- the header
-  pub header_of : header_of (ledger_of ws) ≡ record { today = date_of (get_or ws 0 0); tracking = get_or ws 1 0; confirmation = get_or ws 2 0; count = get_or ws 3 0 }
+  pub header_of_lem : header_of (ledger_of ws) ≡ record { today = date_of (get_or ws 0 0); tracking = get_or ws 1 0; confirmation = get_or ws 2 0; count = get_or ws 3 0 }
   unfolding ledger_in
-  header_of = ap header_of (of_words ws h)
+  header_of_lem = ap header_of (of_words ws h)
 
   -- the bill at a place
   pub bill-of : (p : ℕ) → p < 128 → bill_in (drop (4 + place_size * p) ws) ≡ bill_at (ledger_of ws) p

@@ -1,0 +1,7 @@
+-- `file::is_header` meets its contract.
+use Rattle.file.specs.File.{is_header}
+use Rattle.file.proofs.is_header.Goals as goal
+
+pub returns : goal.returns
+unfolding is_header
+returns c = c.has_type.ensures

@@ -1,0 +1,17 @@
+-- `places::checks::all_distinct` meets its contract. The invariant: the slots of the identities before place i are met, and none of these stands
+-- twice.
+use Prim.Native.Nat.{◌-◌, ◌≤◌}
+use mathlib.Core.Path.{◌≡◌}
+use mathlib.Core.Bool.{true}
+use lib.ListN.{length, take}
+use Rattle.ledger.specs.Sound.{distinct}
+use Rattle.words.specs.Layout.{ledger_of}
+use Rattle.places.specs.parts.Slots.{slots}
+use Rattle.places.proofs.DistinctLaws.{Noted}
+use Rattle.places.proofs.checks.all_distinct.Given as goal
+
+abbrev pub invariant-loop-i : goal.invariant-loop-i
+invariant-loop-i l = (l.i ≤ l.n) × (length l.met ≡ slots) × Noted (ledger_of l.ws).bills l.met l.i × (distinct (take l.i (ledger_of l.ws).bills) ≡ true)
+
+abbrev pub decreases-loop-i : goal.decreases-loop-i
+decreases-loop-i l = l.n - l.i

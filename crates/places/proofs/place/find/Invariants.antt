@@ -1,0 +1,18 @@
+-- `places::place::find` meets its contract: the search from i on is the whole search.
+use Prim.Native.Nat.{◌-◌, ◌≤◌}
+use mathlib.Core.Path.{◌≡◌}
+use lib.ListN.{take}
+use lib.Seq.{slice}
+use Rattle.rules.specs.Lists.{find}
+use Rattle.ledger.specs.Books.{of_id}
+use Rattle.words.specs.Layout.{ledger_of}
+use Rattle.places.proofs.place.find.Given as goal
+
+abbrev pub invariant-loop-i : goal.invariant-loop-i
+invariant-loop-i l =
+    (l.i ≤ l.n)
+    × (find (of_id (record { account = l.account; key = l.key })) l.i (slice l.i l.n (ledger_of l.ws).bills)
+    ≡ find (of_id (record { account = l.account; key = l.key })) 0 (take l.n (ledger_of l.ws).bills))
+
+abbrev pub decreases-loop-i : goal.decreases-loop-i
+decreases-loop-i l = l.n - l.i
