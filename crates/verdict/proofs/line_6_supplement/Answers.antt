@@ -1,20 +1,10 @@
 -- `verdict::line_6_supplement` meets its contract: each test is a rule's condition.
-use mathlib.Core.Path.{◌≡◌, sym, ◌∙◌}
-use borrow.Author.Tests.{not-true, not-false, eq-eqb, ne_eqb}
+use mathlib.Core.Path.{sym, ◌∙◌}
+use borrow.Author.Tests.{eq-eqb, ne_eqb}
 use Rattle.fields.specs.Digits.{digits}
 use Rattle.verdict.specs.Lines.{line6}
-use Rattle.verdict.specs.declared.Notification.TheVariants.{Supplement}
-use Rattle.rules.specs.Rules.{first}
-use Rattle.verdict.proofs.DatedLaws.{dated-billing, dated-removal, sup-sequence, past-dates}
+use Rattle.verdict.proofs.DatedLaws.{dated-billing, dated-removal, past-dates}
 use Rattle.verdict.proofs.line_6_supplement.Goals as goal
-
--- past the dates the sequence alone is asked
-passed : (c : goal.Else-removed_long) →
-    let a = c.args in
-    first (line6 Supplement a.today a.h.now a.d.now a.t) ≡ first (sup-sequence a.d.now a.t)
-passed c =
-    past-dates _ _ _ _ (sym c.is_open.ensures ∙ c.if-is_open.false) c.if-cancelled.false
-    (sym c.is_year_past.ensures ∙ c.if-is_year_past.false) (sym c.removed_long.ensures ∙ c.if-removed_long.false)
 
 pub returns-then-cancelled : goal.returns-then-cancelled
 unfolding line6
@@ -52,14 +42,14 @@ returns-then-removed_long c =
 
 pub returns-then-not-has_sequence : goal.returns-then-not-has_sequence
 unfolding digits
-returns-then-not-has_sequence c = rw (passed c.before.before, sym c.has_sequence.ensures ∙ not-true _ c.if-not-has_sequence.true)
+returns-then-not-has_sequence c = rw (past-dates c.args.today c.args.h.now c.args.d.now c.args.t (sym c.is_open.ensures ∙ c.if-is_open.false) c.if-cancelled.false (sym c.is_year_past.ensures ∙ c.if-is_year_past.false) (sym c.removed_long.ensures ∙ c.if-removed_long.false), sym c.has_sequence.ensures ∙ c.if-not-has_sequence.true)
 
 pub returns-then-sequence-eq-LAST_SEQUENCE : goal.returns-then-sequence-eq-LAST_SEQUENCE
 unfolding digits
 returns-then-sequence-eq-LAST_SEQUENCE c =
-    rw (passed c.before.before.before, sym c.has_sequence.ensures ∙ not-false _ c.if-not-has_sequence.false, eq-eqb _ _ c.if-sequence-eq-LAST_SEQUENCE.true)
+    rw (past-dates c.args.today c.args.h.now c.args.d.now c.args.t (sym c.is_open.ensures ∙ c.if-is_open.false) c.if-cancelled.false (sym c.is_year_past.ensures ∙ c.if-is_year_past.false) (sym c.removed_long.ensures ∙ c.if-removed_long.false), sym c.has_sequence.ensures ∙ c.if-not-has_sequence.false, eq-eqb _ _ c.if-sequence-eq-LAST_SEQUENCE.true)
 
 pub returns : goal.returns
 unfolding digits
 returns c =
-    rw (passed c.before.before.before, sym c.has_sequence.ensures ∙ not-false _ c.if-not-has_sequence.false, ne_eqb _ _ c.if-sequence-eq-LAST_SEQUENCE.false)
+    rw (past-dates c.args.today c.args.h.now c.args.d.now c.args.t (sym c.is_open.ensures ∙ c.if-is_open.false) c.if-cancelled.false (sym c.is_year_past.ensures ∙ c.if-is_year_past.false) (sym c.removed_long.ensures ∙ c.if-removed_long.false), sym c.has_sequence.ensures ∙ c.if-not-has_sequence.false, ne_eqb _ _ c.if-sequence-eq-LAST_SEQUENCE.false)

@@ -1,0 +1,8 @@
+-- `group::sought_by` meets its contract, by the place that was told.
+use Rattle.group.proofs.sought_by.Goals as goal
+
+pub returns-in-At : goal.returns-in-At
+returns-in-At c = rw c.in-At.is
+
+pub returns-in-Nothing : goal.returns-in-Nothing
+returns-in-Nothing c = rw c.in-Nothing.is

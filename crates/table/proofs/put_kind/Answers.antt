@@ -1,0 +1,7 @@
+-- `table::put_kind` meets its contract: one write of two bytes.
+use Rattle.table.specs.Table.{cell}
+use Rattle.table.proofs.put_kind.Goals as goal
+
+pub returns : goal.returns
+unfolding cell
+returns c = rw c.byte.ensures at c.put_bytes.ensures
