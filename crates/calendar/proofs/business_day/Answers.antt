@@ -1,0 +1,35 @@
+-- `calendar::business_day` meets its contract, cause by cause.
+use mathlib.Core.Path.{◌≡◌, sym, ◌∙◌}
+use mathlib.Core.Bool.{true, false}
+use native.Mathlib.Omega.{arith}
+use lib.Dec.{ltb}
+use borrow.Author.Tests.{not-true, not-false, lt-ltb, le-ltb}
+use Rattle.units.specs.Calendar.{is_date}
+use Rattle.calendar.specs.BusinessDays.{most_further, good_holidays, further_day, further_causes}
+use Rattle.calendar.proofs.business_day.Goals as goal
+
+pub returns-then-not-valid : goal.returns-then-not-valid
+unfolding further_day further_causes
+returns-then-not-valid c = rw (sym c.valid.ensures ∙ c.if-not-valid.true)
+
+pub returns-then-number-gt-MOST_FURTHER : goal.returns-then-number-gt-MOST_FURTHER
+unfolding further_day further_causes
+returns-then-number-gt-MOST_FURTHER c = rw ((sym c.valid.ensures ∙ c.if-not-valid.false), lt-ltb most_further c.args.number (omega arith))
+
+pub returns-then-not-good_holidays : goal.returns-then-not-good_holidays
+unfolding further_day further_causes
+returns-then-not-good_holidays c =
+    rw ((sym c.valid.ensures ∙ c.if-not-valid.false), le-ltb most_further c.args.number (omega arith), sym c.good_holidays.ensures ∙ c.if-not-good_holidays.true)
+
+pub further-found-requires : goal.further-found-requires
+further-found-requires c = (sym c.valid.ensures ∙ c.if-not-valid.false)
+
+pub returns-in-At : goal.returns-in-At
+unfolding further_day further_causes
+returns-in-At c =
+    rw ((sym c.valid.ensures ∙ c.if-not-valid.false), le-ltb most_further c.args.number (omega arith), sym c.good_holidays.ensures ∙ c.if-not-good_holidays.false, sym c.further-found.ensures ∙ c.in-At.is)
+
+pub returns-in-Nothing : goal.returns-in-Nothing
+unfolding further_day further_causes
+returns-in-Nothing c =
+    rw ((sym c.valid.ensures ∙ c.if-not-valid.false), le-ltb most_further c.args.number (omega arith), sym c.good_holidays.ensures ∙ c.if-not-good_holidays.false, sym c.further-found.ensures ∙ c.in-Nothing.is)

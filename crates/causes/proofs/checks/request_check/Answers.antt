@@ -1,0 +1,38 @@
+-- `causes::checks::request_check` meets its contract, cause by cause.
+use mathlib.Core.Path.{◌≡◌, sym, ◌∙◌}
+use mathlib.Core.List.{List, [], ◌∷◌, ◌++◌}
+use borrow.Author.Tests.{not-false, lt-ltb, le-ltb}
+use Rattle.verdict.proofs.RuleLaws.{first-stop, first-clear}
+use Rattle.rules.specs.Rules.{Rule, rule, first}
+use Rattle.causes.specs.Causes.{lacks, bill_causes, request_causes}
+use Rattle.causes.proofs.checks.request_check.Goals as goal
+
+pub returns-then-not-good_request : goal.returns-then-not-good_request
+unfolding request_causes
+returns-then-not-good_request c = rw (sym c.good_request.ensures ∙ c.if-not-good_request.true)
+
+pub returns-then-room-lt-NOTICE_SIZE : goal.returns-then-room-lt-NOTICE_SIZE
+unfolding request_causes
+returns-then-room-lt-NOTICE_SIZE c = rw (sym c.good_request.ensures ∙ c.if-not-good_request.false, lt-ltb _ _ c.if-room-lt-NOTICE_SIZE.true)
+
+pub returns-then-before : goal.returns-then-before
+unfolding request_causes
+returns-then-before c = rw (sym c.good_request.ensures ∙ c.if-not-good_request.false, le-ltb _ _ c.if-room-lt-NOTICE_SIZE.false, sym c.before-2.ensures ∙ c.if-before.true)
+
+pub returns-in-Stop : goal.returns-in-Stop
+unfolding request_causes
+returns-in-Stop c =
+    -- past cause 9 what is left is the bill's causes, and 12
+    rw (sym c.good_request.ensures ∙ c.if-not-good_request.false, le-ltb _ _ c.if-room-lt-NOTICE_SIZE.false, sym c.before-2.ensures ∙ c.if-before.false, first-stop _ _ (sym c.bill_check-check.ensures ∙ c.in-Stop.is))
+
+pub returns-then-lacks : goal.returns-then-lacks
+unfolding request_causes
+returns-then-lacks c =
+    -- past cause 9 what is left is the bill's causes, and 12
+    rw (sym c.good_request.ensures ∙ c.if-not-good_request.false, le-ltb _ _ c.if-room-lt-NOTICE_SIZE.false, sym c.before-2.ensures ∙ c.if-before.false, first-clear _ _ (sym c.bill_check-check.ensures ∙ c.in_default.is), sym c.lacks.ensures ∙ c.if-lacks.true)
+
+pub returns : goal.returns
+unfolding request_causes
+returns c =
+    -- past cause 9 what is left is the bill's causes, and 12
+    rw (sym c.good_request.ensures ∙ c.if-not-good_request.false, le-ltb _ _ c.if-room-lt-NOTICE_SIZE.false, sym c.before-2.ensures ∙ c.if-before.false, first-clear _ _ (sym c.bill_check-check.ensures ∙ c.in_default.is), sym c.lacks.ensures ∙ c.if-lacks.false)
