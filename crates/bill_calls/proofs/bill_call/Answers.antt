@@ -1,0 +1,78 @@
+-- `bill_calls::bill_call` meets its contract: 2 where the ledger is not sound, else by the cause that was told.
+use mathlib.Core.Path.{◌≡◌, sym, ap, ◌∙◌}
+use mathlib.Core.Bool.{true}
+use lib.ListN.{length}
+use mir.Syntax.{w64}
+use mir.ValLaws.{to_z-of_z}
+use borrow.Author.Rules.{sfits_of}
+use borrow.Author.Tests.{not-false}
+use Rattle.ledger.specs.declared.Identity.{Identity}
+use Rattle.ledger.specs.Books.{live, place_of}
+use Rattle.ledger.specs.Sound.{sound_ledger}
+use Rattle.ledger.proofs.BookLaws.{places}
+use Rattle.group.proofs.ReadyLaws.{sound-ready}
+use Rattle.causes.specs.parts.Decisions.{call_identity}
+use Rattle.calls.proofs.CallLaws.{cause-unsound, stopped, stopped-called, carried-called}
+use Rattle.calls.proofs.BillLaws.{Decided, sound-here, decided}
+use Rattle.bill_calls.proofs.bill_call.Goals as goal
+
+pub returns-then-not-sound : goal.returns-then-not-sound
+returns-then-not-sound c =
+    let l = c.args.l in
+    let unsound = sym c.sound.ensures ∙ c.if-not-sound.true in
+    rw c.refused.ensures (stopped-called (stopped l _ 2 (cause-unsound l _ unsound)) _)
+
+pub read_for-s-requires : goal.read_for-s-requires
+read_for-s-requires c =
+    let sure = sym c.sound.ensures ∙ c.if-not-sound.false in
+    (sound-ready c.args.l sure).count
+
+pub decide-d-requires : goal.decide-d-requires
+decide-d-requires c =
+    let l = c.args.l in
+    let s = c.read_for-s.ensures in
+    let sure = sym c.sound.ensures ∙ c.if-not-sound.false in
+    let finds = s.found ∙ ap (λ (x : Identity). place_of x (live l)) c.call_identity.ensures in
+    let q = sound-ready l sure in
+    record {
+      tracking_le_used_up = rw s.header (q.tracking, q.confirmation, q.count);
+      sound_at = rw s.bill (sound-here l (places l _ c.well_formed.0) sure _ _ s.place _ finds);
+    }
+
+pub returns-in-Stop : goal.returns-in-Stop
+returns-in-Stop c =
+    let l = c.args.l in
+    let s = c.read_for-s.ensures in
+    let sure = sym c.sound.ensures ∙ c.if-not-sound.false in
+    let finds = s.found ∙ ap (λ (x : Identity). place_of x (live l)) c.call_identity.ensures in
+    let known = decided l (places l _ c.well_formed.0) sure _ _ s.place _ c.args.c finds _ s.header _ s.bill _ c.decide-d.ensures in
+    rw c.refused-in-Stop.ensures (stopped-called (known.stops _ c.in-Stop.is) _)
+
+pub change_of-change-requires : goal.change_of-change-requires
+change_of-change-requires c =
+    let l = c.args.l in
+    let s = c.read_for-s.ensures in
+    let sure = sym c.sound.ensures ∙ c.if-not-sound.false in
+    let finds = s.found ∙ ap (λ (x : Identity). place_of x (live l)) c.call_identity.ensures in
+    let known = decided l (places l _ c.well_formed.0) sure _ _ s.place _ c.args.c finds _ s.header _ s.bill _ c.decide-d.ensures in
+    known.fits c.in_default.is
+
+pub put-requires : goal.put-requires
+put-requires c =
+    let l = c.args.l in
+    let s = c.read_for-s.ensures in
+    let sure = sym c.sound.ensures ∙ c.if-not-sound.false in
+    let finds = s.found ∙ ap (λ (x : Identity). place_of x (live l)) c.call_identity.ensures in
+    let known = decided l (places l _ c.well_formed.0) sure _ _ s.place _ c.args.c finds _ s.header _ s.bill _ c.decide-d.ensures in
+    λ z. known.wide c.in_default.is
+
+pub returns : goal.returns
+returns c =
+    let l = c.args.l in
+    let s = c.read_for-s.ensures in
+    let sure = sym c.sound.ensures ∙ c.if-not-sound.false in
+    let finds = s.found ∙ ap (λ (x : Identity). place_of x (live l)) c.call_identity.ensures in
+    let known = decided l (places l _ c.well_formed.0) sure _ _ s.place _ c.args.c finds _ s.header _ s.bill _ c.decide-d.ensures in
+    let change = c.change_of-change in
+    rw (c.noticed-answer.ensures, c.updated-next.ensures, to_z-of_z w64 change.result (sfits_of change.type_inv), change.ensures)
+    (carried-called (known.done c.in_default.is) _ _ c.put.ensures)

@@ -1,0 +1,67 @@
+-- `engine::call::bill_call_in` meets its contract, by the cause that was told.
+use native.Mathlib.Omega.{arith}
+use mir.Syntax.{w64}
+use mir.ValLaws.{to_z-of_z}
+use Rattle.words.specs.Layout.{ledger_of}
+use Rattle.words.proofs.WordLaws.{sound-holds}
+use Rattle.group.proofs.ReadyLaws.{sound-ready}
+use Rattle.calls.proofs.BillLaws.{Decided}
+use Rattle.engine.proofs.WordCalls.{stopped-in, carried-in, sound-in, decided-in}
+use Rattle.engine.proofs.WordRemovals.{said-decided}
+use borrow.Author.Rules.{sfits_of}
+use Rattle.engine.proofs.call.bill_call_in.Goals as goal
+
+pub header-h-requires : goal.header-h-requires
+header-h-requires c = sound-holds _ c.requires.0
+
+pub find-f-requires : goal.find-f-requires
+find-f-requires c =
+    let sure = c.requires.0 in
+    (sound-holds _ sure, rw c.header-h.ensures (sound-ready _ sure).count)
+
+pub bill_at-b-requires : goal.bill_at-b-requires
+bill_at-b-requires c =
+    (sound-holds _ c.requires.0, c.bill_place-p.ensures.1)
+
+pub decide-d-requires : goal.decide-d-requires
+decide-d-requires c =
+    let q = sound-ready _ c.requires.0 in
+    let he = c.header-h.ensures in record { tracking_le_used_up = (rw he q.tracking, rw he q.confirmation, rw he q.count); sound_at = sound-in c.args.ws.now c.requires.0 c.args.c _ c.call_identity.ensures _ he _ c.find-f.ensures _ c.bill_place-p.ensures.0 _ c.bill_at-b.ensures }
+
+pub returns-in-Stop : goal.returns-in-Stop
+returns-in-Stop c =
+    let known =
+    decided-in c.args.ws.now c.requires.0 c.args.c _ c.call_identity.ensures _ c.header-h.ensures _ c.find-f.ensures _ c.bill_place-p.ensures.0 _ c.bill_at-b.ensures c.args.room _ c.decide-d.ensures in
+    stopped-in c.args.writes _ _ _ (sound-holds _ c.requires.0) _ (known.stops _ c.in-Stop.is)
+
+pub change_of-change-requires : goal.change_of-change-requires
+change_of-change-requires c =
+    let known =
+    decided-in c.args.ws.now c.requires.0 c.args.c _ c.call_identity.ensures _ c.header-h.ensures _ c.find-f.ensures _ c.bill_place-p.ensures.0 _ c.bill_at-b.ensures c.args.room _ c.decide-d.ensures in
+    known.fits c.in_default.is
+
+pub put-requires : goal.put-requires
+put-requires c =
+    let known =
+    decided-in c.args.ws.now c.requires.0 c.args.c _ c.call_identity.ensures _ c.header-h.ensures _ c.find-f.ensures _ c.bill_place-p.ensures.0 _ c.bill_at-b.ensures c.args.room _ c.decide-d.ensures in
+    λ z. omega (arith, c.requires.1 z, known.wide c.in_default.is)
+
+pub update-requires : goal.update-requires
+update-requires c =
+    let place = c.bill_place-p in
+    let ws = c.args.ws.now in
+    let holds = sound-holds ws c.requires.0 in (
+      holds,
+      place.ensures.1,
+      said-decided ws holds place.result place.ensures.1 _ c.bill_at-b.ensures c.args.room c.args.c
+          c.header-h.result c.find-f.result _ c.decide-d.ensures,
+    )
+
+pub returns : goal.returns
+returns c =
+    let known =
+    decided-in c.args.ws.now c.requires.0 c.args.c _ c.call_identity.ensures _ c.header-h.ensures _ c.find-f.ensures _ c.bill_place-p.ensures.0 _ c.bill_at-b.ensures c.args.room _ c.decide-d.ensures in
+    let change = c.change_of-change in
+    rw (c.noticed.ensures, to_z-of_z w64 change.result (sfits_of change.type_inv), change.ensures)
+    (carried-in c.args.writes _ _ _ (sound-holds _ c.requires.0) _ _ _ (known.done c.in_default.is) _ _
+    c.update.ensures.0 c.update.ensures.1 c.put.ensures)

@@ -1,0 +1,16 @@
+-- `journal::close_body` meets its contract: the field is digits or the body is not read.
+use mathlib.Core.Path.{sym, ◌∙◌}
+use Rattle.fields.proofs.HoldLaws.{field_is}
+use Rattle.journal.specs.Entries.{close_body}
+use Rattle.journal.proofs.BodyLaws.{field-refused}
+use Rattle.journal.proofs.close_body.Goals as goal
+
+pub returns-in_default : goal.returns-in_default
+unfolding close_body
+returns-in_default c = rw (field-refused _ c.read_field.ensures c.in_default.is)
+
+pub returns : goal.returns
+unfolding close_body
+returns c =
+    let today = field_is _ _ (sym c.read_field.ensures ∙ c.in-Number.is) in
+    rw (today.0, ← today.1)

@@ -1,0 +1,40 @@
+-- `journal::fresh_body` meets its contract: each field is digits or the body is not read.
+use Prim.Native.Nat.{ℕ}
+use mathlib.Core.Path.{◌≡◌}
+use mathlib.Core.Bool.{and-false}
+use mathlib.Core.List.{List}
+use Rattle.fields.specs.Put.{part}
+use Rattle.fields.specs.Field.{field_of}
+use Rattle.fields.specs.declared.Field.TheVariants.{Number}
+use Rattle.fields.proofs.HoldLaws.{field_is}
+use Rattle.causes.specs.declared.Start.{Start}
+use Rattle.journal.specs.declared.Body.TheVariants.{Fresh}
+use Rattle.journal.specs.Entries.{fresh_body}
+use Rattle.journal.proofs.BodyLaws.{field-refused}
+use Rattle.journal.proofs.fresh_body.Goals as goal
+
+-- the body where its fields hold numbers
+fresh-of : (s : List ℕ) (r : Start)
+    → field_of (part s 0 8) ≡ Number r.today.0 → field_of (part s 8 9) ≡ Number r.tracking → field_of (part s 17 9) ≡ Number r.confirmation
+    → Fresh r ≡ fresh_body s
+unfolding fresh_body
+fresh-of s r today tracking confirmation =
+    let a = field_is _ _ today in
+    let b = field_is _ _ tracking in
+    let c = field_is _ _ confirmation in
+    rw (a.0, ← a.1, b.0, ← b.1, c.0, ← c.1)
+
+pub returns-in_default : goal.returns-in_default
+unfolding fresh_body
+returns-in_default c = rw (field-refused _ c.read_field.ensures c.in_default.is)
+
+pub returns-in_default-read_field : goal.returns-in_default-read_field
+unfolding fresh_body
+returns-in_default-read_field c = rw (field-refused _ c.read_field-2.ensures c.in_default-read_field.is, and-false)
+
+pub returns-in_default-read_field-2 : goal.returns-in_default-read_field-2
+unfolding fresh_body
+returns-in_default-read_field-2 c = rw (field-refused _ c.read_field-3.ensures c.in_default-read_field-2.is, and-false)
+
+pub returns : goal.returns
+returns c = fresh-of _ _ (cc) (cc) (cc)

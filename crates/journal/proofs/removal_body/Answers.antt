@@ -1,0 +1,34 @@
+-- `journal::removal_body` meets its contract: each field is digits or the body is not read.
+use Prim.Native.Nat.{ℕ}
+use mathlib.Core.Path.{◌≡◌}
+use mathlib.Core.Bool.{and-false}
+use mathlib.Core.List.{List}
+use Rattle.fields.specs.Put.{part}
+use Rattle.fields.specs.Field.{field_of}
+use Rattle.fields.specs.declared.Field.TheVariants.{Number}
+use Rattle.fields.proofs.HoldLaws.{field_is}
+use Rattle.causes.specs.declared.AccountRemoval.{AccountRemoval}
+use Rattle.journal.specs.declared.Body.TheVariants.{Removal}
+use Rattle.journal.specs.Entries.{removal_body}
+use Rattle.journal.proofs.BodyLaws.{field-refused}
+use Rattle.journal.proofs.removal_body.Goals as goal
+
+-- the body where its fields hold numbers
+removal-of : (s : List ℕ) (a : AccountRemoval) → field_of (part s 0 12) ≡ Number a.account → field_of (part s 12 8) ≡ Number a.date.0
+    → Removal a ≡ removal_body s
+unfolding removal_body
+removal-of s a account date =
+    let x = field_is _ _ account in
+    let y = field_is _ _ date in
+    rw (x.0, ← x.1, y.0, ← y.1)
+
+pub returns-in_default : goal.returns-in_default
+unfolding removal_body
+returns-in_default c = rw (field-refused _ c.read_field.ensures c.in_default.is)
+
+pub returns-in_default-read_field : goal.returns-in_default-read_field
+unfolding removal_body
+returns-in_default-read_field c = rw (field-refused _ c.read_field-2.ensures c.in_default-read_field.is, and-false)
+
+pub returns : goal.returns
+returns c = removal-of _ _ (cc) (cc)

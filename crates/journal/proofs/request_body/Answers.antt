@@ -1,0 +1,60 @@
+-- `journal::request_body` meets its contract: each field is digits or the body is not read.
+use Prim.Native.Nat.{ℕ}
+use mathlib.Core.Path.{◌≡◌}
+use mathlib.Core.Bool.{and-false}
+use mathlib.Core.List.{List}
+use lib.ListN.{get_or}
+use Rattle.fields.specs.Put.{part}
+use Rattle.fields.specs.Field.{field_of}
+use Rattle.fields.specs.declared.Field.TheVariants.{Number}
+use Rattle.fields.proofs.HoldLaws.{field_is}
+use Rattle.causes.specs.declared.Request.{Request}
+use Rattle.causes.specs.Causes.{code_field}
+use Rattle.journal.specs.declared.Body.TheVariants as body
+use Rattle.journal.specs.declared.IdentityField.TheVariants.{Numeric}
+use Rattle.journal.specs.parts.Fields.{identity_field_of}
+use Rattle.journal.specs.Entries.{request_body}
+use Rattle.journal.proofs.BodyLaws.{field-refused, identity-is, identity-refused, code_in, byte_at}
+use Rattle.journal.proofs.request_body.Goals as goal
+
+-- the body where its fields hold numbers
+request-of : (s : List ℕ) (r : Request)
+    → r.code ≡ code_field s
+    → identity_field_of (part s 5 12) (part s 17 4) ≡ Numeric r.identity
+    → r.product ≡ get_or s 21 0
+    → field_of (part s 22 8) ≡ Number r.billing.0
+    → field_of (part s 30 8) ≡ Number r.from.0
+    → field_of (part s 38 10) ≡ Number r.consumption.0
+    → field_of (part s 48 8) ≡ Number r.scheduled.0
+    → body.Request r ≡ request_body s
+unfolding request_body
+request-of s r code identity product billing from consumption scheduled =
+    let a = identity-is _ _ _ identity in
+    let b = field_is _ _ billing in
+    let c = field_is _ _ from in
+    let d = field_is _ _ consumption in
+    let e = field_is _ _ scheduled in
+    rw (code_in s, ← code, a.0, ← a.1, byte_at s 21, ← product, b.0, ← b.1, c.0, ← c.1, d.0, ← d.1, e.0, ← e.1)
+
+pub returns-in_default : goal.returns-in_default
+unfolding request_body
+returns-in_default c = rw (identity-refused _ _ c.read_identity.ensures c.in_default.is)
+
+pub returns-in_default-read_field : goal.returns-in_default-read_field
+unfolding request_body
+returns-in_default-read_field c = rw (field-refused _ c.read_field.ensures c.in_default-read_field.is, and-false)
+
+pub returns-in_default-read_field-2 : goal.returns-in_default-read_field-2
+unfolding request_body
+returns-in_default-read_field-2 c = rw (field-refused _ c.read_field-2.ensures c.in_default-read_field-2.is, and-false)
+
+pub returns-in_default-read_field-3 : goal.returns-in_default-read_field-3
+unfolding request_body
+returns-in_default-read_field-3 c = rw (field-refused _ c.read_field-3.ensures c.in_default-read_field-3.is, and-false)
+
+pub returns-in_default-read_field-4 : goal.returns-in_default-read_field-4
+unfolding request_body
+returns-in_default-read_field-4 c = rw (field-refused _ c.read_field-4.ensures c.in_default-read_field-4.is, and-false)
+
+pub returns : goal.returns
+returns c = request-of _ _ (cc) (cc) (cc) (cc) (cc) (cc) (cc)
