@@ -1,9 +1,11 @@
--- What program `business_day` prints for its arguments and its input. No contract can say which bytes come: the claim is of some. Assumes nothing.
-use Rattle.std.specs.Prelude.{ℕ, ◌≤◌, ◌<◌, ◌≡◌, Bool, true, false, cond, List, [], ◌++◌, length, take}
+-- What program `business_day` prints for its arguments and its input. The claim is of the bytes that came; where it is known which bytes a reader has, it is
+-- of those. Assumes nothing.
+use Rattle.std.specs.Prelude.{ℕ, ◌≤◌, ◌<◌, ◌≡◌, Bool, true, false, cond, List, [], ◌++◌, Option, length, take}
+use Rattle.std.specs.Io.KnownBytes.{Consumes, IsAtEnd}
 use Rattle.input.specs.declared.Filled as filled
 use Rattle.input.specs.declared.Filled.TheVariants.{Bytes, Ended, Failed}
+use Rattle.streams.specs.Written.{Sends}
 use Rattle.holidays.specs.DayLine.{day_line, day_of}
-use Rattle.business_day.specs.declared.Input.{Input}
 
 -- one byte more than 64 lines of 9 bytes
 abbrev pub input_room : ℕ
@@ -13,19 +15,25 @@ input_room = 577
 abbrev pub StopsAt : ℕ → ℕ → filled.Filled → Type 0
 StopsAt room n (Bytes k) = n ≡ room
 StopsAt room n Ended = n < room
-StopsAt room n Failed = n < room
+StopsAt room n (Failed e) = n < room
+
+-- of the bytes that a reader had, where they are known: these came and the others are left, none where the input ended
+abbrev pub Took : List ℕ → Option (List ℕ) → Option (List ℕ) → filled.Filled → Type 0
+Took bytes before rest (Bytes n) = Consumes before rest bytes
+Took bytes before rest Ended = Consumes before rest bytes × IsAtEnd rest
+Took bytes before rest (Failed e) = Consumes before rest bytes
 
 -- a failed read
 abbrev pub is_failed : filled.Filled → Bool
 is_failed (Bytes n) = false
 is_failed Ended = false
-is_failed Failed = true
+is_failed (Failed e) = true
 
 -- where the last read came to bytes, there may be more: they change nothing
 abbrev pub RestUnread : List ℕ → List ℕ → List ℕ → filled.Filled → Type 0
 RestUnread date number s (Bytes n) = (more : List ℕ) → day_of date number (s ++ more) ≡ day_of date number s
 RestUnread date number s Ended = Unit {0}
-RestUnread date number s Failed = Unit {0}
+RestUnread date number s (Failed e) = Unit {0}
 
 -- a read failed and nothing is printed; or these bytes came, and the line for them and the arguments stands at the start of the output. It has n bytes.
 pub record Answers (date number buf out : List ℕ) (n : ℕ) : Type 0 where
@@ -38,3 +46,14 @@ pub record Answers (date number buf out : List ℕ) (n : ℕ) : Type 0 where
   pub line : take n out ≡ cond (is_failed last) [] (day_line (day_of date number bytes))
   pub size : n ≡ length (cond (is_failed last) [] (day_line (day_of date number bytes)))
   pub within : n ≤ length out
+
+-- of all bytes that a reader had: a read failed and nothing is printed; or the line for all of them and the arguments stands at the start of the output
+pub record AnswersAll (date number input out : List ℕ) (n : ℕ) : Type 0 where
+  pub failed : Bool
+  pub line : take n out ≡ cond failed [] (day_line (day_of date number input))
+
+-- of all bytes that a reader had, and of those that a writer holds before and after: a read failed and nothing is written; or the line for all of them and the
+-- arguments is, or only its first bytes where a write failed (then `written` is false)
+abbrev pub WritesAll : List ℕ → List ℕ → List ℕ → Option (List ℕ) → Option (List ℕ) → Bool → Type 0
+WritesAll date number input before after written =
+    (failed : Bool) × Sends written (cond failed [] (day_line (day_of date number input))) before after

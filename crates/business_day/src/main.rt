@@ -1,32 +1,33 @@
 // Prints the date that is a number of business days after another. The holidays are read on standard input, one date a line.
 #![tactic(auto)]
 
-ghost use Rattle.std.specs.Prelude.{◌≡◌, ◌≤◌, pos, length};
+ghost use Rattle.std.specs.Prelude.{◌≡◌, ◌≤◌, pos, length, take, IfSome};
 ghost use Rattle.holidays.specs.DayLine.{day_room};
-ghost use Rattle.business_day.specs.Answering.{input_room, StopsAt, Answers};
+ghost use Rattle.business_day.specs.Answering.{input_room, StopsAt, Took, Answers, AnswersAll, WritesAll};
 
 use input::Filled;
-use libc::STDOUT_FILENO;
-use streams::output;
-use streams::output::Output;
+use std::io::{Read, Write};
+use streams::output::{Output, STDOUT_FILENO};
+use streams::{arguments, output};
 
 // One byte more than the longest input that is not refused.
 const INPUT_ROOM: usize = 577;
 
 // So many bytes stand at the start of the buffer, and the last read came to this.
-#[derive(Drop)]
+#[derive(Clone, Copy)]
 struct Input {
     length: usize,
     last: Filled,
 }
 
 // Reads standard input until it ends, a read fails or the buffer is full.
-fn read_input(buf: &mut [u8]) -> Input
-    ensures { StopsAt (length buf.new) result.length result.last }
+fn read_input<R: Read>(reader: &mut R, buf: &mut [u8]) -> Input
+    ensures stops { StopsAt (length buf.new) result.length result.last }
+    ensures bytes { Took (take result.length buf.new) (R.remaining reader.old) (R.remaining reader.new) result.last }
 {
     let mut have = 0;
     while have < buf.len() {
-        let f = input::fill(buf, have);
+        let f = input::fill(reader, buf, have);
         let Filled::Bytes(n) = f else {
             return Input {
                 length: have,
@@ -42,35 +43,70 @@ fn read_input(buf: &mut [u8]) -> Input
 }
 
 // Reads standard input and puts the line for it into `out`. Answers its length, 0 where a read failed, which is told on standard error.
-fn line_of_input(out: &mut [u8], buf: &mut [u8], date: &[u8], number: &[u8]) -> usize
+fn line_of_input<R: Read, E: Write>(
+    reader: &mut R,
+    error: &mut E,
+    out: &mut [u8],
+    buf: &mut [u8],
+    date: &[u8],
+    number: &[u8],
+) -> usize
     requires { (length buf.old ≡ input_room) × (day_room ≤ length out.old) }
-    ensures { Answers date.now number.now buf.new out.new result }
+    ensures answer { Answers date.now number.now buf.new out.new result }
+    ensures all { IfSome (R.remaining reader.old) (λ input. AnswersAll date.now number.now input out.new result) }
 {
-    let r = read_input(buf);
+    let r = read_input(reader, buf);
     let last = r.last;
     let n = r.length;
-    let unread = input::unread(last);
-    if unread & (n < buf.len()) {
+    let unread = input::unread(error, last);
+    let is_failed = unread & (n < buf.len());
+    if is_failed {
         return 0;
     }
     holidays::print_day(out, date, number, &buf[..n])
 }
 
 // Reads standard input; what is left to write, to standard output, is the line in `out`.
-fn answer_input(out: &mut [u8], buf: &mut [u8], date: &[u8], number: &[u8]) -> Output
+fn answer_input<R: Read, E: Write>(
+    reader: &mut R,
+    error: &mut E,
+    out: &mut [u8],
+    buf: &mut [u8],
+    date: &[u8],
+    number: &[u8],
+) -> Output
     requires { (length buf.old ≡ input_room) × (day_room ≤ length out.old) }
-    ensures { (result.descriptor ≡ pos 1) × Answers date.now number.now buf.new out.new result.length }
+    ensures answer { (result.descriptor ≡ pos 1) × Answers date.now number.now buf.new out.new result.length }
+    ensures all { IfSome (R.remaining reader.old) (λ input. AnswersAll date.now number.now input out.new result.length) }
 {
-    let length = line_of_input(out, buf, date, number);
+    let length = line_of_input(reader, error, out, buf, date, number);
     Output {
         descriptor: STDOUT_FILENO,
         length,
     }
 }
 
-fn main() {
-    if os::arg_count() != 3 {
+// Writes the answer to standard output; whether it could be written. What failed is told on standard error.
+fn answer<R: Read, O: Write, E: Write>(
+    reader: &mut R,
+    output: &mut O,
+    error: &mut E,
+    date: &[u8],
+    number: &[u8],
+) -> bool
+    ensures { IfSome (R.remaining reader.old)
+        (λ input. WritesAll date.now number.now input (O.contents output.old) (O.contents output.new) result) }
+{
+    let mut buf = [0u8; INPUT_ROOM];
+    let mut out = [0u8; holidays::DAY_ROOM];
+    let o = answer_input(reader, error, &mut out, &mut buf, date, number);
+    output::send(output, error, o, &out)
+}
+
+fn main(rt: HostRuntime) {
+    if !arguments::is_given(&rt, 2) | arguments::is_given(&rt, 3) {
         output::explain(
+            &mut rt.stderr(),
             b"usage: business_day DATE NUMBER < HOLIDAYS\n",
             b"Prints the date NUMBER (0 to 9) business days after DATE (yyyymmdd). Reads the holidays, one date a line, rising, up to 64.\n",
             b"A refusal prints stopped, and its number: 2, 14 or 15. A failed read or write is told here; the exit status is 0.\n",
@@ -79,15 +115,13 @@ fn main() {
     }
     let mut date = [0u8; 8];
     let mut number = [0u8; 1];
-    let mut buf = [0u8; INPUT_ROOM];
-    let mut out = [0u8; holidays::DAY_ROOM];
-    let date_length = os::arg(1, &mut date);
-    let number_length = os::arg(2, &mut number);
-    let o = answer_input(
-        &mut out,
-        &mut buf,
+    let date_length = arguments::argument(&rt, 1, &mut date);
+    let number_length = arguments::argument(&rt, 2, &mut number);
+    answer(
+        &mut rt.stdin(),
+        &mut rt.stdout(),
+        &mut rt.stderr(),
         &date[..date_length],
         &number[..number_length],
     );
-    output::send(o, &out);
 }

@@ -1,38 +1,51 @@
 -- What a read into a buffer comes to. Assumes nothing.
-use Rattle.std.specs.Prelude.{ℕ, zero, suc, ◌+◌, ◌-◌, ◌^◌, ◌≤◌, ◌<◌, ◌≡◌, Bool, true, false, List, ℤ, pos, negsuc, length, take}
-use Rattle.libc.specs.Io.{Moved}
+use Rattle.std.specs.Prelude.{ℕ, zero, suc, ◌+◌, ◌-◌, ◌^◌, ◌≤◌, ◌<◌, ◌≡◌, Bool, true, false, List, Option, Result, Ok, Err, length, take, drop}
+use Rattle.std.specs.Io.KnownBytes.{Keeps, Consumes, IsAtEnd}
+use Rattle.std.specs.declared.io.Error.{Error}
 use Rattle.input.specs.declared.Filled as filled
 use Rattle.input.specs.declared.Filled.TheVariants.{Bytes, Ended, Failed}
 
--- POSIX's read "answers -1, or how many bytes it put at the start of buf, 0 at the end of the input": what an answer comes to where so many bytes were held
+-- what a read that is handed n bytes may answer: an error, or how many bytes it moved, at most n
+abbrev pub Moved : ℕ → Result ℕ Error → Type 0
+Moved n (Ok k) = k ≤ n
+Moved n (Err e) = Unit {0}
+
+-- A read answers an error, or how many bytes it put at the start of buf, 0 at the end of the input: what an answer comes to where so many bytes were held
 -- before. A failed read is never the end, and the end never a failed read.
-abbrev pub filled_by : ℤ → ℕ → filled.Filled
-filled_by (negsuc k) have = Failed
-filled_by (pos zero) have = Ended
-filled_by (pos (suc k)) have = Bytes (have + suc k)
+abbrev pub filled_by : Result ℕ Error → ℕ → filled.Filled
+filled_by (Err e) have = Failed e
+filled_by (Ok zero) have = Ended
+filled_by (Ok (suc k)) have = Bytes (have + suc k)
 
 -- the bytes held and those read have a count in 64 bits
-abbrev pub RoomFor : ℕ → ℤ → Type 0
-RoomFor have (negsuc k) = Unit {0}
-RoomFor have (pos k) = have + k < 2 ^ 64
+abbrev pub RoomFor : ℕ → Result ℕ Error → Type 0
+RoomFor have (Err e) = Unit {0}
+RoomFor have (Ok k) = have + k < 2 ^ 64
 
 -- a buffer of so many bytes, of which some were held before, holds more than before, and no more than it has
 abbrev pub HoldsRead : ℕ → ℕ → filled.Filled → Type 0
 HoldsRead have room (Bytes n) = (have < n) × (n ≤ room)
 HoldsRead have room Ended = Unit {0}
-HoldsRead have room Failed = Unit {0}
+HoldsRead have room (Failed e) = Unit {0}
 
--- the bytes held before stay, whatever the read came to; no contract can say which bytes were read behind them, nor what the read answered
+-- the bytes held before stay, whatever the read came to; which bytes were read behind them, `Comes` says where the reader's are known
 pub record Fills (have : ℕ) (before after : List ℕ) (r : filled.Filled) : Type 0 where
   pub stay : take have after ≡ take have before
   pub holds : HoldsRead have (length after) r
   -- what the read answered
-  pub got : ℤ
+  pub got : Result ℕ Error
   pub moved : Moved (length before - have) got
   pub came : r ≡ filled_by got have
+
+-- where it is known which bytes a reader has left: those behind the bytes held before are its next ones, and it lost no other. Where a read that had room
+-- came to the end of the input, none was left; a failed one took none.
+abbrev pub Comes : ℕ → List ℕ → Option (List ℕ) → Option (List ℕ) → filled.Filled → Type 0
+Comes have after before rest (Bytes n) = Consumes before rest (drop have (take n after))
+Comes have after before rest Ended = Keeps before rest × (have < length after → IsAtEnd rest)
+Comes have after before rest (Failed e) = Keeps before rest
 
 -- a read came to something else than the end of the input
 abbrev pub not_ended : filled.Filled → Bool
 not_ended (Bytes n) = true
 not_ended Ended = false
-not_ended Failed = true
+not_ended (Failed e) = true

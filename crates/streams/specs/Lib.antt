@@ -1,2 +1,3 @@
 -- Where the bytes of a piece go, and how the reading ends.
 pub mod Ends
+pub mod Written

@@ -1,6 +1,7 @@
 // What a program that reads standard input in pieces writes, to which descriptor, and how the reading ends.
 #![tactic(auto)]
 
+pub mod arguments;
 pub mod output;
 pub mod pieces;
 

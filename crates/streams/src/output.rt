@@ -1,57 +1,100 @@
 // What a program writes, and to which descriptor.
-ghost use Rattle.std.specs.Prelude.{◌≤◌, length};
+ghost use Rattle.std.specs.Prelude.{◌≡◌, ◌≤◌, true, pos, length, take};
+ghost use Rattle.std.specs.Io.{WritesAtMost};
+ghost use Rattle.std.specs.Io.KnownBytes.{Appends, Keeps, WriteAppends};
+ghost use Rattle.streams.specs.Written.{Writes, Sends};
 
-use libc::STDERR_FILENO;
+use std::io;
+use std::io::{Error, ErrorKind, Write};
+
+// The descriptors that are written.
+pub const STDOUT_FILENO: i32 = 1;
+
+pub const STDERR_FILENO: i32 = 2;
+
+// What the system answers to a write to a descriptor that is not open.
+const BAD_DESCRIPTOR: i32 = 9;
 
 // The first bytes of some output, so many, go to a descriptor; where there are none nothing is written.
-#[derive(Drop)]
+#[derive(Clone, Copy)]
 pub struct Output {
     pub descriptor: i32,
     pub length: usize,
 }
 
-// One write, tried again where it was interrupted, at most a million times; answers how many of the first bytes it took, 0 if it failed.
-fn write_some(descriptor: i32, bytes: &[u8]) -> usize
-    ensures { result ≤ length bytes.now }
+// One write, tried again where it was interrupted, at most a million times; answers how many of the first bytes it took.
+fn write_some<W: Write>(writer: &mut W, bytes: &[u8]) -> io::Result<usize>
+    ensures bound { WritesAtMost result bytes.now }
+    ensures took { WriteAppends (W.contents writer.old) (W.contents writer.new) result bytes.now }
 {
     let mut tries = 1000000u64;
     while 0 < tries {
-        let got = libc::write(descriptor, bytes);
-        if !input::is_interrupted(got) {
-            return io::count(got, bytes);
+        match writer.write(bytes) {
+            Ok(n) => return Ok(n),
+            Err(e) => {
+                if !input::is_interrupted(&e) {
+                    return Err(e);
+                }
+            }
         }
         tries -= 1;
     }
-    0
+    Err(Error::from(ErrorKind::Interrupted))
 }
 
 // Writes all of some bytes, or stops at the first write that takes nothing.
-pub fn write_all(descriptor: i32, bytes: &[u8]) -> bool {
+pub fn write_all<W: Write>(writer: &mut W, bytes: &[u8]) -> io::Result<()>
+    ensures { Writes result bytes.now (W.contents writer.old) (W.contents writer.new) }
+{
     let mut done = 0;
     while done < bytes.len() {
-        let took = write_some(descriptor, &bytes[done..]);
+        let took = write_some(writer, &bytes[done..])?;
         if took == 0 {
-            return false;
+            return Err(Error::from(ErrorKind::WriteZero));
         }
         done += took;
     }
-    true
+    Ok(())
 }
 
 // Says on standard error how a program is used, what it does and how it ends: it was given other arguments than it takes.
-pub fn explain(usage: &[u8], does: &[u8], ends: &[u8]) {
-    write_all(STDERR_FILENO, usage);
-    write_all(STDERR_FILENO, does);
-    write_all(STDERR_FILENO, ends);
+pub fn explain<E: Write>(error: &mut E, usage: &[u8], does: &[u8], ends: &[u8]) {
+    let _ = write_all(error, usage);
+    let _ = write_all(error, does);
+    let _ = write_all(error, ends);
+}
+
+// Writes the bytes to standard output or to standard error. No other descriptor is open.
+fn write_to<O: Write, E: Write>(
+    out: &mut O,
+    error: &mut E,
+    descriptor: i32,
+    bytes: &[u8],
+) -> io::Result<()>
+    ensures to_output { descriptor ≡ pos 1 → Writes result bytes.now (O.contents out.old) (O.contents out.new)
+        × Keeps (E.contents error.old) (E.contents error.new) }
+    ensures to_error { descriptor ≡ pos 2 → Writes result bytes.now (E.contents error.old) (E.contents error.new)
+        × Keeps (O.contents out.old) (O.contents out.new) }
+{
+    match descriptor {
+        STDOUT_FILENO => write_all(out, bytes),
+        STDERR_FILENO => write_all(error, bytes),
+        _ => Err(Error::from_raw_os_error(BAD_DESCRIPTOR)),
+    }
 }
 
 // Writes what is to be written of the bytes; a write that failed is told on standard error.
-pub fn send(o: Output, bytes: &[u8]) -> bool
+pub fn send<O: Write, E: Write>(out: &mut O, error: &mut E, o: Output, bytes: &[u8]) -> bool
     requires { o.length ≤ length bytes.now }
+    ensures to_output { o.descriptor ≡ pos 1 → Sends result (take o.length bytes.now) (O.contents out.old) (O.contents out.new) }
+    ensures to_error { o.descriptor ≡ pos 2 → (result ≡ true → Appends (E.contents error.old) (E.contents error.new) (take o.length bytes.now))
+        × Keeps (O.contents out.old) (O.contents out.new) }
 {
-    let is_written = write_all(o.descriptor, &bytes[..o.length]);
-    if !is_written {
-        os::fail(b"write");
+    match write_to(out, error, o.descriptor, &bytes[..o.length]) {
+        Ok(()) => true,
+        Err(e) => {
+            input::tell(error, "write", e);
+            false
+        }
     }
-    is_written
 }

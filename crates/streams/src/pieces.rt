@@ -2,13 +2,13 @@
 ghost use Rattle.std.specs.Prelude.{◌≡◌};
 ghost use Rattle.streams.specs.Ends.{piece_output, end_of_input, end_of_piece};
 
-use crate::output::Output;
+use crate::output::{Output, STDOUT_FILENO};
 use input::Filled;
-use libc::STDOUT_FILENO;
+use std::io::Write;
 
 // Where the reading ended: how many entries came, whether a bad one stopped it, how many bytes are left at the start of the buffer, how many bytes
 // were written, and whether a read or a write failed.
-#[derive(Drop)]
+#[derive(Clone, Copy)]
 pub struct End {
     pub seen: u64,
     pub stopped: bool,
@@ -19,7 +19,7 @@ pub struct End {
 
 // What a piece came to: how many entries came by now, how many bytes are left at the start of the buffer, how many bytes stand in the output,
 // whether it has no room for another entry's, and whether a bad entry stands there.
-#[derive(Drop)]
+#[derive(Clone, Copy)]
 pub struct Piece {
     pub seen: u64,
     pub left: usize,
@@ -39,10 +39,10 @@ pub fn output_of(p: Piece) -> Output
 }
 
 // How the reading ends where a read brought no bytes: the input has ended, or the read failed.
-pub fn end_of_input(f: Filled, seen: u64, left: usize, total: usize) -> End
+pub fn end_of_input<E: Write>(error: &mut E, f: Filled, seen: u64, left: usize, total: usize) -> End
     ensures { result ≡ end_of_input f seen left total }
 {
-    let failed = input::unread(f);
+    let failed = input::unread(error, f);
     End {
         seen,
         stopped: false,

@@ -1,0 +1,2 @@
+-- What writes do to the bytes that a writer holds.
+pub mod WrittenLaws
