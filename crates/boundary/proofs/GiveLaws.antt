@@ -8,7 +8,6 @@ use native.Mathlib.Omega.{arith}
 use lib.ListN.{length, take, drop}
 use lib.IntN.{ℤ}
 use borrow.Author.Tests.{ne_eqb}
-use types.Run.{OneOf}
 use denote.Enum.Declared.{tag_of}
 use Rattle.fields.specs.Put.{put, part}
 use Rattle.fields.proofs.PutLaws.{put-nil}
@@ -53,14 +52,9 @@ NoFresh (body.Close d) = Unit {0}
 NoFresh (body.Removal a) = Unit {0}
 NoFresh body.Unread = Unit {0}
 
-not-zero : OneOf (1 ∷ 2 ∷ 3 ∷ 4 ∷ 5 ∷ 6 ∷ []) 0 → ⊥
-not-zero =
-    ⊎_elim (λ e. omega arith)
-    (⊎_elim (λ e. omega arith) (⊎_elim (λ e. omega arith) (⊎_elim (λ e. omega arith) (⊎_elim (λ e. omega arith) (λ e. omega arith)))))
-
--- a body with another variant's number
-pub no-fresh : (b : Body) → OneOf (1 ∷ 2 ∷ 3 ∷ 4 ∷ 5 ∷ 6 ∷ []) (tag_of declared.the_type b) → NoFresh b
-no-fresh (body.Fresh s) h = not-zero h
+-- a body that is no fresh's
+pub no-fresh : (b : Body) → ((s : Start) → b ≡ body.Fresh s → ⊥) → NoFresh b
+no-fresh (body.Fresh s) h = h s refl
 no-fresh (body.Request r) h = tt
 no-fresh body.File h = tt
 no-fresh (body.Cancel id) h = tt

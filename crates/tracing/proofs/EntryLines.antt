@@ -87,8 +87,8 @@ module _ (number : ℕ) (src : List ℕ) (n : ℕ) (a : Answer) (seen : ℕ) (l 
     abbrev gs : List Group
     gs = groups (records_from bytes 0 ((n - 3) / 321))
 
-    abbrev group_lines : List ℕ
-    group_lines = group_lines (book l).confirmation gs (verdicts [] (book l) gs)
+    abbrev lines_of_groups : List ℕ
+    lines_of_groups = group_lines (book l).confirmation gs (verdicts [] (book l) gs)
 
     groups-are : file_groups bytes ≡ gs
     unfolding file_groups records
@@ -104,7 +104,7 @@ module _ (number : ℕ) (src : List ℕ) (n : ℕ) (a : Answer) (seen : ℕ) (l 
         ∙ out_of.written
         ∙ ap (answers [] (book l)) groups-are
 
-    all_lines : first-line ++ group_lines ≡ entry_lines (book l) number (entry_at src body.File n)
+    all_lines : first-line ++ lines_of_groups ≡ entry_lines (book l) number (entry_at src body.File n)
     unfolding entry_lines
     all_lines =
         sym
@@ -118,7 +118,7 @@ module _ (number : ℕ) (src : List ℕ) (n : ℕ) (a : Answer) (seen : ℕ) (l 
         × (r ≡ at + length (entry_lines (book l) number (entry_at src body.File n)))
     file-lines sent rest out₀ out₁ out at end r fits s o i g =
         let x = g (book l) rest (s ∙ ap (λ (w : List ℕ). w ++ rest) begins) in
-        let w = next (first out₀ at first-line fits o refl) group_lines (x.0 ∙ ap (λ (j : ℕ). put out₁ j group_lines) i) refl in
+        let w = next (first out₀ at first-line fits o refl) lines_of_groups (x.0 ∙ ap (λ (j : ℕ). put out₁ j lines_of_groups) i) refl in
         (w.same ∙ ap (put out₀ at) all_lines, omega (arith, x.1, i, w.long, ap length all_lines))
 
 -- ---- what was written of an entry

@@ -9,14 +9,14 @@ pub returns-then-ledger-ne-LEDGER_SIZE : goal.returns-then-ledger-ne-LEDGER_SIZE
 returns-then-ledger-ne-LEDGER_SIZE c = rw c.in-Fresh.is (fresh-short _ _ _ c.if-ledger-ne-LEDGER_SIZE.true)
 
 pub returns-in-Fresh : goal.returns-in-Fresh
-returns-in-Fresh c = rw c.in-Fresh.is (fresh-leaves _ _ c.if-ledger-ne-LEDGER_SIZE.false _ _ _ c.Fresh-in.ensures.0 c.Fresh-in.ensures.1 c.Fresh-in.ensures.2)
+returns-in-Fresh c = rw c.in-Fresh.is (fresh-leaves _ _ c.if-ledger-ne-LEDGER_SIZE.false _ _ _ c.fresh_in.ensures.0 c.fresh_in.ensures.1 c.fresh_in.ensures.2)
 
 pub returns-then-not-sound : goal.returns-then-not-sound
-returns-then-not-sound c = unsound-leaves (length c.args.out.now) c.args.ledger.now c.args.out.now c.args.s.now c.args.body (no-fresh c.args.body c.in_default.in_default-own.keys2) (sym c.sound.ensures ∙ c.if-not-sound.true)
+returns-then-not-sound c = unsound-leaves (length c.args.out.now) c.args.ledger.now c.args.out.now c.args.s.now c.args.body (no-fresh c.args.body c.in_default.not-Fresh) (sym c.sound.ensures ∙ c.if-not-sound.true)
 
 pub entry-requires : goal.entry-requires
-entry-requires c = record { ws_value = (sym c.sound.ensures ∙ c.if-not-sound.false, no-fresh-taken c.args.body (no-fresh c.args.body c.in_default.in_default-own.keys2)); room_in_bounds = λ _. omega arith }
+entry-requires c = record { ws_value = (sym c.sound.ensures ∙ c.if-not-sound.false, no-fresh-taken c.args.body (no-fresh c.args.body c.in_default.not-Fresh)); room_in_bounds = λ _. omega arith }
 
 pub returns : goal.returns
 returns c =
-    sound-leaves (length c.args.out.now) c.args.ledger.now c.args.out.now c.args.s.now c.args.body (no-fresh c.args.body c.in_default.in_default-own.keys2) (sym c.sound.ensures ∙ c.if-not-sound.false) _ _ _ c.entry.ensures
+    sound-leaves (length c.args.out.now) c.args.ledger.now c.args.out.now c.args.s.now c.args.body (no-fresh c.args.body c.in_default.not-Fresh) (sym c.sound.ensures ∙ c.if-not-sound.false) _ _ _ c.entry.ensures

@@ -6,27 +6,6 @@ use lib.ListN.{length}
 use Rattle.tracing.proofs.RunLines.{within-rest, traces-start, traces-left, traces-full, traces-fits, traces-on}
 use Rattle.tracing.proofs.run.Goals as goal
 
--- ---- after the step of an entry
--- the output had room for its lines
-with-room : (c : goal.After-step-r)
-    → 8652 ≤ length c.loop-out.out - c.loop-out.n
-with-room c = omega (arith, c.loop-out-test.true)
-
--- as many words and bytes came back as were lent
-lent_back : (c : goal.After-step-r)
-    →
-    (length c.step-r.new.0 ≡ length c.args.ws.now) × (length c.step-r.new.1.0 ≡ length c.args.sent.now)
-    × (64200 ≤ length c.step-r.new.1.0)
-lent_back c =
-    (c.step-r.auto.0 ∙ c.loop-out.invariant.words, c.step-r.auto.1.0 ∙ c.loop-out.invariant.room, omega (arith, c.step-r.auto.1.0, c.loop-out.invariant.lent))
-
--- what an entry that was made allows to add
-fits : (c : goal.In-Made-2)
-    → let m = c.in-Made.m in
-    (3 ≤ m) × (c.loop-out.used + m ≤ length c.args.src.now) × (m ≤ 64203) × (c.loop-out.k < 1000000000)
-fits c =
-    traces-fits _ _ _ _ _ _ _ _ _ c.loop-out.invariant.traces _ _ _ _ c.step-r.ensures _ _ c.in-Made.is
-
 pub loop-out-init : goal.loop-out-init
 loop-out-init c = record { traces = traces-start _ _ _ _ c.requires.0; words = refl; room = refl; lent = c.requires.1 }
 
@@ -47,11 +26,15 @@ step-r-requires c = record { ws_value = c.loop-out.invariant.traces.made.sound; 
 
 pub shape_of-ws-in-NoEntry : goal.shape_of-ws-in-NoEntry
 shape_of-ws-in-NoEntry c =
-    (lent_back c.before.before.before.before.before.before.before.before).0
+    let lent_back : (length c.step-r.new.ws ≡ length c.args.ws.now) × (length c.step-r.new.out ≡ length c.args.sent.now) × (64200 ≤ length c.step-r.new.out) =
+    (c.step-r.auto.ws ∙ c.loop-out.invariant.words, c.step-r.auto.out ∙ c.loop-out.invariant.room, omega (arith, c.step-r.auto.out, c.loop-out.invariant.lent)) in
+    lent_back.0
 
 pub shape_of-sent-in-NoEntry : goal.shape_of-sent-in-NoEntry
 shape_of-sent-in-NoEntry c =
-    (lent_back c.before.before.before.before.before.before.before.before).1
+    let lent_back : (length c.step-r.new.ws ≡ length c.args.ws.now) × (length c.step-r.new.out ≡ length c.args.sent.now) × (64200 ≤ length c.step-r.new.out) =
+    (c.step-r.auto.ws ∙ c.loop-out.invariant.words, c.step-r.auto.out ∙ c.loop-out.invariant.room, omega (arith, c.step-r.auto.out, c.loop-out.invariant.lent)) in
+    lent_back.1
 
 pub shape_of-out-in-NoEntry : goal.shape_of-out-in-NoEntry
 shape_of-out-in-NoEntry c =
@@ -59,26 +42,40 @@ shape_of-out-in-NoEntry c =
 
 pub returns-in-NoEntry : goal.returns-in-NoEntry
 returns-in-NoEntry c =
-    rw c.ran_to.ensures (traces-left _ _ _ _ _ _ _ _ _ c.loop-out.invariant.traces _ _ _ _ c.step-r.ensures _ c.in-NoEntry.is (with-room c.before.before.before.before.before.before.before.before))
+    let with-room : 8652 ≤ length c.loop-out.out - c.loop-out.n = omega (arith, c.loop-out-test.true) in
+    rw c.ran_to.ensures (traces-left _ _ _ _ _ _ _ _ _ c.loop-out.invariant.traces _ _ _ _ c.step-r.ensures _ c.in-NoEntry.is with-room)
 
 pub overflow_add-k : goal.overflow_add-k
-overflow_add-k c = omega (arith, fits c.before.before)
+overflow_add-k c =
+    let fits = traces-fits _ _ _ _ _ _ _ _ _ c.loop-out.invariant.traces _ _ _ _ c.step-r.ensures _ _ c.in-Made.is in
+    omega (arith, fits)
 
 pub put_lines-n-requires : goal.put_lines-n-requires
 put_lines-n-requires c =
-    let x = fits c.before.before.before in record { le_n = (x.0, within-rest c.args.src.now _ _ x.1, x.2, (lent_back c.before.before.before.before.before.before.before.before.before).2); entry_room_in_bounds = omega (arith, with-room c.before.before.before.before.before.before.before.before.before) }
+    let with-room : 8652 ≤ length c.loop-out.out - c.loop-out.n = omega (arith, c.loop-out-test.true) in
+    let lent_back : (length c.step-r.new.ws ≡ length c.args.ws.now) × (length c.step-r.new.out ≡ length c.args.sent.now) × (64200 ≤ length c.step-r.new.out) =
+    (c.step-r.auto.ws ∙ c.loop-out.invariant.words, c.step-r.auto.out ∙ c.loop-out.invariant.room, omega (arith, c.step-r.auto.out, c.loop-out.invariant.lent)) in
+    let fits = traces-fits _ _ _ _ _ _ _ _ _ c.loop-out.invariant.traces _ _ _ _ c.step-r.ensures _ _ c.in-Made.is in
+    let x = fits in record { le_n = (x.0, within-rest c.args.src.now _ _ x.1, x.2, lent_back.2); entry_room_in_bounds = omega (arith, with-room) }
 
 pub overflow_add-used : goal.overflow_add-used
-overflow_add-used c = omega (arith, fits c.before.before.before.before.before.before)
+overflow_add-used c =
+    let fits = traces-fits _ _ _ _ _ _ _ _ _ c.loop-out.invariant.traces _ _ _ _ c.step-r.ensures _ _ c.in-Made.is in
+    omega (arith, fits)
 
 pub loop-out-smaller : goal.loop-out-smaller
-loop-out-smaller c = omega (arith, fits c.before.before.before.before.before.before)
+loop-out-smaller c =
+    let fits = traces-fits _ _ _ _ _ _ _ _ _ c.loop-out.invariant.traces _ _ _ _ c.step-r.ensures _ _ c.in-Made.is in
+    omega (arith, fits)
 
 pub loop-out-preserved : goal.loop-out-preserved
 loop-out-preserved c =
-    let x = lent_back c.before.before.before.before.before.before.before.before.before.before.before.before in
+    let with-room : 8652 ≤ length c.loop-out.out - c.loop-out.n = omega (arith, c.loop-out-test.true) in
+    let lent_back : (length c.step-r.new.ws ≡ length c.args.ws.now) × (length c.step-r.new.out ≡ length c.args.sent.now) × (64200 ≤ length c.step-r.new.out) =
+    (c.step-r.auto.ws ∙ c.loop-out.invariant.words, c.step-r.auto.out ∙ c.loop-out.invariant.room, omega (arith, c.step-r.auto.out, c.loop-out.invariant.lent)) in
+    let x = lent_back in
     record {
-      traces = traces-on _ _ _ _ _ _ _ _ _ c.loop-out.invariant.traces _ _ _ _ c.step-r.ensures _ _ c.in-Made.is _ _ c.put_lines-n.ensures (with-room c.before.before.before.before.before.before.before.before.before.before.before.before) c.put_lines-n.auto.0;
+      traces = traces-on _ _ _ _ _ _ _ _ _ c.loop-out.invariant.traces _ _ _ _ c.step-r.ensures _ _ c.in-Made.is _ _ c.put_lines-n.ensures with-room c.put_lines-n.auto.0;
       words = x.0;
       room = x.1;
       lent = x.2;
