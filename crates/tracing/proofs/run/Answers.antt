@@ -75,7 +75,7 @@ loop-out-preserved c =
     (c.step-r.auto.ws ∙ c.loop-out.invariant.words, c.step-r.auto.out ∙ c.loop-out.invariant.room, omega (arith, c.step-r.auto.out, c.loop-out.invariant.lent)) in
     let x = lent_back in
     record {
-      traces = traces-on _ _ _ _ _ _ _ _ _ c.loop-out.invariant.traces _ _ _ _ c.step-r.ensures _ _ c.in-Made.is _ _ c.put_lines-n.ensures with-room c.put_lines-n.auto.0;
+      traces = traces-on _ _ _ _ _ _ _ _ _ c.loop-out.invariant.traces _ _ _ _ c.step-r.ensures _ _ c.in-Made.is _ _ c.put_lines-n.ensures with-room c.put_lines-n.auto.out;
       words = x.0;
       room = x.1;
       lent = x.2;
