@@ -50,6 +50,11 @@ overflow_add-k c =
     let fits = traces-fits _ _ _ _ _ _ _ _ _ c.loop-out.invariant.traces _ _ _ _ c.step-r.ensures _ _ c.in-Made.is in
     omega (arith, fits)
 
+pub overflow_add-k-in-Made : goal.overflow_add-k-in-Made
+overflow_add-k-in-Made c =
+    let fits = traces-fits _ _ _ _ _ _ _ _ _ c.loop-out.invariant.traces _ _ _ _ c.step-r.ensures _ _ c.in-Made.is in
+    omega (arith, fits)
+
 pub put_lines-n-requires : goal.put_lines-n-requires
 put_lines-n-requires c =
     let with-room : 8652 ≤ length c.loop-out.out - c.loop-out.n = omega (arith, c.loop-out-test.true) in
