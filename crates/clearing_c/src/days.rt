@@ -7,8 +7,7 @@ use calendar::{Day, Weekday};
 use units::Date;
 
 // The weekday of a date, 1 Monday to 7 Sunday.
-#[unsafe(no_mangle)]
-pub extern "C" fn clearing_weekday(date: u64, weekday: &mut u64) -> u64
+pub fn clearing_weekday(date: u64, weekday: &mut u64) -> u64
     ensures value { result ≡ weekday_number (weekday_of date) }
     ensures weekday_after { weekday.new ≡ weekday_left weekday.old (weekday_of date) }
 {
@@ -37,8 +36,7 @@ fn store_day(day: &mut u64, found: Day) -> u64
 }
 
 // The first business day after a date.
-#[unsafe(no_mangle)]
-pub extern "C" fn clearing_next_business_day(date: u64, holidays: &[u64], day: &mut u64) -> u64
+pub fn clearing_next_business_day(date: u64, holidays: &[u64], day: &mut u64) -> u64
     ensures value { result ≡ date_number (next_day holidays.now date) }
     ensures day_after { day.new ≡ date_left day.old (next_day holidays.now date) }
 {
@@ -47,13 +45,7 @@ pub extern "C" fn clearing_next_business_day(date: u64, holidays: &[u64], day: &
 }
 
 // The business day so many further on from a date.
-#[unsafe(no_mangle)]
-pub extern "C" fn clearing_business_day(
-    date: u64,
-    number: u64,
-    holidays: &[u64],
-    day: &mut u64,
-) -> u64
+pub fn clearing_business_day(date: u64, number: u64, holidays: &[u64], day: &mut u64) -> u64
     ensures value { result ≡ date_number (further_day holidays.now date number) }
     ensures day_after { day.new ≡ date_left day.old (further_day holidays.now date number) }
 {

@@ -21,8 +21,7 @@ fn store_result(res: &mut [u64; 2], r: Reported) -> u64
 }
 
 // The posted table of a whole journal; the result is the bytes written, and 13 if the journal ended bad, else 0.
-#[unsafe(no_mangle)]
-pub extern "C" fn clearing_table(journal: &[u8], out: &mut [u8], res: &mut [u64; 2]) -> u64
+pub fn clearing_table(journal: &[u8], out: &mut [u8], res: &mut [u64; 2]) -> u64
     ensures { Tables journal.now out.old res.old out.new res.new result }
 {
     let r = report::post_table(journal, out);
@@ -30,8 +29,7 @@ pub extern "C" fn clearing_table(journal: &[u8], out: &mut [u8], res: &mut [u64;
 }
 
 // The notices of a whole journal; the result is the bytes written, and 13 if the journal ended bad, else 0.
-#[unsafe(no_mangle)]
-pub extern "C" fn clearing_notices(journal: &[u8], out: &mut [u8], res: &mut [u64; 2]) -> u64
+pub fn clearing_notices(journal: &[u8], out: &mut [u8], res: &mut [u64; 2]) -> u64
     ensures { Notices journal.now out.old res.old out.new res.new result }
 {
     let r = report::brn_file::post_notices(journal, out);

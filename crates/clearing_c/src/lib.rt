@@ -24,8 +24,7 @@ use table::Printed;
 use units::{Ccf, Date};
 
 // Fresh.
-#[unsafe(no_mangle)]
-pub extern "C" fn clearing_fresh(
+pub fn clearing_fresh(
     ledger: &mut [u64],
     today: u64,
     tracking: u64,
@@ -45,8 +44,7 @@ pub extern "C" fn clearing_fresh(
 }
 
 // Close of day.
-#[unsafe(no_mangle)]
-pub extern "C" fn clearing_close(
+pub fn clearing_close(
     ledger: &mut [u64],
     today: u64,
     change: &mut i64,
@@ -66,8 +64,7 @@ pub extern "C" fn clearing_close(
 }
 
 // Removal: the removal date of all bills of an account.
-#[unsafe(no_mangle)]
-pub extern "C" fn clearing_removal(
+pub fn clearing_removal(
     ledger: &mut [u64],
     account: u64,
     date: u64,
@@ -109,8 +106,7 @@ fn request_of(
 }
 
 // Request: the rate code in five bytes, the product as B or P.
-#[unsafe(no_mangle)]
-pub extern "C" fn clearing_request(
+pub fn clearing_request(
     ledger: &mut [u64],
     code: &[u8; 5],
     account: u64,
@@ -141,8 +137,7 @@ pub extern "C" fn clearing_request(
 }
 
 // Request whose Scheduled Date is so many business days from today.
-#[unsafe(no_mangle)]
-pub extern "C" fn clearing_request_by_calendar(
+pub fn clearing_request_by_calendar(
     ledger: &mut [u64],
     code: &[u8; 5],
     account: u64,
@@ -166,8 +161,7 @@ pub extern "C" fn clearing_request_by_calendar(
 }
 
 // A supplier file: its answers go to out.
-#[unsafe(no_mangle)]
-pub extern "C" fn clearing_file(
+pub fn clearing_file(
     ledger: &mut [u64],
     s: &[u8],
     out: &mut [u8],
@@ -181,8 +175,7 @@ pub extern "C" fn clearing_file(
 }
 
 // Cancel.
-#[unsafe(no_mangle)]
-pub extern "C" fn clearing_cancel(
+pub fn clearing_cancel(
     ledger: &mut [u64],
     account: u64,
     key: u64,
@@ -198,8 +191,7 @@ pub extern "C" fn clearing_cancel(
 }
 
 // Lookup: the place of the open bill of an account that is due first; of equals it is the one first requested.
-#[unsafe(no_mangle)]
-pub extern "C" fn clearing_open_bill(ledger: &[u64], account: u64, place: &mut u64) -> u64
+pub fn clearing_open_bill(ledger: &[u64], account: u64, place: &mut u64) -> u64
     ensures value { result ≡ place_number (open_in (ledger_of ledger.now) account) }
     ensures place_after { place.new ≡ place_left place.old (open_in (ledger_of ledger.now) account) }
 {
@@ -214,13 +206,7 @@ pub extern "C" fn clearing_open_bill(ledger: &[u64], account: u64, place: &mut u
 }
 
 // Lookup: charge, applied and owed of one bill.
-#[unsafe(no_mangle)]
-pub extern "C" fn clearing_amounts(
-    ledger: &[u64],
-    account: u64,
-    key: u64,
-    amounts: &mut [u64; 3],
-) -> u64
+pub fn clearing_amounts(ledger: &[u64], account: u64, key: u64, amounts: &mut [u64; 3]) -> u64
     ensures value { result ≡ amounts_number (amounts_in (ledger_of ledger.now) (identity_from account key)) }
     ensures amounts_after { amounts.new ≡ amounts_left amounts.old (amounts_in (ledger_of ledger.now) (identity_from account key)) }
 {
@@ -240,8 +226,7 @@ pub extern "C" fn clearing_amounts(
 }
 
 // The posted table of a ledger, without a line after a bad entry; written are its bytes.
-#[unsafe(no_mangle)]
-pub extern "C" fn clearing_ledger_table(ledger: &[u64], out: &mut [u8], written: &mut u64) -> u64
+pub fn clearing_ledger_table(ledger: &[u64], out: &mut [u8], written: &mut u64) -> u64
     ensures { Prints (ledger_of ledger.now) out.old written.old out.new written.new result }
 {
     let p = table_in_words::print_words(out, ledger, false);
@@ -256,8 +241,7 @@ pub extern "C" fn clearing_ledger_table(ledger: &[u64], out: &mut [u8], written:
 
 // The journal entry at the start of some bytes, before which so many entries came; found are its bytes, 0 where no whole good one stands there
 // (13), and 1 if it is cut short, else 0.
-#[unsafe(no_mangle)]
-pub extern "C" fn clearing_entry(
+pub fn clearing_entry(
     ledger: &mut [u64],
     journal: &[u8],
     seen: u64,
