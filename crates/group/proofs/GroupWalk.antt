@@ -29,7 +29,7 @@ use Rattle.verdict.specs.declared.Verdict.TheVariants.{Accepted, Rejected}
 use Rattle.group.specs.declared.Tally.{Tally}
 use Rattle.group.specs.declared.TurnResult.{TurnResult}
 use Rattle.group.specs.Groups.{identity_of, verdict_on, verdict_by, verdict_here, settled, answer, taken, answers, verdicts, is_accepted, is_rejected}
-use Rattle.group.specs.parts.Turns.{identity_at, sought_by, in_widths, InWidthsAt, Ready, came_by, went_by, no_tally, tallied, if_written, answer_at, WithinFile, TurnLeaves, FitForTurn, TurnLeavesOn, FileTaken}
+use Rattle.group.specs.parts.Turns.{identity_at, sought_by, in_widths, InWidthsAt, Ready, no_tally, if_written, answer_at, WithinFile, TurnLeaves, FitForTurn, TurnLeavesOn, FileTaken}
 use Rattle.group.proofs.OutputLaws.{Out, out-start, out-more}
 use Rattle.group.proofs.FoundLaws.{every_held, spots, spot-calm}
 use Rattle.group.proofs.DecideLaws.{by-duplicate}

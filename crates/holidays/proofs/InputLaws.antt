@@ -1,7 +1,7 @@
 -- Bytes or lines over the most that good holidays have: the answer is the same whatever more of them come. Assumes nothing.
-use Prim.Native.Nat.{ℕ, suc, ◌+◌, ◌*◌, ◌≤◌, ◌<◌}
-use mathlib.Core.Path.{◌≡◌, refl, sym, ap, ◌∙◌}
-use mathlib.Core.Bool.{Bool, true, false, cond, not, ◌&&◌}
+use Prim.Native.Nat.{ℕ, suc, ◌*◌, ◌≤◌, ◌<◌}
+use mathlib.Core.Path.{◌≡◌, refl, ap, ◌∙◌}
+use mathlib.Core.Bool.{true, false, ◌&&◌}
 use mathlib.Core.List.{List, [], ◌∷◌, ◌++◌, map}
 use native.Mathlib.Omega.{arith}
 use native.Mathlib.Decide.{dec_le}
@@ -15,7 +15,6 @@ use Rattle.fields.proofs.BoolLaws.{and_left, and_right, cases}
 use Rattle.rules.specs.Lists.{every, sum}
 use Rattle.units.specs.Calendar.{is_date}
 use Rattle.units.proofs.DateLaws.{date-some}
-use Rattle.calendar.specs.declared.Day.{Day}
 use Rattle.calendar.specs.BusinessDays.{rise, most_holidays, good_holidays, further_causes, further_day}
 use Rattle.holidays.specs.Lines.{date_in, on_first, lines, holidays_of}
 use Rattle.holidays.specs.DayLine.{day_of}

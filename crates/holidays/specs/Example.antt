@@ -1,5 +1,5 @@
 -- Examples of what program `business_day` prints, from its bytes to its line. Assumes nothing.
-use Rattle.std.specs.Prelude.{◌≡◌, List, [], ◌∷◌, ◌++◌}
+use Rattle.std.specs.Prelude.{◌≡◌, [], ◌∷◌, ◌++◌}
 use Rattle.fields.specs.Text.{text}
 use Rattle.holidays.specs.DayLine.{day_line, day_of}
 

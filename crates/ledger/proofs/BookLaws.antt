@@ -5,7 +5,7 @@ use mathlib.Core.List.{List, [], ◌∷◌, ◌++◌}
 use native.Mathlib.Omega.{arith}
 use native.Mathlib.Numerals.{add-one}
 use lib.IntN.{ℤ, pos, neg_ℤ, ◌+ℤ◌, ◌-ℤ◌, +ℤ-neg_ℤ_cancel, +ℤ_assoc, +ℤ_comm}
-use lib.ListN.{length, get_or, set, length-map}
+use lib.ListN.{length, get_or, set}
 use lib.Seq.{take-suc-set, take-set-lt, length-take-le}
 use borrow.Author.Tests.{ltb-true}
 use mathlib.Core.Bool.{true}

@@ -1,6 +1,6 @@
 -- The ledger as a book: "today, the next Tracking ID, the next Confirmation Number .. and up to 128 bills in order of first request".
 -- Assumes nothing.
-use Rattle.std.specs.Prelude.{ℕ, ◌+◌, Bool, cond, List, map, ◌++◌, length, take, drop, replicate}
+use Rattle.std.specs.Prelude.{ℕ, Bool, cond, List, map, ◌++◌, length, take, drop, replicate}
 use Rattle.units.specs.declared.Date.{Date}
 use Rattle.units.specs.Units.{fits_cents}
 use Rattle.ledger.specs.declared.Identity.{Identity}

@@ -1,8 +1,7 @@
 -- A removal date set at a place of the words: what the bill's word says, and a bill of another account stays. Assumes nothing.
 use Prim.Native.Nat.{ℕ}
-use mathlib.Core.Path.{◌≡◌, sym, ap, ◌∙◌}
-use mathlib.Core.Bool.{Bool, true, false}
-use mathlib.Core.List.{List}
+use mathlib.Core.Path.{◌≡◌, sym, ap}
+use mathlib.Core.Bool.{true, false}
 use lib.Seq.{set-get_or}
 use Rattle.fields.proofs.BoolLaws.{cases}
 use Rattle.units.specs.declared.Date.{Date}

@@ -22,7 +22,7 @@ use Rattle.ledger.specs.Bills.{blank_bill}
 use Rattle.ledger.specs.Books.{of_id, of_account}
 use Rattle.ledger.specs.parts.Places.{bill_at, header_of, replaced, with_header}
 use Rattle.ledger.specs.contracts.Bill.{the_row}
-use Rattle.words.specs.Layout.{place_size, ledger_size, bill_words, bills_words, head_words, ledger_words, holds_code, holds_bill, holds_bills, holds_ledger, removal_in, code_in, terms_in, bill_in, bills_in, ledger_in, ledger_of, byte_code, removal_said, bill_said}
+use Rattle.words.specs.Layout.{place_size, ledger_size, bill_words, bills_words, head_words, ledger_words, holds_code, holds_bill, holds_bills, holds_ledger, code_in, terms_in, bill_in, bills_in, ledger_in, ledger_of, byte_code, removal_said, bill_said}
 use Rattle.units.specs.Calendar.{date_of}
 use Rattle.words.proofs.WordLaws.{four_bytes, removal-read, length-bill, words_long, words-bills, of_words, words-ledger, holds-words, ledger-words}
 use Rattle.words.proofs.WordPlaceLaws.{place_at, next_place}

@@ -7,7 +7,7 @@ use native.Mathlib.Omega.{arith}
 use native.Mathlib.Numerals.{add-one}
 use native.Mathlib.Nat.{not-suc-le-zero, le_of_suc-le-suc}
 use lib.ListN.{length, take, drop, get_or, set, length-drop, drop_of_length-le}
-use lib.Seq.{drop-drop, take_all, length-take-le, take-suc, take-suc-set, take_at, drop_at, split_at, drop-append-add}
+use lib.Seq.{drop-drop, take_all, length-take-le, take-suc, take_at, drop_at, split_at, drop-append-add}
 use Rattle.fields.specs.Put.{put, part}
 use Rattle.fields.proofs.PutLaws.{first, next}
 use Rattle.fields.proofs.BoolLaws.{and_left, and_right}

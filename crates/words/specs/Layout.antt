@@ -5,7 +5,6 @@
 use Rattle.std.specs.Prelude.{ℕ, zero, suc, Bool, true, cond, not, ◌&&◌, ◌||◌, List, [], ◌∷◌, ◌++◌, leb, ltb, eqb, length, drop, get_or, replicate}
 use Rattle.units.specs.Calendar.{date_of}
 use Rattle.ledger.specs.declared.RateCode.{RateCode}
-use Rattle.ledger.specs.declared.Product.TheVariants as product
 use Rattle.ledger.specs.declared.Posted.{Posted}
 use Rattle.ledger.specs.declared.Posted.TheVariants as posted
 use Rattle.ledger.specs.declared.Latest.{Latest}

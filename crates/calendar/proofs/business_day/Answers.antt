@@ -1,11 +1,8 @@
 -- `calendar::business_day` meets its contract, cause by cause.
-use mathlib.Core.Path.{◌≡◌, sym, ◌∙◌}
-use mathlib.Core.Bool.{true, false}
+use mathlib.Core.Path.{sym, ◌∙◌}
 use native.Mathlib.Omega.{arith}
-use lib.Dec.{ltb}
-use borrow.Author.Tests.{not-true, not-false, lt-ltb, le-ltb}
-use Rattle.units.specs.Calendar.{is_date}
-use Rattle.calendar.specs.BusinessDays.{most_further, good_holidays, further_day, further_causes}
+use borrow.Author.Tests.{lt-ltb, le-ltb}
+use Rattle.calendar.specs.BusinessDays.{most_further, further_day, further_causes}
 use Rattle.calendar.proofs.business_day.Goals as goal
 
 pub returns-then-not-valid : goal.returns-then-not-valid

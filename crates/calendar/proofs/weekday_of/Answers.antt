@@ -1,6 +1,5 @@
 -- `calendar::weekday_of` meets its contract: whether it is a date, and its weekday.
 use mathlib.Core.Path.{sym, ◌∙◌}
-use borrow.Author.Tests.{not-true, not-false}
 use Rattle.calendar.specs.BusinessDays.{weekday_of}
 use Rattle.calendar.proofs.weekday_of.Goals as goal
 

@@ -1,8 +1,5 @@
 -- `file::pair_form` meets its contract: each return rewrites with the tests that led there.
-use mathlib.Core.Path.{◌≡◌, sym, ◌∙◌}
-use mathlib.Core.Bool.{false}
-use Rattle.records.specs.Layout.{is_rsp}
-use Rattle.file.specs.File.{unfit}
+use mathlib.Core.Path.{sym, ◌∙◌}
 use Rattle.file.specs.parts.Walk.{pair_form}
 use Rattle.file.proofs.pair_form.Goals as goal
 

@@ -2,7 +2,6 @@
 use mathlib.Core.Path.{sym, subst}
 use native.Mathlib.Omega.{arith}
 use Rattle.verdict.specs.parts.Dated.{Dated}
-use Rattle.group.specs.parts.Turns.{sought_by}
 use Rattle.group.proofs.AcceptedLaws.{can-post, dated-by, came-small, went-small}
 use Rattle.group.proofs.TurnParts.{verdict-now, turn-done}
 use Rattle.group.proofs.turn.Goals as goal

@@ -1,7 +1,5 @@
 -- `holidays::day_of` meets its contract: the holidays in the array stand for all of them.
-use Prim.Native.Nat.{◌≤◌}
 use mathlib.Core.Path.{refl, sym, ap₂, ◌∙◌}
-use lib.ListN.{length}
 use lib.Seq.{length-take-le}
 use Rattle.calendar.specs.BusinessDays.{further_day}
 use Rattle.holidays.specs.Lines.{holidays_of}

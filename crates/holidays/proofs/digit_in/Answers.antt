@@ -1,10 +1,6 @@
 -- `holidays::digit_in` meets its contract.
-use mathlib.Core.Path.{◌≡◌, sym, ◌∙◌}
-use mathlib.Core.Bool.{true}
+use mathlib.Core.Path.{sym, ◌∙◌}
 use native.Mathlib.Omega.{arith}
-use borrow.Author.Tests.{not-true, not-false}
-use lib.ListN.{get_or}
-use Rattle.fields.specs.Digits.{is_digit}
 use Rattle.fields.proofs.DigitLaws.{is_digit-range}
 use Rattle.holidays.proofs.LineLaws.{digit_not, digit-no, digit-yes}
 use Rattle.holidays.proofs.digit_in.Goals as goal

@@ -1,5 +1,4 @@
 -- `holidays::put_refusal` meets its contract: three writes, one after the other.
-use Prim.Native.Nat.{◌≤◌}
 use native.Mathlib.Omega.{arith}
 use Rattle.holidays.proofs.DayLineLaws.{width-most, refusal-written}
 use Rattle.holidays.proofs.put_refusal.Goals as goal

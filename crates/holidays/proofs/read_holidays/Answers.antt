@@ -1,7 +1,5 @@
 -- `holidays::read_holidays` meets its contract: one date a turn.
-use Prim.Native.Nat.{◌≤◌, ◌<◌}
 use native.Mathlib.Omega.{arith}
-use lib.ListN.{length}
 use Rattle.holidays.proofs.LineLaws.{both_below, end-within, read_none, read_more, read_all}
 use Rattle.holidays.proofs.read_holidays.Goals as goal
 

@@ -5,7 +5,7 @@ use native.Mathlib.Omega.{arith}
 use Prim.Native.Nat.{◌≤◌}
 use mathlib.Core.Path.{◌≡◌, refl, sym, ap, ◌∙◌}
 use mathlib.Core.Bool.{Bool, true, false, ◌&&◌}
-use borrow.Author.Tests.{leb-true, not-true, not-false}
+use borrow.Author.Tests.{leb-true}
 use lib.ListN.{length}
 use lib.Dec.{leb}
 use Rattle.fields.proofs.BoolLaws.{and_right}
@@ -16,7 +16,7 @@ use Rattle.ledger.specs.Books.{live, of_id}
 use Rattle.ledger.specs.Sound.{is_next, distinct, sound_ledger}
 use Rattle.ledger.proofs.BookLaws.{places}
 use Rattle.rules.proofs.ListLaws.{slice-step, slice-end, has-hit, has-miss}
-use Rattle.ledger.proofs.SoundLaws.{walked, walked-bad, walked-good, past, past-hit, past-miss, past_end, head_test, split}
+use Rattle.ledger.proofs.SoundLaws.{walked, walked-bad, walked-good, past-hit, past-miss, past_end, head_test, split}
 use Rattle.sound_ledger.proofs.sound.Goals as goal
 
 same_head : (a a' b b' c c' d : Bool) → a ≡ a' → b ≡ b' → c ≡ c' → (a' && b' && c' && d) ≡ (a && b && c && d)

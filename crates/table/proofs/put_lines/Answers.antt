@@ -1,15 +1,15 @@
 -- After i turns the output holds the lines of the first i bills.
-use Prim.Native.Nat.{ℕ, ◌+◌, ◌*◌, ◌≤◌}
-use mathlib.Core.Path.{◌≡◌, refl, sym, ap, ap₂, ◌∙◌}
-use mathlib.Core.List.{List, [], ◌∷◌}
+use Prim.Native.Nat.{ℕ}
+use mathlib.Core.Path.{refl, sym, ap, ap₂, ◌∙◌}
+use mathlib.Core.List.{List}
 use native.Mathlib.Omega.{arith}
-use lib.ListN.{length, take, get_or}
+use lib.ListN.{take, get_or}
 use Rattle.fields.specs.Put.{put}
-use Rattle.fields.proofs.PutLaws.{put-nil, length-put}
+use Rattle.fields.proofs.PutLaws.{put-nil}
 use Rattle.ledger.specs.declared.Bill.{Bill}
 use Rattle.ledger.specs.Bills.{blank_bill}
-use Rattle.table.specs.Table.{line_of, lines_of, line_size}
-use Rattle.table.proofs.TableLaws.{line-more, length-line}
+use Rattle.table.specs.Table.{line_of, lines_of}
+use Rattle.table.proofs.TableLaws.{line-more}
 use Rattle.table.proofs.put_lines.Goals as goal
 
 pub loop-i-init : goal.loop-i-init

@@ -4,7 +4,7 @@ use mathlib.Core.Path.{◌≡◌}
 use mathlib.Core.Bool.{Bool}
 use mathlib.Core.List.{List}
 use lib.ListN.{length}
-use Rattle.fields.proofs.PutLaws.{Wrote, first}
+use Rattle.fields.proofs.PutLaws.{Wrote}
 use Rattle.notices.specs.declared.rej.Rej.{Rej}
 use Rattle.records.specs.Layout.{records_from}
 use Rattle.notices.specs.Answers.{rej_details}

@@ -1,8 +1,7 @@
 -- The sum of the charges so far fits, since each charge is in its width.
 use Rattle.std.proofs.Common.{arith}
-use Prim.Native.Nat.{◌+◌, ◌<◌, ◌^◌}
-use mathlib.Core.Path.{◌≡◌, sym, ap, ◌∙◌}
-use lib.ListN.{get_or}
+use Prim.Native.Nat.{◌+◌}
+use mathlib.Core.Path.{ap}
 use Rattle.ledger.specs.Bills.{blank_bill}
 use Rattle.ledger.specs.Books.{bill_charge}
 use Rattle.rules.proofs.ListLaws.{sum_more, sum_first}

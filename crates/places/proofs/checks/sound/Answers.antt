@@ -1,6 +1,5 @@
 -- `places::checks::sound` meets its contract: the tests of header, bills and identities are those of a sound ledger.
 use mathlib.Core.Path.{sym, ◌∙◌}
-use borrow.Author.Tests.{not-true, not-false}
 use Rattle.words.proofs.WordLaws.{no-ledger}
 use Rattle.places.proofs.SoundWordsLaws.{bad-header, header-count, good-header}
 use Rattle.places.proofs.checks.sound.Goals as goal
