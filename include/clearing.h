@@ -1,7 +1,7 @@
 /*
  * clearing.h: the calls of the clearing ledger for Bill Ready and Prepay charges (document 01), its business-day
- * calendar and its removals (document 02, papers 1 and 2), proved and compiled to libclearing_c.a (`rt staticlib
- * clearing_c`, then target/staticlib/), for C and C++ on x86-64 Linux.
+ * calendar and its removals (document 02, papers 1 and 2), proved and compiled to libclearing_c.a (`tools/library`, in
+ * the repository's folder, writes it into target/staticlib/), for C and C++ on x86-64 Linux.
  *
  * Every function returns 0 if the call is carried out, else one of the causes below; then all that was lent to it for
  * writing (ledger, out, change, counts, place, amounts, written, weekday, day, found, result) holds what it held

@@ -9,7 +9,7 @@ fn main() {
     let folder = package.join(env::var_os("CLEARING_LIB_DIR").unwrap_or("../../target/staticlib".into()));
     let library: &Path = &folder.join("libclearing_c.a");
     if !library.exists() {
-        println!("cargo:warning={} is missing: rt staticlib clearing_c, or set CLEARING_LIB_DIR", library.display());
+        println!("cargo:warning={} is missing: tools/library, or set CLEARING_LIB_DIR", library.display());
     }
     println!("cargo:rerun-if-env-changed=CLEARING_LIB_DIR");
     println!("cargo:rerun-if-changed={}", library.display());

@@ -14,8 +14,7 @@ use Rattle.group.specs.Groups.{sought_in}
 use Rattle.causes.specs.declared.CalendarRequest.{CalendarRequest}
 use Rattle.causes.specs.Causes.{request, calendar, causes, worked_out, schedule_causes}
 use Rattle.causes.proofs.CalendarLaws.{schedule-stops, schedule-clears, calendar-clear}
-use Rattle.calls.specs.declared.Called.{Called}
-use Rattle.calls.specs.Machine.{Outcome, next, next_written, next_verdicts, next_closed, outcome, cause_in, step_in, left_by, answer_by, called}
+use Rattle.calls.specs.Machine.{next, next_written, next_verdicts, next_closed, outcome, cause_in, step_in, left_by, called}
 
 -- ---- the causes, on a view
 module _ (v : View) (q : CalendarRequest) (hs : List ℕ) (room : ℕ) where

@@ -1,17 +1,12 @@
 -- Laws of the file call. Assumes nothing.
-use Prim.Native.Nat.{ℕ, zero, suc, ◌+◌, ◌*◌, ◌/◌, ◌%◌, ◌≤◌}
+use Prim.Native.Nat.{ℕ, zero, suc, ◌+◌, ◌*◌, ◌/◌, ◌≤◌}
 use mathlib.Core.Path.{◌≡◌, refl, sym, ap, ◌∙◌}
-use mathlib.Core.Bool.{Bool, true, false, cond, ◌&&◌}
+use mathlib.Core.Bool.{Bool, true, false, cond}
 use mathlib.Core.List.{List, [], ◌∷◌, ◌++◌}
 use native.Mathlib.Omega.{arith}
-use lib.Dec.{eqb, leb, ltb}
 use lib.IntN.{pos, ◌-ℤ◌}
 use lib.ListN.{length, take, length-append, length-take}
-use borrow.Author.Tests.{leb-true}
-use Rattle.fields.specs.Put.{put}
-use Rattle.fields.proofs.BoolLaws.{and_left, and_right}
 use Rattle.ledger.specs.declared.Ledger.{Ledger}
-use Rattle.rules.specs.Lists.{every, count}
 use Rattle.ledger.specs.Books.{Book, View, view, book, live, total_of}
 use Rattle.ledger.specs.declared.Bill.{Bill}
 use Rattle.ledger.proofs.BookLaws.{difference}
@@ -26,7 +21,7 @@ use Rattle.notices.specs.declared.acf.Acf.{Acf}
 use Rattle.notices.specs.declared.rej.Rej.{Rej}
 use Rattle.notices.specs.Answers.{acf, rej_header, rej_detail, rej_details, rej}
 use Rattle.notices.proofs.AnswerLaws.{length-acf, length-rej-header, length-rej-detail}
-use Rattle.file.specs.File.{records, good_record, headed, good_file, is_header, Group, leading, groups, file_groups, asks_id}
+use Rattle.file.specs.File.{records, is_header, Group, leading, groups, file_groups}
 use Rattle.rules.specs.declared.Check.{Check}
 use Rattle.rules.specs.declared.Check.TheVariants.{Clear, Stop}
 use Rattle.verdict.specs.declared.Verdict.{Verdict}
@@ -39,9 +34,9 @@ use Rattle.group.proofs.GroupWalk.{book-stored}
 use Rattle.causes.proofs.FileFreshLaws.{good-short}
 use Rattle.calls.proofs.CallLaws.{Carried, Stopped, carried, stopped}
 use Rattle.calls.proofs.CalendarCalls.{clear-dated}
-use Rattle.causes.specs.Causes.{Call, request, calendar, file, cancel, close, removal, lacks, file_causes, causes, worked_out}
+use Rattle.causes.specs.Causes.{Call, request, calendar, file, cancel, close, removal, file_causes, causes, worked_out}
 use Rattle.causes.proofs.CauseLaws.{asks, sends, cancels}
-use Rattle.calls.specs.Machine.{cause, room_of, cause_in, outcome, step_in, left_by, answer_by, called, next, next_written, next_verdicts, next_closed}
+use Rattle.calls.specs.Machine.{cause, room_of, cause_in, outcome, answer_by, next, next_written, next_verdicts, next_closed}
 use Rattle.calls.specs.parts.Answers.{cleared}
 
 -- ---- the call

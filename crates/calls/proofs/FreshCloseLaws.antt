@@ -1,8 +1,8 @@
 -- Laws of fresh and of close of day. Assumes nothing.
 use Prim.Native.Nat.{ℕ, ◌+◌, ◌≤◌, ◌<◌}
-use mathlib.Core.Path.{◌≡◌, refl, sym}
-use mathlib.Core.Bool.{Bool, true, false, cond, not, ◌&&◌}
-use mathlib.Core.List.{List, [], ◌∷◌}
+use mathlib.Core.Path.{◌≡◌, refl}
+use mathlib.Core.Bool.{Bool, true, cond}
+use mathlib.Core.List.{List}
 use native.Mathlib.Omega.{arith}
 use lib.Dec.{leb}
 use lib.IntN.{pos, +ℤ_invr}
@@ -11,14 +11,13 @@ use lib.Seq.{slice, length-take-le}
 use borrow.Author.Tests.{leb-true, le-leb, not-false}
 use Rattle.fields.proofs.BoolLaws.{and_left, and_right}
 use Rattle.units.specs.declared.Date.{Date}
-use Rattle.units.specs.Calendar.{is_date}
 use Rattle.ledger.specs.declared.Ledger.{Ledger}
 use Rattle.rules.specs.Lists.{count}
 use Rattle.ledger.specs.Books.{book, live, total_of}
 use Rattle.ledger.specs.Sound.{is_next, distinct, sound_ledger}
-use Rattle.rules.proofs.ListLaws.{all-on, all-joined, slice-step}
+use Rattle.rules.proofs.ListLaws.{all-on, slice-step}
 use Rattle.ledger.proofs.SoundLaws.{facts-sound}
-use Rattle.rules.specs.declared.Check.TheVariants.{Clear, Stop}
+use Rattle.rules.specs.declared.Check.TheVariants.{Clear}
 use Rattle.rules.specs.Rules.{first}
 use Rattle.group.proofs.AcceptedLaws.{clear-off}
 use Rattle.groups.proofs.FileSound.{count-step}

@@ -17,15 +17,15 @@ use Rattle.ledger.specs.declared.Terms.{Terms}
 use Rattle.ledger.specs.declared.Bill as bill
 use Rattle.ledger.specs.declared.Posted.{Posted}
 use Rattle.ledger.specs.declared.Posted.TheVariants as posted
-use Rattle.rules.specs.Lists.{all, has, every}
+use Rattle.rules.specs.Lists.{all, every}
 use Rattle.ledger.specs.Bills.{is_of, is_rate_code, code_bytes, renewed, cancelled_bill, removed_terms}
 use Rattle.ledger.specs.Books.{Book, view, bill_terms, of_id, of_account, removed_of}
-use Rattle.ledger.specs.Sound.{sound_terms, sound_amounts, sound_bill, holds_id, distinct, sound}
+use Rattle.ledger.specs.Sound.{sound_terms, sound_amounts, sound_bill, holds_id, distinct}
 use Rattle.rules.proofs.ListLaws.{all-on, every_append}
 use Rattle.ledger.proofs.SoundLaws.{TermsFacts, moved_facts, BookFacts, book-facts, facts-sound, terms-facts, facts-terms, bill-terms}
 use Rattle.file.specs.File.{file_groups}
 use Rattle.file.proofs.WalkLaws.{has-append}
-use Rattle.verdict.specs.declared.Sought.TheVariants.{Bill, Nothing}
+use Rattle.verdict.specs.declared.Sought.TheVariants.{Nothing}
 use Rattle.rules.specs.declared.Check.TheVariants.{Clear}
 use Rattle.rules.specs.Rules.{first}
 use Rattle.group.specs.Groups.{sought_in}

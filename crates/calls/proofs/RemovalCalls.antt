@@ -11,7 +11,7 @@ use Rattle.ledger.specs.declared.Bill.{Bill}
 use Rattle.ledger.specs.declared.Ledger.{Ledger}
 use Rattle.rules.specs.Lists.{has}
 use Rattle.ledger.specs.Bills.{is_of_account}
-use Rattle.ledger.specs.Books.{book, live, bill_terms, view, of_account, removed_of, bill_charge, total_of}
+use Rattle.ledger.specs.Books.{live, bill_terms, of_account, removed_of, bill_charge, total_of}
 use Rattle.ledger.specs.parts.Places.{removed_first}
 use Rattle.ledger.specs.Sound.{sound_ledger}
 use Rattle.ledger.proofs.RemovalLaws.{removed-all}

@@ -2,7 +2,6 @@
 use Rattle.std.specs.Prelude.{ℕ, Bool, not, ◌&&◌}
 use Rattle.units.specs.declared.Date.{Date}
 use Rattle.ledger.specs.declared.RateCode.{RateCode}
-use Rattle.ledger.specs.declared.Product.TheVariants as product
 use Rattle.ledger.specs.declared.Latest.{Latest}
 use Rattle.ledger.specs.declared.Bill.{Bill}
 use Rattle.ledger.specs.Bills.{is_open, first_bill, product_of}

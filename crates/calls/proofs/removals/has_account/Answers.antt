@@ -1,8 +1,6 @@
 -- `calls::removals::has_account` meets its contract: the search from i on is the whole search.
-use Prim.Native.Nat.{◌≤◌}
 use mathlib.Core.Path.{refl, sym, ◌∙◌}
 use native.Mathlib.Omega.{arith}
-use lib.ListN.{length}
 use Rattle.ledger.specs.Bills.{blank_bill}
 use Rattle.ledger.specs.Books.{of_account}
 use Rattle.ledger.proofs.BookLaws.{places}

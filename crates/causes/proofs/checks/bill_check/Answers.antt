@@ -1,10 +1,9 @@
 -- `causes::checks::bill_check` meets its contract, cause by cause.
-use mathlib.Core.Path.{◌≡◌, sym, ap, ◌∙◌}
+use mathlib.Core.Path.{sym, ap, ◌∙◌}
 use mathlib.Core.Bool.{not}
 use borrow.Author.Tests.{le-leb, lt-leb, eq-eqb, ne_eqb}
-use Rattle.rules.specs.Rules.{first}
 use Rattle.causes.specs.Causes.{bill_causes}
-use Rattle.causes.proofs.CauseLaws.{after-6, known-past-6}
+use Rattle.causes.proofs.CauseLaws.{known-past-6}
 use Rattle.causes.proofs.checks.bill_check.Goals as goal
 
 pub returns-then-held-ge-PLACES : goal.returns-then-held-ge-PLACES

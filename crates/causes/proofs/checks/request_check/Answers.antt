@@ -1,10 +1,8 @@
 -- `causes::checks::request_check` meets its contract, cause by cause.
-use mathlib.Core.Path.{◌≡◌, sym, ◌∙◌}
-use mathlib.Core.List.{List, [], ◌∷◌, ◌++◌}
-use borrow.Author.Tests.{not-false, lt-ltb, le-ltb}
+use mathlib.Core.Path.{sym, ◌∙◌}
+use borrow.Author.Tests.{lt-ltb, le-ltb}
 use Rattle.verdict.proofs.RuleLaws.{first-stop, first-clear}
-use Rattle.rules.specs.Rules.{Rule, rule, first}
-use Rattle.causes.specs.Causes.{lacks, bill_causes, request_causes}
+use Rattle.causes.specs.Causes.{request_causes}
 use Rattle.causes.proofs.checks.request_check.Goals as goal
 
 pub returns-then-not-good_request : goal.returns-then-not-good_request
