@@ -2,16 +2,22 @@
 #![tactic(auto)]
 
 use replay::{Wanted, ending};
-use streams::output;
+use streams::{arguments, output};
 
-fn main() {
-    if 1 < os::arg_count() {
+fn main(rt: HostRuntime) {
+    if arguments::is_given(&rt, 1) {
         output::explain(
+            &mut rt.stderr(),
             b"usage: brn < JOURNAL > NOTICES\n",
             b"Reads a journal on standard input and writes the notices of every call carried out (BIL, ACF, REJ, CXL).\n",
             b"Standard error stays empty if all went well. A bad entry stops it: stopped,13. The exit status is 0.\n",
         );
         return;
     }
-    ending::write_wanted(Wanted::Notices);
+    ending::write_wanted(
+        &mut rt.stdin(),
+        &mut rt.stdout(),
+        &mut rt.stderr(),
+        Wanted::Notices,
+    );
 }

@@ -1,4 +1,2 @@
--- The walks of `day` and `answer_day`, and what its ledger holds.
-pub mod DayWalk
-pub mod AnswerWalk
+-- Laws of the program.
 pub mod TableAfterLaws

@@ -10,8 +10,8 @@ ghost use Rattle.lookups.specs.Lookups.{amounts_in};
 
 use causes::{Request, Start};
 use ledger::{Identity, Ledger};
-use libc::STDOUT_FILENO;
 use lookups::Amounts;
+use streams::output;
 use units::{Ccf, Date};
 
 // A fresh, a request whose BIL goes to out, and a close, on one ledger that each call is lent.
@@ -37,7 +37,7 @@ fn answer_day(first: Ledger, s: &[u8], id: Identity, out: &mut [u8]) -> Amounts
 }
 
 // Takes the supplier's file of document 01's example, an accepted RSP of 4250 cents, and writes its ACF and then the charge of the bill.
-fn show_answer(l: Ledger, id: Identity) {
+fn show_answer(rt: HostRuntime, l: Ledger, id: Identity) {
     let mut file = [32u8; records::NOTICE_SIZE];
     fields::put_bytes(
         &mut file,
@@ -56,16 +56,16 @@ fn show_answer(l: Ledger, id: Identity) {
     let a = answer_day(l, &file, id, &mut out);
     let mut acf = [32u8; records::RECORD_SIZE];
     fields::put_part(&mut acf, 0, &out, 0, records::RECORD_SIZE);
-    io::write_all(STDOUT_FILENO, &acf);
+    let _ = output::write_all(&mut rt.stdout(), &acf);
     let Amounts::Posted { charge, .. } = a else {
         return;
     };
     let mut line = [10u8; 14];
     fields::put_digits(&mut line, 0, 13, charge.0);
-    io::write_all(STDOUT_FILENO, &line);
+    let _ = output::write_all(&mut rt.stdout(), &line);
 }
 
-fn main() {
+fn main(rt: HostRuntime) {
     let empty = Ledger::empty(Date(0), 0, 0);
     let s = Start {
         today: Date(20171113),
@@ -87,9 +87,9 @@ fn main() {
     };
     let mut out = [32u8; records::NOTICE_SIZE];
     let l = day(empty, s, q, Date(20171114), &mut out);
-    io::write_all(STDOUT_FILENO, &out);
+    let _ = output::write_all(&mut rt.stdout(), &out);
     let mut lines = [0u8; table::TABLE_ROOM];
     let n = table::write(&mut lines, l, false);
-    io::write_all(STDOUT_FILENO, &lines[..n]);
-    show_answer(l, id);
+    let _ = output::write_all(&mut rt.stdout(), &lines[..n]);
+    show_answer(rt, l, id);
 }

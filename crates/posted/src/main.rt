@@ -9,11 +9,11 @@ ghost use Rattle.posted.specs.Posting.{to_print, TableWritten, Posts};
 ghost use Rattle.streams.specs.Ends.{piece_size};
 
 use entries::run;
-use libc::STDOUT_FILENO;
 use replay::Wanted;
-use streams::output;
-use streams::output::Output;
+use std::io::{Read, Write};
+use streams::output::{Output, STDOUT_FILENO};
 use streams::pieces::End;
+use streams::{arguments, output};
 
 // So many bytes of the output go to standard output.
 fn printed(length: usize) -> Output
@@ -39,27 +39,40 @@ fn table_of(ws: &[u64], out: &mut [u8], e: End) -> Output
 }
 
 // Reads standard input; what is left to write is its posted table in `out`.
-fn post_input(ws: &mut [u64], buf: &mut [u8], out: &mut [u8]) -> Output
+fn post_input<R: Read, O: Write, E: Write>(
+    reader: &mut R,
+    output: &mut O,
+    error: &mut E,
+    ws: &mut [u64],
+    buf: &mut [u8],
+    out: &mut [u8],
+) -> Output
     requires { (length ws.old ≡ ledger_size) × (length buf.old ≡ piece_size) × (length out.old ≡ table_room) }
     ensures { Posts out.new result }
 {
     run::start(ws);
-    let e = replay::read_all(ws, buf, out, Wanted::Nothing);
+    let e = replay::read_all(reader, output, error, ws, buf, out, Wanted::Nothing);
     table_of(ws, out, e)
 }
 
-fn main() {
-    if 1 < os::arg_count() {
+// Reads standard input and writes its posted table to standard output.
+fn post<R: Read, O: Write, E: Write>(reader: &mut R, output: &mut O, error: &mut E) {
+    let mut ws = [0u64; words::LEDGER_SIZE];
+    let mut buf = [0u8; streams::PIECE_SIZE];
+    let mut out = [0u8; table::TABLE_ROOM];
+    let o = post_input(reader, output, error, &mut ws, &mut buf, &mut out);
+    output::send(output, error, o, &out);
+}
+
+fn main(rt: HostRuntime) {
+    if arguments::is_given(&rt, 1) {
         output::explain(
+            &mut rt.stderr(),
             b"usage: posted < JOURNAL > TABLE\n",
             b"Reads a journal on standard input and writes its posted table: a line a bill, and the total.\n",
             b"A bad entry stops it: the last line is then stopped,13. A failed read or write is told here; the exit status is 0.\n",
         );
         return;
     }
-    let mut ws = [0u64; words::LEDGER_SIZE];
-    let mut buf = [0u8; streams::PIECE_SIZE];
-    let mut out = [0u8; table::TABLE_ROOM];
-    let o = post_input(&mut ws, &mut buf, &mut out);
-    output::send(o, &out);
+    post(&mut rt.stdin(), &mut rt.stdout(), &mut rt.stderr());
 }

@@ -21,7 +21,7 @@ use Rattle.replay.specs.parts.Pieces.{HoldsMore, FillsMore, PieceRuns, PieceLeav
 holds_more : (have : ℕ) (full : Bool) (room : ℕ) (r : filled.Filled) → full ≡ false → HoldsRead have room r → HoldsMore have full room r
 holds_more have full room (filled-as.Bytes n) e h = (omega (arith, h.0), h.1)
 holds_more have full room filled-as.Ended e h = e
-holds_more have full room filled-as.Failed e h = tt
+holds_more have full room (filled-as.Failed x) e h = tt
 
 pub fills-more : (have : ℕ) (full : Bool) (before after : List ℕ) (r : filled.Filled) → full ≡ false → Fills have before after r
     → FillsMore have full before after r

@@ -6,8 +6,6 @@ use Rattle.words.specs.Layout as layout
 use Rattle.journal.specs.Journal.{Entry, parse, first_book, ends_bad, journal_ledger, is_bad}
 use Rattle.journal.specs.EntryCalls.{ledger_after_entries, notices_of, first_ledger}
 use Rattle.trace_lines.specs.Trace.{trace_lines}
-use Rattle.input.specs.declared.Filled as filled
-use Rattle.input.specs.declared.Filled.TheVariants as filled-as
 use Rattle.replay.specs.declared.Wanted.{Wanted}
 use Rattle.replay.specs.declared.Wanted.TheVariants.{Nothing, Notices, Lines}
 use Rattle.streams.specs.declared.pieces.End.{End}

@@ -7,9 +7,9 @@ ghost use Rattle.table.specs.Table.{stop_size};
 
 use crate::Wanted;
 use entries::run;
-use libc::{STDERR_FILENO, STDOUT_FILENO};
+use std::io::{Read, Write};
 use streams::output;
-use streams::output::Output;
+use streams::output::{Output, STDERR_FILENO, STDOUT_FILENO};
 use streams::pieces::End;
 
 // Puts the line that says that a bad entry stopped the reading, if one did and nothing failed; answers its length.
@@ -22,12 +22,20 @@ fn stop_line(out: &mut [u8], e: End) -> usize
 }
 
 // Reads standard input and writes what is asked for of its entries; what is left to write is the line in `out`, of so many bytes.
-fn read_input(ws: &mut [u64], buf: &mut [u8], out: &mut [u8], wanted: Wanted) -> usize
+fn read_input<R: Read, O: Write, E: Write>(
+    reader: &mut R,
+    output: &mut O,
+    error: &mut E,
+    ws: &mut [u64],
+    buf: &mut [u8],
+    out: &mut [u8],
+    wanted: Wanted,
+) -> usize
     requires { (length ws.old ≡ ledger_size) × (length buf.old ≡ piece_size) × (length out.old ≡ piece_size) }
     ensures { StopLineWritten out.new result }
 {
     run::start(ws);
-    let e = crate::read_all(ws, buf, out, wanted);
+    let e = crate::read_all(reader, output, error, ws, buf, out, wanted);
     stop_line(out, e)
 }
 
@@ -43,11 +51,19 @@ fn last_to(wanted: Wanted) -> i32
 }
 
 // What is left to write once standard input is read, and where it goes.
-fn last_of_input(ws: &mut [u64], buf: &mut [u8], out: &mut [u8], wanted: Wanted) -> Output
+fn last_of_input<R: Read, O: Write, E: Write>(
+    reader: &mut R,
+    output: &mut O,
+    error: &mut E,
+    ws: &mut [u64],
+    buf: &mut [u8],
+    out: &mut [u8],
+    wanted: Wanted,
+) -> Output
     requires { (length ws.old ≡ ledger_size) × (length buf.old ≡ piece_size) × (length out.old ≡ piece_size) }
     ensures { (result.descriptor ≡ last_to wanted) × StopLineWritten out.new result.length }
 {
-    let length = read_input(ws, buf, out, wanted);
+    let length = read_input(reader, output, error, ws, buf, out, wanted);
     Output {
         descriptor: last_to(wanted),
         length,
@@ -55,13 +71,18 @@ fn last_of_input(ws: &mut [u64], buf: &mut [u8], out: &mut [u8], wanted: Wanted)
 }
 
 // Reads standard input and writes what is asked for of its entries, and the line behind; answers what was last to write.
-pub fn write_wanted(wanted: Wanted) -> Output
+pub fn write_wanted<R: Read, O: Write, E: Write>(
+    reader: &mut R,
+    output: &mut O,
+    error: &mut E,
+    wanted: Wanted,
+) -> Output
     ensures { (result.descriptor ≡ last_to wanted) × StopLineSize result.length }
 {
     let mut ws = [0u64; words::LEDGER_SIZE];
     let mut buf = [0u8; streams::PIECE_SIZE];
     let mut out = [0u8; streams::PIECE_SIZE];
-    let o = last_of_input(&mut ws, &mut buf, &mut out, wanted);
-    output::send(o, &out);
+    let o = last_of_input(reader, output, error, &mut ws, &mut buf, &mut out, wanted);
+    output::send(output, error, o, &out);
     o
 }

@@ -14,6 +14,7 @@ ghost use Rattle.streams.specs.Ends.{piece_size};
 use entries::run;
 use entries::run::Ran;
 use input::Filled;
+use std::io::{Read, Write};
 use streams::pieces::{End, Piece};
 use streams::{output, pieces};
 
@@ -28,14 +29,14 @@ pub enum Wanted {
 }
 
 // Reads on where all entries that were read are made.
-fn more(buf: &mut [u8], have: usize, full: bool) -> Filled
+fn more<R: Read>(reader: &mut R, buf: &mut [u8], have: usize, full: bool) -> Filled
     requires { have ≤ length buf.old }
     ensures { FillsMore have full buf.old buf.new result }
 {
     if full {
         return Filled::Bytes(have);
     }
-    input::fill(buf, have)
+    input::fill(reader, buf, have)
 }
 
 // Makes the entries at the start of src and writes their lines. Their notices stand in a buffer of their own, since a group's line is read off its answer.
@@ -86,7 +87,15 @@ fn make(
 }
 
 // Reads standard input in pieces and makes its entries. A billion entries have fewer bytes than there are turns.
-pub fn read_all(ws: &mut [u64], buf: &mut [u8], out: &mut [u8], wanted: Wanted) -> End
+pub fn read_all<R: Read, O: Write, E: Write>(
+    reader: &mut R,
+    output: &mut O,
+    error: &mut E,
+    ws: &mut [u64],
+    buf: &mut [u8],
+    out: &mut [u8],
+    wanted: Wanted,
+) -> End
     requires { (ledger_of ws.old ≡ first_ledger) × (length buf.old ≡ piece_size) × (length out.old ≤ piece_size) }
     ensures { result.failed ≡ false → Reads wanted ws.new buf.new result }
 {
@@ -97,13 +106,13 @@ pub fn read_all(ws: &mut [u64], buf: &mut [u8], out: &mut [u8], wanted: Wanted) 
     let mut turns = 70000000000000u64;
     while 0 < turns {
         turns -= 1;
-        let f = more(buf, left, full);
+        let f = more(reader, buf, left, full);
         let Filled::Bytes(n) = f else {
-            return pieces::end_of_input(f, seen, left, total);
+            return pieces::end_of_input(error, f, seen, left, total);
         };
         let p = make(ws, buf, out, wanted, n, seen);
         total += p.written;
-        let is_written = output::send(pieces::output_of(p), out);
+        let is_written = output::send(output, error, pieces::output_of(p), out);
         if !is_written | p.stopped {
             return pieces::end_of_piece(p, total, is_written);
         }

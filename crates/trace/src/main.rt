@@ -2,16 +2,22 @@
 #![tactic(auto)]
 
 use replay::{Wanted, ending};
-use streams::output;
+use streams::{arguments, output};
 
-fn main() {
-    if 1 < os::arg_count() {
+fn main(rt: HostRuntime) {
+    if arguments::is_given(&rt, 1) {
         output::explain(
+            &mut rt.stderr(),
             b"usage: trace < JOURNAL > LINES\n",
             b"Reads a journal on standard input and writes a line an entry and a line a group: what became of each.\n",
             b"A bad entry stops it: the last line is then stopped,13. A failed read or write is told here; the exit status is 0.\n",
         );
         return;
     }
-    ending::write_wanted(Wanted::Lines);
+    ending::write_wanted(
+        &mut rt.stdin(),
+        &mut rt.stdout(),
+        &mut rt.stderr(),
+        Wanted::Lines,
+    );
 }

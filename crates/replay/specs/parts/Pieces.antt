@@ -1,10 +1,10 @@
 -- A piece of standard input, and what its entries leave and write. Assumes nothing.
-use Rattle.std.specs.Prelude.{ℕ, ◌+◌, ◌-◌, ◌≤◌, ◌≡◌, Bool, true, false, List, [], length, take}
+use Rattle.std.specs.Prelude.{ℕ, ◌+◌, ◌≤◌, ◌≡◌, Bool, true, false, List, [], length, take}
 use Rattle.fields.specs.Put.{put}
 use Rattle.ledger.specs.Books.{book}
 use Rattle.ledger.specs.Sound.{sound_ledger}
 use Rattle.words.specs.Layout as layout
-use Rattle.journal.specs.Journal.{Entry, parse, after_entries, journal_ledger}
+use Rattle.journal.specs.Journal.{Entry, parse, after_entries}
 use Rattle.journal.specs.EntryCalls.{ledger_after_entries}
 use Rattle.entries.specs.declared.run.Ran.{Ran}
 use Rattle.entries.specs.parts.Running.{behind, FirstMade, NoneLeft}
@@ -19,7 +19,7 @@ use Rattle.replay.specs.Reading.{written_of}
 abbrev pub HoldsMore : ℕ → Bool → ℕ → filled.Filled → Type 0
 HoldsMore have full room (filled-as.Bytes n) = (have ≤ n) × (n ≤ room)
 HoldsMore have full room filled-as.Ended = full ≡ false
-HoldsMore have full room filled-as.Failed = Unit {0}
+HoldsMore have full room (filled-as.Failed e) = Unit {0}
 
 -- a read, or none where entries are left to be made: the bytes held before stay
 pub record FillsMore (have : ℕ) (full : Bool) (before after : List ℕ) (r : filled.Filled) : Type 0 where
