@@ -24,7 +24,12 @@ pub extern "C" fn clearing_next_business_day(date: u64, holidays: &[u64], day: &
 
 // The business day so many further on from a date.
 #[unsafe(no_mangle)]
-pub extern "C" fn clearing_business_day(date: u64, number: u64, holidays: &[u64], day: &mut u64) -> u64
+pub extern "C" fn clearing_business_day(
+    date: u64,
+    number: u64,
+    holidays: &[u64],
+    day: &mut u64,
+) -> u64
     ensures value { result ≡ date_number (further_day holidays.now date number) }
     ensures day_after { day.new ≡ date_left day.old (further_day holidays.now date number) }
 {

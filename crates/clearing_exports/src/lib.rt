@@ -76,7 +76,20 @@ pub extern "C" fn clearing_request(
     ensures gives { Gives (called (ledger_of ledger.old) (request (request_of code.now (identity_from account key) product billing from consumption scheduled) (length out.old))) ledger.old change.old counts.old ledger.new change.new counts.new result }
     ensures out_after { out.new ≡ put out.old 0 (step_in (ledger_of ledger.old) (request (request_of code.now (identity_from account key) product billing from consumption scheduled) (length out.old))).written }
 {
-    clearing_c::clearing_request(ledger, code, account, key, product, billing, from, consumption, scheduled, out, change, counts)
+    clearing_c::clearing_request(
+        ledger,
+        code,
+        account,
+        key,
+        product,
+        billing,
+        from,
+        consumption,
+        scheduled,
+        out,
+        change,
+        counts,
+    )
 }
 
 // Request whose Scheduled Date is so many business days from today.
@@ -99,7 +112,21 @@ pub extern "C" fn clearing_request_by_calendar(
     ensures gives { Gives (called (ledger_of ledger.old) (calendar (calendar_of code.now (identity_from account key) product billing from consumption number) holidays.now (length out.old))) ledger.old change.old counts.old ledger.new change.new counts.new result }
     ensures out_after { out.new ≡ put out.old 0 (step_in (ledger_of ledger.old) (calendar (calendar_of code.now (identity_from account key) product billing from consumption number) holidays.now (length out.old))).written }
 {
-    clearing_c::clearing_request_by_calendar(ledger, code, account, key, product, billing, from, consumption, number, holidays, out, change, counts)
+    clearing_c::clearing_request_by_calendar(
+        ledger,
+        code,
+        account,
+        key,
+        product,
+        billing,
+        from,
+        consumption,
+        number,
+        holidays,
+        out,
+        change,
+        counts,
+    )
 }
 
 // A supplier file: its answers go to out.
@@ -144,7 +171,12 @@ pub extern "C" fn clearing_open_bill(ledger: &[u64], account: u64, place: &mut u
 
 // Lookup: charge, applied and owed of one bill.
 #[unsafe(no_mangle)]
-pub extern "C" fn clearing_amounts(ledger: &[u64], account: u64, key: u64, amounts: &mut [u64; 3]) -> u64
+pub extern "C" fn clearing_amounts(
+    ledger: &[u64],
+    account: u64,
+    key: u64,
+    amounts: &mut [u64; 3],
+) -> u64
     ensures value { result ≡ amounts_number (amounts_in (ledger_of ledger.now) (identity_from account key)) }
     ensures amounts_after { amounts.new ≡ amounts_left amounts.old (amounts_in (ledger_of ledger.now) (identity_from account key)) }
 {
