@@ -47,13 +47,14 @@ pub record Answers (date number buf out : List ℕ) (n : ℕ) : Type 0 where
   pub size : n ≡ length (cond (is_failed last) [] (day_line (day_of date number bytes)))
   pub within : n ≤ length out
 
--- of all bytes that a reader had: a read failed and nothing is printed; or the line for all of them and the arguments stands at the start of the output
+-- of all bytes that a reader had: nothing is printed, as where a read fails, which no contract can tell; or the line for all of them and the arguments stands
+-- at the start of the output
 pub record AnswersAll (date number input out : List ℕ) (n : ℕ) : Type 0 where
   pub failed : Bool
   pub line : take n out ≡ cond failed [] (day_line (day_of date number input))
 
--- of all bytes that a reader had, and of those that a writer holds before and after: a read failed and nothing is written; or the line for all of them and the
--- arguments is, or only its first bytes where a write failed (then `written` is false)
+-- of all bytes that a reader had, and of those that a writer holds before and after: nothing is written, as where a read fails; or the line for all of them and
+-- the arguments is, or only its first bytes where a write failed (then `written` is false)
 abbrev pub WritesAll : List ℕ → List ℕ → List ℕ → Option (List ℕ) → Option (List ℕ) → Bool → Type 0
 WritesAll date number input before after written =
     (failed : Bool) × Sends written (cond failed [] (day_line (day_of date number input))) before after

@@ -12,9 +12,6 @@ pub const STDOUT_FILENO: i32 = 1;
 
 pub const STDERR_FILENO: i32 = 2;
 
-// What the system answers to a write to a descriptor that is not open.
-const BAD_DESCRIPTOR: i32 = 9;
-
 // The first bytes of some output, so many, go to a descriptor; where there are none nothing is written.
 #[derive(Clone, Copy)]
 pub struct Output {
@@ -64,7 +61,7 @@ pub fn explain<E: Write>(error: &mut E, usage: &[u8], does: &[u8], ends: &[u8]) 
     let _ = write_all(error, ends);
 }
 
-// Writes the bytes to standard output or to standard error. No other descriptor is open.
+// Writes the bytes to standard error where its descriptor is given, else to standard output.
 fn write_to<O: Write, E: Write>(
     out: &mut O,
     error: &mut E,
@@ -76,11 +73,11 @@ fn write_to<O: Write, E: Write>(
     ensures to_error { descriptor ≡ pos 2 → Writes result bytes.now (E.contents error.old) (E.contents error.new)
         × Keeps (O.contents out.old) (O.contents out.new) }
 {
-    match descriptor {
-        STDOUT_FILENO => write_all(out, bytes),
-        STDERR_FILENO => write_all(error, bytes),
-        _ => Err(Error::from_raw_os_error(BAD_DESCRIPTOR)),
+    let is_error = descriptor == STDERR_FILENO;
+    if is_error {
+        return write_all(error, bytes);
     }
+    write_all(out, bytes)
 }
 
 // Writes what is to be written of the bytes; a write that failed is told on standard error.
