@@ -10,14 +10,16 @@ use Rattle.fields.proofs.PutLaws.{put-nil, front-put, put-longer}
 use Rattle.ledger.specs.Books.{book}
 use Rattle.words.specs.Layout.{ledger_of}
 use Rattle.table.specs.Table.{table_of}
-use Rattle.journal.specs.Journal.{ends_bad}
+use Rattle.journal.specs.Journal.{parse, after_entries, first_book, journal_ledger, ends_bad, is_bad}
 use Rattle.report.specs.Report.{posted_of}
 use Rattle.report.proofs.ReportLaws.{claimed}
 use Rattle.streams.specs.declared.pieces.End.{End}
 use Rattle.streams.specs.declared.output.Output.{Output}
 use Rattle.replay.specs.declared.Wanted.TheVariants.{Nothing}
-use Rattle.replay.specs.Reading.{Reads}
-use Rattle.posted.specs.Posting.{to_print, table_by, TableWritten, Posts}
+use Rattle.replay.specs.Reading.{Reads, ReadsFrom}
+use Rattle.replay.proofs.WholeLaws.{all-read}
+use Rattle.std.proofs.Common.{IfSome, Option, Some, None}
+use Rattle.posted.specs.Posting.{to_print, table_by, TableWritten, Posts, PostsAll}
 
 -- ---- what is written
 module _ (e : End) (ws before : List ℕ) where
@@ -69,3 +71,31 @@ module _ (ws buf out₀ out : List ℕ) (e : End) (o : Output) (x : e.failed ≡
 
   pub posts : Posts out o
   posts = by e.failed refl
+
+-- where the reader's bytes are known, it is the table of all of them
+posted-all : (input bytes : List ℕ) → ((parse 0 input).entries ≡ (parse 0 bytes).entries) × (is_bad input ≡ is_bad bytes) → posted_of bytes ≡ posted_of input
+unfolding posted_of journal_ledger
+posted-all input bytes e = sym (ap₂ table_of (ap (after_entries first_book) e.0) e.1)
+
+module _ (input : List ℕ) (left held holds : Option (List ℕ)) (ws buf out₀ out : List ℕ) (e : End) (o : Output)
+    (x : e.failed ≡ false → ReadsFrom Nothing (Some input) left held holds ws buf e) (w : TableWritten e ws out₀ out o) where
+  all-by : (f : Bool) → table_by e ws ≡ cond f [] (posted_of input) → PostsAll input out o
+  all-by f t = record { failed = f; table = ap (take o.length) w.bytes ∙ front-put out₀ (table_by e ws) o.length w.size ∙ t; claimed = claimed input }
+
+  table-is : (f : Bool) → e.failed ≡ f → table_by e ws ≡ cond f [] (table_of (book (ledger_of ws)) (ends_bad e.stopped e.left e.seen))
+  table-is f q = ap (λ (b : Bool). cond b [] (table_of (book (ledger_of ws)) (ends_bad e.stopped e.left e.seen))) q
+
+  all-of : (f : Bool) → e.failed ≡ f → PostsAll input out o
+  all-of true q = all-by true (table-is true q)
+  all-of false q =
+      let r = x q in
+      let same = all-read input r.reads.bytes left r.came (λ z. r.ended (r.reads.stopped ∙ z)) in
+      all-by false (table-is false q ∙ posted-is ws buf e r.reads ∙ posted-all input r.reads.bytes same)
+
+  all-input : PostsAll input out o
+  all-input = all-of e.failed refl
+
+pub posts-all : (known left held holds : Option (List ℕ)) (ws buf out₀ out : List ℕ) (e : End) (o : Output)
+    → (e.failed ≡ false → ReadsFrom Nothing known left held holds ws buf e) → TableWritten e ws out₀ out o → IfSome known (λ input. PostsAll input out o)
+posts-all None left held holds ws buf out₀ out e o x w = tt
+posts-all (Some input) left held holds ws buf out₀ out e o x w = all-input input left held holds ws buf out₀ out e o x w

@@ -1,4 +1,5 @@
--- What program `posted` writes at the end of its input. No contract can say which bytes come: the claim is of some. Assumes nothing.
+-- What program `posted` writes at the end of its input. The claim is of the bytes that came; where it is known which bytes a reader has, it is of those.
+-- Assumes nothing.
 use Rattle.std.specs.Prelude.{ℕ, ◌≤◌, ◌≡◌, Bool, cond, List, [], pos, length, take}
 use Rattle.fields.specs.Put.{put}
 use Rattle.ledger.specs.Books.{book}
@@ -33,3 +34,9 @@ pub record Posts (out : List ℕ) (o : Output) : Type 0 where
   pub size : o.length ≡ length (cond failed [] (posted_of bytes))
   pub within : o.length ≤ length out
   pub claimed : Claimed bytes
+
+-- of all bytes that a reader had: a read failed and nothing is written; or their posted table is written, and of these bytes the claim holds
+pub record PostsAll (input out : List ℕ) (o : Output) : Type 0 where
+  pub failed : Bool
+  pub table : take o.length out ≡ cond failed [] (posted_of input)
+  pub claimed : Claimed input

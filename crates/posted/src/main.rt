@@ -1,11 +1,11 @@
 // Reads a journal on standard input and writes its posted table.
 #![tactic(auto)]
 
-ghost use Rattle.std.specs.Prelude.{◌≡◌, true, false, length};
+ghost use Rattle.std.specs.Prelude.{◌≡◌, true, false, length, IfSome};
 ghost use Rattle.ledger.specs.Sound.{sound_ledger};
 ghost use Rattle.words.specs.Layout.{ledger_size, ledger_of};
 ghost use Rattle.table.specs.Table.{table_room};
-ghost use Rattle.posted.specs.Posting.{to_print, TableWritten, Posts};
+ghost use Rattle.posted.specs.Posting.{to_print, TableWritten, Posts, PostsAll};
 ghost use Rattle.streams.specs.Ends.{piece_size};
 
 use entries::run;
@@ -48,7 +48,8 @@ fn post_input<R: Read, O: Write, E: Write>(
     out: &mut [u8],
 ) -> Output
     requires { (length ws.old ≡ ledger_size) × (length buf.old ≡ piece_size) × (length out.old ≡ table_room) }
-    ensures { Posts out.new result }
+    ensures posts { Posts out.new result }
+    ensures all { IfSome (R.remaining reader.old) (λ input. PostsAll input out.new result) }
 {
     run::start(ws);
     let e = replay::read_all(reader, output, error, ws, buf, out, Wanted::Nothing);

@@ -6,6 +6,10 @@ use mathlib.Core.List.{List}
 use native.Mathlib.Omega.{arith}
 use lib.ListN.{length, take, drop}
 use lib.Seq.{length-take-le, take-add, drop_at}
+use Rattle.std.proofs.Common.{Option, subst}
+use Rattle.std.proofs.KnownBytes.{Consumes-nil}
+use Rattle.std.proofs.lemmas.List.{drop-take as drop-take-of}
+use Rattle.std.specs.Io.KnownBytes.{Consumes}
 use Rattle.fields.specs.Put.{part, put}
 use Rattle.fields.proofs.PutLaws.{length_part, front-put}
 use Rattle.entries.specs.declared.run.Ran.{Ran}
@@ -26,6 +30,12 @@ holds_more have full room (filled-as.Failed x) e h = tt
 pub fills-more : (have : ℕ) (full : Bool) (before after : List ℕ) (r : filled.Filled) → full ≡ false → Fills have before after r
     → FillsMore have full before after r
 fills-more have full before after r e f = record { stay = f.stay; holds = holds_more have full (length after) r e f.holds }
+
+-- where nothing is read the bytes held stay, and the reader keeps its own
+pub none_more : (have : ℕ) (xs : List ℕ) (a : Option (List ℕ)) → Consumes a a (drop have (take have xs))
+none_more have xs a =
+    let e : have ≡ have + 0 = omega arith in
+    subst (Consumes a a) (sym (ap (λ (i : ℕ). drop have (take i xs)) e ∙ drop-take-of have 0 xs)) (Consumes-nil a)
 
 -- ---- the bytes of the first n from m on, kept at the start
 module _ (xs : List ℕ) (m n : ℕ) (h : m ≤ n) (fits : n ≤ length xs) where

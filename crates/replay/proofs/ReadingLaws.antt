@@ -1,11 +1,16 @@
 -- A journal that comes in pieces is read whole. Assumes nothing.
-use Prim.Native.Nat.{ℕ, ◌+◌, ◌-◌, ◌≤◌}
+use Prim.Native.Nat.{ℕ, ◌+◌, ◌-◌, ◌≤◌, ◌<◌}
 use mathlib.Core.Path.{◌≡◌, refl, sym, ap, ap₂, subst, ◌∙◌}
 use mathlib.Core.Bool.{Bool, true, false, not, ◌||◌, true≢false}
 use mathlib.Core.List.{List, [], ◌++◌, append_assoc, append-nil}
 use native.Mathlib.Omega.{arith}
 use lib.ListN.{length, take, drop, length-append}
 use lib.Seq.{length-take-le, take-add}
+use Rattle.std.proofs.Common.{Option, pos}
+use Rattle.std.proofs.KnownBytes.{Consumes-nil, Consumes-trans, Consumes-kept, Appends-nil, Appends-trans}
+use Rattle.std.proofs.lemmas.List.{drop-take}
+use Rattle.std.specs.Io.KnownBytes.{Keeps, Consumes, Appends, IsAtEnd}
+use Rattle.fields.proofs.PutLaws.{front-put}
 use Rattle.fields.proofs.BoolLaws.{cases}
 use Rattle.ledger.specs.declared.Ledger.{Ledger}
 use Rattle.ledger.specs.Books.{Book, book}
@@ -25,15 +30,18 @@ use Rattle.trace_lines.specs.Trace.{trace_lines}
 use Rattle.tracing.proofs.RunLines.{lines-append}
 use Rattle.input.specs.declared.Filled as filled
 use Rattle.input.specs.declared.Filled.TheVariants.{Ended}
-use Rattle.input.specs.Filled.{not_ended}
+use Rattle.input.specs.Filled.{Comes, not_ended}
 use Rattle.input.proofs.FilledLaws.{ended}
 use Rattle.replay.specs.declared.Wanted.{Wanted}
 use Rattle.replay.specs.declared.Wanted.TheVariants.{Nothing, Notices, Lines}
 use Rattle.streams.specs.declared.pieces.End.{End}
 use Rattle.streams.specs.declared.pieces.Piece.{Piece}
-use Rattle.replay.specs.Reading.{written_of, Reads}
+use Rattle.replay.specs.Reading.{written_of, ReadsFrom}
 use Rattle.replay.specs.parts.Pieces.{Waits, PieceLeaves}
-use Rattle.streams.specs.Ends.{end_of_input, end_of_piece}
+use Rattle.replay.proofs.WholeLaws.{waits-short}
+use Rattle.streams.specs.Ends.{piece_output, end_of_input, end_of_piece}
+use Rattle.streams.specs.Written.{Sends}
+use Rattle.streams.specs.declared.output.Output.{Output}
 
 -- ---- entries behind entries
 behind-behind : (es fs : List Entry) (p : Parsed) → behind es (behind fs p) ≡ behind (es ++ fs) p
@@ -59,7 +67,7 @@ parse-on s t es e ys =
 
 -- ---- the reading so far
 -- some bytes came in pieces: they parse as the entries that were made, behind which the bytes held are parsed
-pub record Reading (t : Wanted) (ws buf : List ℕ) (seen have total : ℕ) : Type 0 where
+pub record Reading (t : Wanted) (had left held holds : Option (List ℕ)) (ws buf : List ℕ) (seen have total : ℕ) : Type 0 where
   pub bytes : List ℕ
   pub done : List Entry
   pub sound : sound_ledger (layout.ledger_of ws) ≡ true
@@ -69,6 +77,9 @@ pub record Reading (t : Wanted) (ws buf : List ℕ) (seen have total : ℕ) : Ty
   pub books : book (layout.ledger_of ws) ≡ after_entries first_book done
   pub count : seen ≡ length done
   pub size : total ≡ length (written_of t 0 first_book done)
+  -- of the bytes that the reader had and of those that the writer holds, where they are known
+  pub came : Consumes had left bytes
+  pub wrote : Appends held holds (written_of t 0 first_book done)
 
 first-sound : sound_ledger first_ledger ≡ true
 unfolding fresh_causes start_tests is_date month_days
@@ -77,15 +88,16 @@ first-sound = fresh-sound (record { today = record { 0 = 19000101 }; tracking = 
 first-book : book first_ledger ≡ first_book
 first-book = refl
 
-none_written : (t : Wanted) → 0 ≡ length (written_of t 0 first_book [])
+none_written : (t : Wanted) → [] ≡ written_of t 0 first_book []
 unfolding notices_of trace_lines
 none_written Nothing = refl
 none_written Notices = refl
 none_written Lines = refl
 
-pub reading-start : (t : Wanted) (ws buf : List ℕ) → layout.ledger_of ws ≡ first_ledger → Reading t ws buf 0 0 0
+pub reading-start : (t : Wanted) (had held : Option (List ℕ)) (ws buf : List ℕ) → layout.ledger_of ws ≡ first_ledger
+    → Reading t had had held held ws buf 0 0 0
 unfolding ledger_after_entries after_entries notices_of
-reading-start t ws buf e =
+reading-start t had held ws buf e =
     record {
       bytes = [];
       done = [];
@@ -95,7 +107,9 @@ reading-start t ws buf e =
       ledger = e;
       books = ap book e ∙ first-book;
       count = refl;
-      size = none_written t;
+      size = ap length (none_written t);
+      came = Consumes-nil had;
+      wrote = subst (Appends held held) (none_written t) (Appends-nil held);
     }
 
 pub waits_start : (buf : List ℕ) → Waits 0 (take 0 buf) false
@@ -103,9 +117,10 @@ unfolding parse parse_up_to
 waits_start buf = refl
 
 -- the bytes held stay in the buffer
-pub reading-kept : (t : Wanted) (ws buf after : List ℕ) (seen have total : ℕ) → Reading t ws buf seen have total → take have after ≡ take have buf
-    → length after ≡ length buf → Reading t ws after seen have total
-reading-kept t ws buf after seen have total x e n =
+pub reading-kept : (t : Wanted) (had left held holds : Option (List ℕ)) (ws buf after : List ℕ) (seen have total : ℕ)
+    → Reading t had left held holds ws buf seen have total → take have after ≡ take have buf → length after ≡ length buf
+    → Reading t had left held holds ws after seen have total
+reading-kept t had left held holds ws buf after seen have total x e n =
     record {
       bytes = x.bytes;
       done = x.done;
@@ -116,21 +131,46 @@ reading-kept t ws buf after seen have total x e n =
       books = x.books;
       count = x.count;
       size = x.size;
+      came = x.came;
+      wrote = x.wrote;
     }
 
 written-append : (t : Wanted) (k : Book) (es fs : List Entry)
-    → length (written_of t 0 k (es ++ fs)) ≡ length (written_of t 0 k es) + length (written_of t (length es) (after_entries k es) fs)
+    → written_of t 0 k (es ++ fs) ≡ written_of t 0 k es ++ written_of t (length es) (after_entries k es) fs
 written-append Nothing k es fs = refl
-written-append Notices k es fs = ap length (notices-append k es fs) ∙ length-append (notices_of k es) (notices_of (after_entries k es) fs)
+written-append Notices k es fs = notices-append k es fs
 written-append Lines k es fs =
     let i : 1 + length es ≡ length es + 1 = omega arith in
-    ap length (lines-append 1 k es fs)
-    ∙ length-append (trace_lines 1 k es) (trace_lines (1 + length es) (after_entries k es) fs)
-    ∙ ap (λ (n : ℕ). length (trace_lines 1 k es) + length (trace_lines n (after_entries k es) fs)) i
+    lines-append 1 k es fs ∙ ap (λ (n : ℕ). trace_lines 1 k es ++ trace_lines n (after_entries k es) fs) i
+
+-- a reader that took no byte
+reading-left : (t : Wanted) (had left left₁ held holds : Option (List ℕ)) (ws buf : List ℕ) (seen have total : ℕ)
+    → Reading t had left held holds ws buf seen have total → Keeps left left₁ → Reading t had left₁ held holds ws buf seen have total
+reading-left t had left left₁ held holds ws buf seen have total x k =
+    record {
+      bytes = x.bytes;
+      done = x.done;
+      sound = x.sound;
+      within = x.within;
+      parsed = x.parsed;
+      ledger = x.ledger;
+      books = x.books;
+      count = x.count;
+      size = x.size;
+      came = Consumes-kept had left left₁ x.bytes x.came k;
+      wrote = x.wrote;
+    }
 
 -- ---- one piece more
-module _ (t : Wanted) (ws buf : List ℕ) (seen have total : ℕ) (x : Reading t ws buf seen have total) (n : ℕ) (h : have ≤ n)
-    (out₀ ws₁ buf₁ out₁ : List ℕ) (p : Piece) (m : PieceLeaves seen t n ws buf out₀ ws₁ buf₁ out₁ p) where
+drop-more : (xs : List ℕ) (m n : ℕ) → m ≤ n → drop m (take n xs) ≡ take (n - m) (drop m xs)
+drop-more xs m n h =
+    let e : n ≡ m + (n - m) = omega arith in
+    ap (λ (i : ℕ). drop m (take i xs)) e ∙ drop-take m (n - m) xs
+
+module _ (t : Wanted) (had left held holds : Option (List ℕ)) (ws buf : List ℕ) (seen have total : ℕ)
+    (x : Reading t had left held holds ws buf seen have total) (n : ℕ) (h : have ≤ n) (out₀ ws₁ buf₁ out₁ : List ℕ) (p : Piece)
+    (m : PieceLeaves seen t n ws buf out₀ ws₁ buf₁ out₁ p) (left₁ holds₁ : Option (List ℕ)) (c : Consumes left left₁ (drop have (take n buf)))
+    (w : Appends holds holds₁ (take p.written out₁)) where
   abbrev more : List ℕ
   more = take (n - have) (drop have buf)
 
@@ -146,13 +186,32 @@ module _ (t : Wanted) (ws buf : List ℕ) (seen have total : ℕ) (x : Reading t
       ∙ ap (behind x.done) m.parsed
       ∙ behind-behind x.done m.done (parse p.seen (take p.left buf₁))
 
+  -- what is asked for of the piece
+  abbrev piece : List ℕ
+  piece = written_of t (length x.done) (after_entries first_book x.done) m.done
+
+  piece-is : written_of t seen (book (layout.ledger_of ws)) m.done ≡ piece
+  piece-is = ap₂ (λ (i : ℕ) (k : Book). written_of t i k m.done) x.count x.books
+
+  all-written : written_of t 0 first_book all ≡ written_of t 0 first_book x.done ++ piece
+  all-written = written-append t first_book x.done m.done
+
   size-more : total + p.written ≡ length (written_of t 0 first_book all)
   size-more =
-      let e = written-append t first_book x.done m.done in
-      let w = m.written ∙ ap₂ (λ (i : ℕ) (k : Book). length (written_of t i k m.done)) x.count x.books in
-      omega (arith, e, x.size, w)
+      let e = ap length all-written ∙ length-append (written_of t 0 first_book x.done) piece in
+      let s = m.written ∙ ap length piece-is in
+      omega (arith, e, x.size, s)
 
-  pub reading-more : Reading t ws₁ buf₁ p.seen p.left (total + p.written)
+  came-more : Consumes had left₁ (x.bytes ++ more)
+  came-more = Consumes-trans had left left₁ x.bytes more x.came (subst (Consumes left left₁) (drop-more buf have n h) c)
+
+  wrote-more : Appends held holds₁ (written_of t 0 first_book all)
+  wrote-more =
+      let e = ap (take p.written) m.bytes ∙ front-put out₀ (written_of t seen (book (layout.ledger_of ws)) m.done) p.written m.written ∙ piece-is in
+      let both = Appends-trans held holds holds₁ (written_of t 0 first_book x.done) piece x.wrote (subst (Appends holds holds₁) e w) in
+      subst (Appends held holds₁) (sym all-written) both
+
+  pub reading-more : Reading t had left₁ held holds₁ ws₁ buf₁ p.seen p.left (total + p.written)
   reading-more =
       record {
         bytes = x.bytes ++ more;
@@ -164,50 +223,72 @@ module _ (t : Wanted) (ws buf : List ℕ) (seen have total : ℕ) (x : Reading t
         books = m.books ∙ ap (λ (k : Book). after_entries k m.done) x.books ∙ sym (makes-append first_book x.done m.done);
         count = omega (arith, m.count, x.count, length-append x.done m.done);
         size = size-more;
+        came = came-more;
+        wrote = wrote-more;
       }
 
 -- ---- the end
 -- where no entry stands whole in the bytes held the reading has come to its end
-pub reading-ended : (t : Wanted) (ws buf : List ℕ) (seen have total : ℕ) (stopped failed : Bool) → Reading t ws buf seen have total
-    → Waits seen (take have buf) stopped
-    → Reads t ws buf (record { seen = seen; stopped = stopped; left = have; total = total; failed = failed })
+pub reading-ended : (t : Wanted) (had left held holds : Option (List ℕ)) (ws buf : List ℕ) (seen have total : ℕ) (stopped failed : Bool)
+    → Reading t had left held holds ws buf seen have total → Waits seen (take have buf) stopped → (stopped ≡ false → IsAtEnd left)
+    → ReadsFrom t had left held holds ws buf (record { seen = seen; stopped = stopped; left = have; total = total; failed = failed })
 unfolding journal_ledger is_bad
-reading-ended t ws buf seen have total stopped failed x w =
+reading-ended t had left held holds ws buf seen have total stopped failed x w none =
     let e = x.parsed ∙ ap (behind x.done) w in
     let entries : (parse 0 x.bytes).entries ≡ x.done = ap (λ (p : Parsed). p.entries) e ∙ append-nil x.done in
     let bad : stopped ≡ (parse 0 x.bytes).stopped = sym (ap (λ (p : Parsed). p.stopped) e) in
     let rest : take have buf ≡ (parse 0 x.bytes).rest = sym (ap (λ (p : Parsed). p.rest) e) in
     let count : seen ≡ length (parse 0 x.bytes).entries = x.count ∙ sym (ap length entries) in
-    let left : have ≡ length (parse 0 x.bytes).rest = sym (length-take-le have buf x.within) ∙ ap length rest in
+    let size : have ≡ length (parse 0 x.bytes).rest = sym (length-take-le have buf x.within) ∙ ap length rest in
     record {
-      bytes = x.bytes;
-      sound = x.sound;
-      ledger = x.ledger ∙ sym (ap (ledger_after_entries first_ledger) entries);
-      books = x.books ∙ sym (ap (after_entries first_book) entries);
-      seen = count;
-      stopped = bad;
-      rest = rest;
-      within = x.within;
-      bad = rw (bad, left, count);
-      total = x.size ∙ sym (ap (λ (es : List Entry). length (written_of t 0 first_book es)) entries);
+      reads = record {
+        bytes = x.bytes;
+        sound = x.sound;
+        ledger = x.ledger ∙ sym (ap (ledger_after_entries first_ledger) entries);
+        books = x.books ∙ sym (ap (after_entries first_book) entries);
+        seen = count;
+        stopped = bad;
+        rest = rest;
+        within = x.within;
+        bad = rw (bad, size, count);
+        total = x.size ∙ sym (ap (λ (es : List Entry). length (written_of t 0 first_book es)) entries);
+      };
+      came = x.came;
+      ended = none;
+      written = subst (λ (es : List Entry). Appends held holds (written_of t 0 first_book es)) (sym entries) x.wrote;
     }
 
 -- the input has ended
-pub input-ended : (t : Wanted) (ws buf : List ℕ) (seen have total : ℕ) (f : filled.Filled) (e : End) → e ≡ end_of_input f seen have total
-    → Reading t ws buf seen have total → (f ≡ Ended → Waits seen (take have buf) false) → e.failed ≡ false → Reads t ws buf e
-input-ended t ws buf seen have total f e q x w z =
+pub input-ended : (t : Wanted) (had left left₁ held holds : Option (List ℕ)) (ws buf : List ℕ) (seen have total : ℕ) (f : filled.Filled) (e : End)
+    → e ≡ end_of_input f seen have total → Reading t had left held holds ws buf seen have total → length buf ≡ 262144 → Comes have buf left left₁ f
+    → (f ≡ Ended → Waits seen (take have buf) false) → e.failed ≡ false → ReadsFrom t had left₁ held holds ws buf e
+input-ended t had left left₁ held holds ws buf seen have total f e q x room c w z =
     let none = ended f (sym (ap (λ (k : End). k.failed) q) ∙ z) in
-    subst (Reads t ws buf) (sym q) (reading-ended t ws buf seen have total false (not_ended f) x (w none))
+    let end = subst (Comes have buf left left₁) none c in
+    let fits : have < length buf = omega (arith, room, length-take-le have buf x.within, waits-short seen (take have buf) (w none)) in
+    let read = reading-left t had left left₁ held holds ws buf seen have total x end.0 in
+    subst (ReadsFrom t had left₁ held holds ws buf) (sym q)
+    (reading-ended t had left₁ held holds ws buf seen have total false (not_ended f) read (w none) (λ _. end.1 fits))
 
-stopped_by : (a b : Bool) → (not a || b) ≡ true → not a ≡ false → b ≡ true
-stopped_by true b h z = h
+stopped_by : (a b : Bool) → (not a || b) ≡ true → not a ≡ false → (a ≡ true) × (b ≡ true)
+stopped_by true b h z = (refl, h)
 stopped_by false b h z = absurd (true≢false z)
 
 -- a bad entry has stopped it
-pub piece-ended : (t : Wanted) (ws buf : List ℕ) (total : ℕ) (p : Piece) (written : Bool) (e : End) → e ≡ end_of_piece p total written
-    → Reading t ws buf p.seen p.left total → (p.full ≡ false → Waits p.seen (take p.left buf) p.stopped)
-    → (p.full ≡ true → p.stopped ≡ false) → (not written || p.stopped) ≡ true → e.failed ≡ false → Reads t ws buf e
-piece-ended t ws buf total p written e q x w goes h z =
+pub piece-ended : (t : Wanted) (had left held holds : Option (List ℕ)) (ws buf : List ℕ) (total : ℕ) (p : Piece) (written : Bool) (e : End)
+    → e ≡ end_of_piece p total written → (written ≡ true → Reading t had left held holds ws buf p.seen p.left total)
+    → (p.full ≡ false → Waits p.seen (take p.left buf) p.stopped) → (p.full ≡ true → p.stopped ≡ false) → (not written || p.stopped) ≡ true
+    → e.failed ≡ false → ReadsFrom t had left held holds ws buf e
+piece-ended t had left held holds ws buf total p written e q x w goes h z =
     let s = stopped_by written p.stopped h (sym (ap (λ (k : End). k.failed) q) ∙ z) in
-    let o = cases p.full (λ y. absurd (true≢false (sym s ∙ goes y))) (λ y. y) in
-    subst (Reads t ws buf) (sym q) (reading-ended t ws buf p.seen p.left total p.stopped (not written) x (w o))
+    let o = cases p.full (λ y. absurd (true≢false (sym s.1 ∙ goes y))) (λ y. y) in
+    subst (ReadsFrom t had left held holds ws buf) (sym q)
+    (reading-ended t had left held holds ws buf p.seen p.left total p.stopped (not written) (x s.0) (w o) (λ y. absurd (true≢false (sym s.1 ∙ y))))
+
+-- what of a piece was sent to standard output
+pub sent : (o : Output) (p : Piece) (out : List ℕ) (all : Bool) (a b : Option (List ℕ)) → o ≡ piece_output p
+    → (o.descriptor ≡ pos 1 → Sends all (take o.length out) a b) → all ≡ true → Appends a b (take p.written out)
+sent o p out all a b e s w =
+    let first = s (ap (λ (k : Output). k.descriptor) e) in
+    let whole : Appends a b (take o.length out) = subst (λ (k : Bool). Sends k (take o.length out) a b) w first in
+    subst (λ (n : ℕ). Appends a b (take n out)) (ap (λ (k : Output). k.length) e) whole

@@ -1,5 +1,7 @@
--- What comes of a journal that is read in pieces. No contract can say which bytes come: the claim is of some. Assumes nothing.
-use Rattle.std.specs.Prelude.{ℕ, ◌+◌, ◌≤◌, ◌≡◌, true, List, [], length, take}
+-- What comes of a journal that is read in pieces. The claim is of the bytes that came; where it is known which bytes a reader has, they are its first ones.
+-- Assumes nothing.
+use Rattle.std.specs.Prelude.{ℕ, ◌+◌, ◌≤◌, ◌≡◌, true, false, List, [], Option, length, take}
+use Rattle.std.specs.Io.KnownBytes.{Consumes, Appends, IsAtEnd}
 use Rattle.ledger.specs.Books.{Book, book}
 use Rattle.ledger.specs.Sound.{sound_ledger}
 use Rattle.words.specs.Layout as layout
@@ -31,3 +33,12 @@ pub record Reads (t : Wanted) (ws buf : List ℕ) (e : End) : Type 0 where
   pub within : e.left ≤ length buf
   pub bad : ends_bad e.stopped e.left e.seen ≡ is_bad bytes
   pub total : e.total ≡ length (written_of t 0 first_book (parse 0 bytes).entries)
+
+-- the same of the bytes that a reader had left before and has after, and of those that a writer held before and holds after, where they are known: the bytes
+-- that came are the reader's first ones, and what is asked for of their entries stands behind what the writer held. Where no bad entry stopped the reading none
+-- is left.
+pub record ReadsFrom (t : Wanted) (had left held holds : Option (List ℕ)) (ws buf : List ℕ) (e : End) : Type 0 where
+  pub reads : Reads t ws buf e
+  pub came : Consumes had left reads.bytes
+  pub ended : e.stopped ≡ false → IsAtEnd left
+  pub written : Appends held holds (written_of t 0 first_book (parse 0 reads.bytes).entries)

@@ -5,9 +5,10 @@
 ghost use Rattle.std.specs.Prelude.{◌≡◌, true, false, ◌≤◌, length};
 ghost use Rattle.ledger.specs.Sound.{sound_ledger};
 ghost use Rattle.words.specs.Layout.{ledger_of};
+ghost use Rattle.input.specs.Filled.{Comes};
 ghost use Rattle.journal.specs.EntryCalls.{first_ledger};
 ghost use Rattle.replay.specs.declared.Wanted.TheVariants.{Lines};
-ghost use Rattle.replay.specs.Reading.{Reads};
+ghost use Rattle.replay.specs.Reading.{Reads, ReadsFrom};
 ghost use Rattle.replay.specs.parts.Pieces.{PieceRuns, FillsMore, PieceLeaves};
 ghost use Rattle.streams.specs.Ends.{piece_size};
 
@@ -31,7 +32,8 @@ pub enum Wanted {
 // Reads on where all entries that were read are made.
 fn more<R: Read>(reader: &mut R, buf: &mut [u8], have: usize, full: bool) -> Filled
     requires { have ≤ length buf.old }
-    ensures { FillsMore have full buf.old buf.new result }
+    ensures held { FillsMore have full buf.old buf.new result }
+    ensures bytes { Comes have buf.new (R.remaining reader.old) (R.remaining reader.new) result }
 {
     if full {
         return Filled::Bytes(have);
@@ -97,7 +99,9 @@ pub fn read_all<R: Read, O: Write, E: Write>(
     wanted: Wanted,
 ) -> End
     requires { (ledger_of ws.old ≡ first_ledger) × (length buf.old ≡ piece_size) × (length out.old ≤ piece_size) }
-    ensures { result.failed ≡ false → Reads wanted ws.new buf.new result }
+    ensures reads { result.failed ≡ false → Reads wanted ws.new buf.new result }
+    ensures bytes { result.failed ≡ false → ReadsFrom wanted (R.remaining reader.old) (R.remaining reader.new)
+        (O.contents output.old) (O.contents output.new) ws.new buf.new result }
 {
     let mut seen = 0;
     let mut left = 0;

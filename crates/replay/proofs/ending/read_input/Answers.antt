@@ -4,4 +4,4 @@ use Rattle.replay.proofs.ending.read_input.Goals as goal
 
 pub returns : goal.returns
 returns g c =
-    line-written _ _ _ _ _ _ _ c.read_all-e.ensures c.stop_line.ensures
+    line-written _ _ _ _ _ _ _ c.read_all-e.ensures.reads c.stop_line.ensures
