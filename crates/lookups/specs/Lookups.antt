@@ -46,7 +46,7 @@ is_due_before account today b o = is_open_of account today o && ltb (due o) (due
 abbrev pub is_earliest : ℕ → Date → List Bill → Bill → Bool
 is_earliest account today bs b = is_open_of account today b && not (has (is_due_before account today b) bs)
 
--- the cause's number, else the place that was found; that one is found where there is no cause is a theorem (`None-found`, proofs/EarliestLaws)
+-- the cause's number, else the place that was found; that one is found where there is no cause is a theorem (`none_found`, proofs/EarliestLaws)
 abbrev pub place_by : Check → Found → Place
 place_by (Stop n) f = place.Refused n
 place_by Clear (At p) = place.At p

@@ -1,7 +1,7 @@
 // What the rules are stated with: specs/ has rule lists, and tests, sums and searches over a list.
-// No condition is true, or the code of the first that is.
 #![tactic(auto)]
 
+// No condition is true, or the code of the first that is.
 #[derive(Clone, Copy)]
 pub enum Check {
     Clear,
