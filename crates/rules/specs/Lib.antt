@@ -2,3 +2,4 @@
 pub mod Rules
 pub mod Lists
 pub mod Least
+pub mod Numbers

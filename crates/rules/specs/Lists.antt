@@ -1,7 +1,5 @@
 -- Tests, sums and searches over a list. Assumes nothing.
-use Rattle.std.specs.Prelude.{ℕ, suc, ◌+◌, Bool, true, false, cond, ◌&&◌, ◌||◌, List, [], ◌∷◌}
-use Rattle.rules.specs.declared.Found.{Found}
-use Rattle.rules.specs.declared.Found.TheVariants.{At, Nothing}
+use Rattle.std.specs.Prelude.{ℕ, suc, ◌+◌, Bool, true, false, cond, ◌&&◌, ◌||◌, List, [], ◌∷◌, Option, Some, None}
 
 -- all of these are true
 abbrev pub all : List Bool → Bool
@@ -30,9 +28,9 @@ module _ {A : Type 0} where
   sum f (x ∷ xs) = f x + sum f xs
 
   -- the place of the first element that passes the test, counted from n
-  abbrev pub find : (A → Bool) → ℕ → List A → Found
-  find p n [] = Nothing
-  find p n (x ∷ xs) = cond (p x) (At n) (find p (suc n) xs)
+  abbrev pub find : (A → Bool) → ℕ → List A → Option ℕ
+  find p n [] = None
+  find p n (x ∷ xs) = cond (p x) (Some n) (find p (suc n) xs)
 
   -- the list with f applied to the first element that passes the test
   abbrev pub update : (A → Bool) → (A → A) → List A → List A

@@ -1,16 +1,76 @@
-// What the rules are stated with: specs/ has rule lists, and tests, sums and searches over a list.
+// What the rules are stated with: why a call is refused and a group rejected, under the documents' numbers; specs/ has rule lists, and tests, sums and
+// searches over a list.
 #![tactic(auto)]
 
-// No condition is true, or the code of the first that is.
-#[derive(Clone, Copy)]
-pub enum Check {
-    Clear,
-    Stop(u64),
+ghost use Rattle.std.specs.Prelude.{◌≡◌};
+ghost use Rattle.rules.specs.Numbers.{cause_number, code_number};
+
+// Why a call is refused: documents 01 and 02 give each cause its number.
+#[derive(Clone, Copy, Debug, PartialEq, Eq)]
+pub enum Cause {
+    OutputTooSmall = 1,
+    BadArgument = 2,
+    LedgerFull = 3,
+    NoSuchBill = 4,
+    BillCancelled = 5,
+    OtherCodeOrProduct = 6,
+    ConsumptionUnchanged = 7,
+    SequenceUsedUp = 8,
+    ScheduledBeforeToday = 9,
+    NotAfterToday = 10,
+    BadFile = 11,
+    TooFewNumbers = 12,
+    BadEntry = 13,
+    BadHolidays = 14,
+    NoSuchDay = 15,
 }
 
-// The place in a list of what was looked for, from 0.
-#[derive(Clone, Copy)]
-pub enum Found {
-    At(usize),
-    Nothing,
+impl Cause {
+    // Its number.
+    pub fn number(self) -> u64
+        ensures { result ≡ cause_number self }
+    {
+        self as u64
+    }
+}
+
+// Why a group is rejected: the error code of its REJ, whose number stands behind BR.
+#[derive(Clone, Copy, Debug, PartialEq, Eq)]
+pub enum ErrorCode {
+    Br01 = 1,
+    Br05 = 5,
+    Br06 = 6,
+    Br07 = 7,
+    Br08 = 8,
+    Br09 = 9,
+    Br10 = 10,
+    Br11 = 11,
+    Br12 = 12,
+    Br13 = 13,
+    Br14 = 14,
+    Br16 = 16,
+    Br17 = 17,
+    Br19 = 19,
+    Br20 = 20,
+    Br21 = 21,
+    Br22 = 22,
+    Br23 = 23,
+    Br24 = 24,
+    Br25 = 25,
+    Br26 = 26,
+}
+
+impl ErrorCode {
+    // Its number.
+    pub fn number(self) -> u64
+        ensures { result ≡ code_number self }
+    {
+        self as u64
+    }
+}
+
+fn try_it(n: u64) -> Result<(), Cause>
+    ensures { result ≡ Ok tt }
+{
+    Ok(())
 }
