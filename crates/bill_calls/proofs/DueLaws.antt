@@ -6,8 +6,6 @@ use mathlib.Core.List.{List}
 use lib.ListN.{length}
 use Rattle.fields.specs.Put.{put}
 use Rattle.units.specs.declared.Date.{Date}
-use Rattle.calendar.specs.declared.Day.{Day}
-use Rattle.calendar.specs.declared.Day.TheVariants as days
 use Rattle.calendar.specs.BusinessDays.{business_day, day_by}
 use Rattle.ledger.specs.declared.Ledger.{Ledger}
 use Rattle.ledger.specs.Sound.{sound_ledger}
@@ -17,19 +15,20 @@ use Rattle.causes.specs.declared.CalendarRequest.{CalendarRequest}
 use Rattle.causes.specs.Causes.{Call, request, calendar, on_date, schedule_causes}
 use Rattle.causes.proofs.CalendarLaws.{due-on, due-refused}
 use Rattle.calls.specs.declared.Called.{Called}
-use Rattle.calls.specs.declared.Answer.TheVariants.{Refused}
 use Rattle.calls.specs.Machine.{Outcome, step_in, called}
 use Rattle.calls.proofs.CallLaws.{stopped, stopped-called}
 use Rattle.calls.proofs.CalendarCalls.{dated-called, dated-step, undated-cause}
+use Rattle.std.specs.Prelude.{Result, Ok, Err}
+use Rattle.rules.specs.declared.Cause.{Cause}
 
 -- what a call by value gives back and writes
 abbrev Gave : Ledger → Call → List ℕ → Called → List ℕ → Type 0
 Gave l c out k out₁ = (k ≡ called l c) × (out₁ ≡ put out 0 (step_in l c).written)
 
-module _ (l : Ledger) (q : CalendarRequest) (hs out : List ℕ) (day : Day)
+module _ (l : Ledger) (q : CalendarRequest) (hs out : List ℕ) (day : Result Date Cause)
     (e : day ≡ day_by (business_day hs l.today.0 q.number) (first (schedule_causes q hs l.today))) where
   -- the request with that date does what the request by calendar does
-  pub called_on : (d : Date) → day ≡ days.On d → (r : Request) → r ≡ on_date q.request d → (k : Called) (out₁ : List ℕ)
+  pub called_on : (d : Date) → day ≡ Ok d → (r : Request) → r ≡ on_date q.request d → (k : Called) (out₁ : List ℕ)
       → Gave l (request r (length out)) out k out₁ → Gave l (calendar q hs (length out)) out k out₁
   called_on d f r g k out₁ x =
       let o = due-on q hs l.today day e d f in
@@ -40,7 +39,7 @@ module _ (l : Ledger) (q : CalendarRequest) (hs out : List ℕ) (day : Day)
       )
 
   -- without a date it is refused
-  pub refused-day : (n : ℕ) → day ≡ days.Refused n → sound_ledger l ≡ true
-      → Gave l (calendar q hs (length out)) out (record { ledger = l; answer = Refused n }) out
+  pub refused-day : (n : Cause) → day ≡ Err n → sound_ledger l ≡ true
+      → Gave l (calendar q hs (length out)) out (record { ledger = l; answer = Err n }) out
   refused-day n f h =
       stopped-called (stopped l (calendar q hs (length out)) n (undated-cause l q hs (length out) n h (due-refused q hs l.today day e n f))) out

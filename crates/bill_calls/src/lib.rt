@@ -1,27 +1,25 @@
 // The calls request, by calendar too, and cancel on a ledger by value: the bill found, the call decided on small values, and what that leaves stored.
 #![tactic(auto)]
 
-ghost use Rattle.std.specs.Prelude.{◌≡◌, length};
+ghost use Rattle.std.specs.Prelude.{◌≡◌, length, Err};
 ghost use Rattle.fields.specs.Put.{put};
 ghost use Rattle.causes.specs.Causes.{request, calendar, cancel};
 ghost use Rattle.causes.specs.parts.Decisions.{as_call};
-ghost use Rattle.calls.specs.declared.Answer.TheVariants.{Refused};
 ghost use Rattle.calls.specs.Machine.{step_in, called};
 
-use calendar::Day;
-use calls::{Answer, Called, carried_out};
+use calls::{Called, carried_out};
 use causes::{BillCall, CalendarRequest, Request, by_calendar};
 use decisions::{notice, requests};
 use ledger::{Identity, Ledger};
-use rules::Check;
+use rules::Cause;
 
 // "Returned is the number alone": the ledger is as it was.
-fn refused(l: Ledger, n: u64) -> Called
-    ensures { result ≡ record { ledger = l; answer = Refused n } }
+fn refused(l: Ledger, cause: Cause) -> Called
+    ensures { result ≡ record { ledger = l; answer = Err cause } }
 {
     Called {
         ledger: l,
-        answer: Answer::Refused(n),
+        answer: Err(cause),
     }
 }
 
@@ -30,19 +28,18 @@ fn bill_call(l: Ledger, out: &mut [u8], c: BillCall) -> Called
     ensures { (result ≡ called l (as_call c (length out.old))) × (out.new ≡ put out.old 0 (step_in l (as_call c (length out.old))).written) }
 {
     if !sound_ledger::sound(l) {
-        return refused(l, 2);
+        return refused(l, Cause::BadArgument);
     }
     let s = groups::read_for(l, requests::call_identity(c));
     let h = s.header;
     let f = s.found;
     let b = s.bill;
-    let d = requests::decide(c, out.len(), h, f, b);
-    let check = d.check;
-    if let Check::Stop(n) = check {
-        return refused(l, n);
-    }
+    let decided = requests::decide(c, out.len(), h, f, b);
+    let u = match decided {
+        Ok(u) => u,
+        Err(cause) => return refused(l, cause),
+    };
     let change = requests::change_of(c, b);
-    let u = d.update;
     let k = u.bill;
     notice::put(out, true, c, h, f, b, k);
     let next = l.updated(s.place, u);
@@ -71,15 +68,15 @@ pub fn request_by_calendar(
 {
     let day = by_calendar::due_day(q, holidays, l.today);
     match day {
-        Day::On(d) => {
+        Ok(d) => {
             let r = by_calendar::on_date(q.request, d);
             request_bill(l, out, r)
         }
-        Day::Refused(n) => {
+        Err(cause) => {
             if !sound_ledger::sound(l) {
-                return refused(l, 2);
+                return refused(l, Cause::BadArgument);
             }
-            refused(l, n)
+            refused(l, cause)
         }
     }
 }

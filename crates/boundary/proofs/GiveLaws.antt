@@ -14,8 +14,6 @@ use Rattle.fields.proofs.PutLaws.{put-nil}
 use Rattle.ledger.specs.Sound.{sound_ledger}
 use Rattle.words.specs.Layout.{ledger_size, holds_ledger, ledger_words, ledger_of}
 use Rattle.words.proofs.WordLaws.{words-ledger, sound-holds}
-use Rattle.rules.specs.declared.Check.{Check}
-use Rattle.rules.specs.declared.Check.TheVariants.{Clear, Stop}
 use Rattle.units.specs.declared.Date.{Date}
 use Rattle.ledger.specs.declared.Identity.{Identity}
 use Rattle.causes.specs.declared.Request.{Request}
@@ -24,8 +22,6 @@ use Rattle.causes.specs.declared.Start.{Start}
 use Rattle.causes.specs.Causes.{Call, request, file, cancel, close, removal}
 use Rattle.calls.specs.declared.Called.{Called}
 use Rattle.calls.specs.declared.Returned.{Returned}
-use Rattle.calls.specs.declared.Answer.{Answer}
-use Rattle.calls.specs.declared.Answer.TheVariants.{Done, Refused}
 use Rattle.calls.specs.Machine.{cause_in, step_in, left_by, answer_by, called}
 use Rattle.calls.specs.Days.{fresh_called}
 use Rattle.calls.proofs.CallLaws.{Stopped, stopped, cause-unsound}
@@ -41,6 +37,9 @@ use Rattle.engine.specs.InWords.{words_left}
 use Rattle.engine.specs.parts.Calls.{CalledIn}
 use Rattle.entries.specs.parts.Stepping.{EntryCalledIn}
 use Rattle.boundary.specs.Boundary.{number_of, change_left, counts_left, Stores, Gives, fresh_in, entry_in, Leaves, head_called, head_written, head_found}
+use Rattle.std.specs.Prelude.{Result, Ok, Err, ⊤}
+use Rattle.rules.specs.declared.Cause.{Cause}
+use Rattle.rules.specs.declared.Cause.TheVariants.{BadArgument, BadEntry}
 
 -- ---- a call that is no fresh
 abbrev pub NoFresh : Body → Type 0
@@ -78,7 +77,7 @@ pub no-fresh-taken : (b : Body) → NoFresh b → Taken b
 no-fresh-taken = each Taken (λ r. tt) tt (λ id. tt) (λ d. tt) (λ a. tt) tt
 
 -- ---- "Returned is the number alone; ledger and output stay as they were."
-pub refused-leaves : (ws out : List ℕ) (n : ℕ) → Leaves (record { ledger = ledger_of ws; answer = Refused n }) [] ws out ws out (Refused n)
+pub refused-leaves : (ws out : List ℕ) (n : Cause) → Leaves (record { ledger = ledger_of ws; answer = Err n }) [] ws out ws out (Err n)
 refused-leaves ws out n = record { answer = refl; words = refl; ledger = refl; bytes = put-nil out 0 }
 
 -- ---- fresh
@@ -87,11 +86,11 @@ module _ (ws : List ℕ) (s : Start) where
   unfolding fresh_in
   fresh-long e = rw e
 
-  pub fresh-short : (out : List ℕ) → (length ws ≡ ledger_size → ⊥) → Leaves (fresh_in ws s) [] ws out ws out (Refused 2)
+  pub fresh-short : (out : List ℕ) → (length ws ≡ ledger_size → ⊥) → Leaves (fresh_in ws s) [] ws out ws out (Err BadArgument)
   unfolding fresh_in
-  fresh-short out e = rw (ne_eqb (length ws) ledger_size e) (refused-leaves ws out 2)
+  fresh-short out e = rw (ne_eqb (length ws) ledger_size e) (refused-leaves ws out BadArgument)
 
-  pub fresh-leaves : length ws ≡ ledger_size → (out ws₁ : List ℕ) (a : Answer) → ledger_of ws₁ ≡ (fresh_called (ledger_of ws) s).ledger
+  pub fresh-leaves : length ws ≡ ledger_size → (out ws₁ : List ℕ) (a : Result Returned Cause) → ledger_of ws₁ ≡ (fresh_called (ledger_of ws) s).ledger
       → a ≡ (fresh_called (ledger_of ws) s).answer
       → ws₁ ≡ words_left ws (fresh_called (ledger_of ws) s).ledger (fresh_called (ledger_of ws) s).answer
       → Leaves (fresh_in ws s) [] ws out ws₁ out a
@@ -101,9 +100,9 @@ module _ (ws : List ℕ) (s : Start) where
 -- ---- any other call
 module _ (room : ℕ) (ws out s : List ℕ) where
   pub stopped-leaves : (c : Call) → sound_ledger (ledger_of ws) ≡ false
-      → Leaves (called (ledger_of ws) c) (step_in (ledger_of ws) c).written ws out ws out (Refused 2)
+      → Leaves (called (ledger_of ws) c) (step_in (ledger_of ws) c).written ws out ws out (Err BadArgument)
   stopped-leaves c h =
-      let x : Stopped (ledger_of ws) c 2 = stopped (ledger_of ws) c 2 (cause-unsound (ledger_of ws) c h) in
+      let x : Stopped (ledger_of ws) c BadArgument = stopped (ledger_of ws) c BadArgument (cause-unsound (ledger_of ws) c h) in
       record {
         answer = x.answer;
         words = ap (words_left ws (called (ledger_of ws) c).ledger) x.answer;
@@ -112,36 +111,36 @@ module _ (room : ℕ) (ws out s : List ℕ) where
       }
 
   -- a close and a removal write nothing
-  quiet-written : (c : Call) (ys ws₁ out₁ : List ℕ) (a : Answer) → [] ≡ ys → Leaves (called (ledger_of ws) c) ys ws out ws₁ out₁ a
+  quiet-written : (c : Call) (ys ws₁ out₁ : List ℕ) (a : Result Returned Cause) → [] ≡ ys → Leaves (called (ledger_of ws) c) ys ws out ws₁ out₁ a
       → Leaves (called (ledger_of ws) c) [] ws out ws₁ out₁ a
   quiet-written c ys ws₁ out₁ a e x =
       record { answer = x.answer; words = x.words; ledger = x.ledger; bytes = x.bytes ∙ ap (put out 0) (sym e) }
 
-  quiet-refused : (c : Call) → sound_ledger (ledger_of ws) ≡ false → Leaves (called (ledger_of ws) c) [] ws out ws out (Refused 2)
+  quiet-refused : (c : Call) → sound_ledger (ledger_of ws) ≡ false → Leaves (called (ledger_of ws) c) [] ws out ws out (Err BadArgument)
   quiet-refused c h =
-      quiet-written c _ ws out (Refused 2) (stopped (ledger_of ws) c 2 (cause-unsound (ledger_of ws) c h)).bytes (stopped-leaves c h)
+      quiet-written c _ ws out (Err BadArgument) (stopped (ledger_of ws) c BadArgument (cause-unsound (ledger_of ws) c h)).bytes (stopped-leaves c h)
 
   -- words that hold no sound ledger
   pub unsound-leaves : (b : Body) → NoFresh b → sound_ledger (ledger_of ws) ≡ false
-      → Leaves (entry_in room ws b s) (entry_written room (ledger_of ws) b s) ws out ws out (Refused 2)
+      → Leaves (entry_in room ws b s) (entry_written room (ledger_of ws) b s) ws out ws out (Err BadArgument)
   unsound-leaves b n h =
-      each (λ (x : Body). Leaves (entry_in room ws x s) (entry_written room (ledger_of ws) x s) ws out ws out (Refused 2))
+      each (λ (x : Body). Leaves (entry_in room ws x s) (entry_written room (ledger_of ws) x s) ws out ws out (Err BadArgument))
       (λ r. stopped-leaves (request r room) h) (stopped-leaves (file s room) h) (λ id. stopped-leaves (cancel id room) h)
       (λ d. quiet-refused (close d) h) (λ a. quiet-refused (removal a) h)
-      (refused-leaves ws out 2) b n
+      (refused-leaves ws out BadArgument) b n
 
   -- a call that is refused leaves the ledger
-  call_kept : (c : Call) (n : ℕ) → (called (ledger_of ws) c).answer ≡ Refused n → (called (ledger_of ws) c).ledger ≡ ledger_of ws
+  call_kept : (c : Call) (n : Cause) → (called (ledger_of ws) c).answer ≡ Err n → (called (ledger_of ws) c).ledger ≡ ledger_of ws
   unfolding called left_by answer_by
   call_kept c n e = go (cause_in (ledger_of ws) c) e
     where
-      go : (v : Check) → answer_by (step_in (ledger_of ws) c) v ≡ Refused n → left_by (ledger_of ws) c v ≡ ledger_of ws
-      go Clear f = let z : ◌≡◌ {A = ℕ} 0 1 = cc in absurd (omega arith)
-      go (Stop m) f = refl
+      go : (v : Result ⊤ Cause) → answer_by (step_in (ledger_of ws) c) v ≡ Err n → left_by (ledger_of ws) c v ≡ ledger_of ws
+      go (Ok tt) f = let z : ◌≡◌ {A = ℕ} 0 1 = cc in absurd (omega arith)
+      go (Err m) f = refl
 
-  kept : (b : Body) → NoFresh b → (n : ℕ) → (entry_called room (ledger_of ws) b s).answer ≡ Refused n → (entry_called room (ledger_of ws) b s).ledger ≡ ledger_of ws
+  kept : (b : Body) → NoFresh b → (n : Cause) → (entry_called room (ledger_of ws) b s).answer ≡ Err n → (entry_called room (ledger_of ws) b s).ledger ≡ ledger_of ws
   kept =
-      each (λ (b : Body). (n : ℕ) → (entry_called room (ledger_of ws) b s).answer ≡ Refused n → (entry_called room (ledger_of ws) b s).ledger ≡ ledger_of ws)
+      each (λ (b : Body). (n : Cause) → (entry_called room (ledger_of ws) b s).answer ≡ Err n → (entry_called room (ledger_of ws) b s).ledger ≡ ledger_of ws)
       (λ r. call_kept (request r room)) (call_kept (file s room)) (λ id. call_kept (cancel id room)) (λ d. call_kept (close d)) (λ a. call_kept (removal a)) (λ n e. refl)
 
   entry-made : (b : Body) → NoFresh b → entry_called room (ledger_of ws) b s ≡ entry_in room ws b s
@@ -149,15 +148,15 @@ module _ (room : ℕ) (ws out s : List ℕ) where
 
   -- the words of the ledger that it leaves, or those that were lent
   words_left_lem : (ws₁ : List ℕ) (k : Called) → holds_ledger ws ≡ true → holds_ledger ws₁ ≡ true → ledger_of ws₁ ≡ k.ledger
-      → ((n : ℕ) → k.answer ≡ Refused n → k.ledger ≡ ledger_of ws) → ws₁ ≡ words_left ws k.ledger k.answer
+      → ((n : Cause) → k.answer ≡ Err n → k.ledger ≡ ledger_of ws) → ws₁ ≡ words_left ws k.ledger k.answer
   words_left_lem ws₁ k h h₁ e f = go k.answer refl
     where
-      go : (a : Answer) → k.answer ≡ a → ws₁ ≡ words_left ws k.ledger a
-      go (Done r) q = sym (words-ledger ws₁ h₁) ∙ ap ledger_words e
-      go (Refused n) q = sym (words-ledger ws₁ h₁) ∙ ap ledger_words (e ∙ f n q) ∙ words-ledger ws h
+      go : (a : Result Returned Cause) → k.answer ≡ a → ws₁ ≡ words_left ws k.ledger a
+      go (Ok r) q = sym (words-ledger ws₁ h₁) ∙ ap ledger_words e
+      go (Err n) q = sym (words-ledger ws₁ h₁) ∙ ap ledger_words (e ∙ f n q) ∙ words-ledger ws h
 
   -- words that hold one: what the engine left of a call
-  pub carried-leaves : (c : Call) → sound_ledger (ledger_of ws) ≡ true → (ws₁ out₁ : List ℕ) (a : Answer) → CalledIn true c ws out ws₁ out₁ a
+  pub carried-leaves : (c : Call) → sound_ledger (ledger_of ws) ≡ true → (ws₁ out₁ : List ℕ) (a : Result Returned Cause) → CalledIn true c ws out ws₁ out₁ a
       → Leaves (called (ledger_of ws) c) (step_in (ledger_of ws) c).written ws out ws₁ out₁ a
   carried-leaves c h ws₁ out₁ a m =
       record {
@@ -168,7 +167,7 @@ module _ (room : ℕ) (ws out s : List ℕ) where
       }
 
   -- and of an entry
-  pub sound-leaves : (b : Body) → NoFresh b → sound_ledger (ledger_of ws) ≡ true → (ws₁ out₁ : List ℕ) (a : Answer)
+  pub sound-leaves : (b : Body) → NoFresh b → sound_ledger (ledger_of ws) ≡ true → (ws₁ out₁ : List ℕ) (a : Result Returned Cause)
       → EntryCalledIn true room 0 b s ws out ws₁ out₁ a → Leaves (entry_in room ws b s) (entry_written room (ledger_of ws) b s) ws out ws₁ out₁ a
   sound-leaves b n h ws₁ out₁ a m =
       rw (sym (entry-made b n))
@@ -180,7 +179,7 @@ module _ (room : ℕ) (ws out s : List ℕ) where
       })
 
 -- ---- what is given back
-pub gives : (c : Called) (ys ws out ws₁ out₁ : List ℕ) (a : Answer) → Leaves c ys ws out ws₁ out₁ a → (x : ℤ) (ks : List ℕ) (x₁ : ℤ) (ks₁ : List ℕ) (n : ℕ)
+pub gives : (c : Called) (ys ws out ws₁ out₁ : List ℕ) (a : Result Returned Cause) → Leaves c ys ws out ws₁ out₁ a → (x : ℤ) (ks : List ℕ) (x₁ : ℤ) (ks₁ : List ℕ) (n : ℕ)
     → Stores a x ks x₁ ks₁ n → Gives c ws x ks ws₁ x₁ ks₁ n
 gives c ys ws out ws₁ out₁ a l x ks x₁ ks₁ n g =
     record {
@@ -192,7 +191,7 @@ gives c ys ws out ws₁ out₁ a l x ks x₁ ks₁ n g =
     }
 
 -- an answer that was carried out
-pub stores-done : (a : Answer) (r : Returned) → a ≡ Done r → (x : ℤ) (ks : List ℕ) (x₁ : ℤ) → x₁ ≡ r.change
+pub stores-done : (a : Result Returned Cause) (r : Returned) → a ≡ Ok r → (x : ℤ) (ks : List ℕ) (x₁ : ℤ) → x₁ ≡ r.change
     → Stores a x ks x₁ (r.written ∷ r.accepted ∷ r.rejected ∷ r.closed ∷ []) 0
 stores-done a r e x ks x₁ y =
     record { number = sym (ap number_of e); change = y ∙ sym (ap (change_left x) e); counts = sym (ap (counts_left ks) e) }
@@ -204,7 +203,7 @@ module _ (room seen : ℕ) (src ws : List ℕ) (x : ℤ) (ks out : List ℕ) whe
   Headed h ws₁ x₁ ks₁ out₁ ts n =
       Gives (head_called room ws src h) ws x ks ws₁ x₁ ks₁ n × ((out₁ ≡ put out 0 (head_written room ws src h)) × (ts ≡ head_found h))
 
-  refused : Gives (record { ledger = ledger_of ws; answer = Refused 13 }) ws x ks ws x ks 13
+  refused : Gives (record { ledger = ledger_of ws; answer = Err BadEntry }) ws x ks ws x ks 13
   refused = record { number = refl; words = refl; ledger = refl; change = refl; counts = refl }
 
   pub entry-cut : head_of seen src ≡ Cut → Headed (head_of seen src) ws x ks out (0 ∷ 1 ∷ []) 13

@@ -1,5 +1,5 @@
 -- The boundary to C and Rust: the calls on a ledger that is lent as words (words/specs/Layout), answered by numbers. Assumes nothing.
-use Rattle.std.specs.Prelude.{ℕ, ◌-◌, ◌≡◌, false, cond, List, [], ◌∷◌, eqb, length, ℤ}
+use Rattle.std.specs.Prelude.{ℕ, ◌-◌, ◌≡◌, false, cond, List, [], ◌∷◌, eqb, length, ℤ, Result, Ok, Err}
 use Rattle.fields.specs.Put.{put, part}
 use Rattle.units.specs.Calendar.{date_of}
 use Rattle.ledger.specs.declared.Identity.{Identity}
@@ -11,27 +11,20 @@ use Rattle.causes.specs.declared.CalendarRequest.{CalendarRequest}
 use Rattle.causes.specs.declared.AccountRemoval.{AccountRemoval}
 use Rattle.causes.specs.Causes.{code_field}
 use Rattle.calls.specs.declared.Called.{Called}
-use Rattle.calls.specs.declared.Answer.{Answer}
-use Rattle.calls.specs.declared.Answer.TheVariants as answer
-use Rattle.lookups.specs.declared.Place.{Place}
-use Rattle.lookups.specs.declared.Place.TheVariants as place
 use Rattle.lookups.specs.declared.Amounts.{Amounts}
-use Rattle.lookups.specs.declared.Amounts.TheVariants as amounts
 use Rattle.calls.specs.Days.{fresh_called}
 use Rattle.journal.specs.declared.Body.{Body}
 use Rattle.journal.specs.declared.Body.TheVariants as body
 use Rattle.journal.specs.declared.Head.{Head}
 use Rattle.journal.specs.declared.Head.TheVariants.{Cut, Bad, Whole}
-use Rattle.journal.specs.Entries.{head_number}
 use Rattle.journal.specs.EntryCalls.{entry_called, entry_written}
 use Rattle.engine.specs.InWords.{words_left}
-use Rattle.calendar.specs.declared.Weekday.{Weekday}
-use Rattle.calendar.specs.declared.Weekday.TheVariants as weekdays
-use Rattle.calendar.specs.declared.Day.{Day}
-use Rattle.calendar.specs.declared.Day.TheVariants as days
-use Rattle.table.specs.declared.Printed.{Printed}
-use Rattle.table.specs.declared.Printed.TheVariants as table
 use Rattle.table.specs.Table.{printed_by, printed}
+use Rattle.units.specs.declared.Date.{Date}
+use Rattle.rules.specs.declared.Cause.{Cause}
+use Rattle.rules.specs.Numbers.{cause_number}
+use Rattle.calls.specs.declared.Returned.{Returned}
+use Rattle.rules.specs.declared.Cause.TheVariants.{BadArgument, BadEntry}
 
 -- ---- the calls' arguments from numbers
 abbrev pub start_of : ℕ → ℕ → ℕ → Start
@@ -62,22 +55,27 @@ calendar_of code id product billing from consumption number =
 
 -- ---- what a call gives back
 -- 0 for a call that was carried out, else the number of its cause
-abbrev pub number_of : Answer → ℕ
-number_of (answer.Done r) = 0
-number_of (answer.Refused n) = n
+abbrev pub number_of : {A : Type 0} → Result A Cause → ℕ
+number_of (Ok x) = 0
+number_of (Err c) = cause_number c
+
+-- what a lent number holds after: what was found, else what it held
+abbrev pub number_left : ℕ → Result ℕ Cause → ℕ
+number_left x (Ok n) = n
+number_left x (Err c) = x
 
 -- "changed only by a call that succeeds": the words of the ledger that it leaves (words_left), the signed change, and the counts: bytes written,
 -- groups accepted and rejected, bills closed; else each lent buffer holds what it held
-abbrev pub change_left : ℤ → Answer → ℤ
-change_left x (answer.Done r) = r.change
-change_left x (answer.Refused n) = x
+abbrev pub change_left : ℤ → Result Returned Cause → ℤ
+change_left x (Ok r) = r.change
+change_left x (Err n) = x
 
-abbrev pub counts_left : List ℕ → Answer → List ℕ
-counts_left xs (answer.Done r) = r.written ∷ r.accepted ∷ r.rejected ∷ r.closed ∷ []
-counts_left xs (answer.Refused n) = xs
+abbrev pub counts_left : List ℕ → Result Returned Cause → List ℕ
+counts_left xs (Ok r) = r.written ∷ r.accepted ∷ r.rejected ∷ r.closed ∷ []
+counts_left xs (Err n) = xs
 
 -- the number answered, the change and the counts after an answer; they held x and ks before
-pub record Stores (a : Answer) (x : ℤ) (ks : List ℕ) (x₁ : ℤ) (ks₁ : List ℕ) (n : ℕ) : Type 0 where
+pub record Stores (a : Result Returned Cause) (x : ℤ) (ks : List ℕ) (x₁ : ℤ) (ks₁ : List ℕ) (n : ℕ) : Type 0 where
   pub number : n ≡ number_of a
   pub change : x₁ ≡ change_left x a
   pub counts : ks₁ ≡ counts_left ks a
@@ -93,7 +91,7 @@ pub record Gives (c : Called) (ws : List ℕ) (x : ℤ) (ks ws₁ : List ℕ) (x
 
 -- "fresh reads none", but words of another length can hold no ledger: 2
 unfoldable pub fresh_in : List ℕ → Start → Called
-fresh_in ws s = cond (eqb (length ws) ledger_size) (fresh_called (ledger_of ws) s) (record { ledger = ledger_of ws; answer = answer.Refused 2 })
+fresh_in ws s = cond (eqb (length ws) ledger_size) (fresh_called (ledger_of ws) s) (record { ledger = ledger_of ws; answer = Err BadArgument })
 
 -- the call of an entry on any words, with so much room: a fresh as above; any other refuses a ledger that isn't sound (2)
 abbrev pub entry_in : ℕ → List ℕ → Body → List ℕ → Called
@@ -106,7 +104,7 @@ entry_in room ws (body.Removal a) bytes = entry_called room (ledger_of ws) (body
 entry_in room ws body.Unread bytes = entry_called room (ledger_of ws) body.Unread bytes
 
 -- what is answered, the words and the output after a call that by value gives c and writes ys
-pub record Leaves (c : Called) (ys ws out₀ ws₁ out : List ℕ) (a : Answer) : Type 0 where
+pub record Leaves (c : Called) (ys ws out₀ ws₁ out : List ℕ) (a : Result Returned Cause) : Type 0 where
   pub answer : a ≡ c.answer
   pub words : ws₁ ≡ words_left ws c.ledger c.answer
   pub ledger : ledger_of ws₁ ≡ c.ledger
@@ -115,8 +113,8 @@ pub record Leaves (c : Called) (ys ws out₀ ws₁ out : List ℕ) (a : Answer) 
 -- ---- the entry at the start of a journal
 -- its call; no whole good entry stands there: 13
 abbrev pub head_called : ℕ → List ℕ → List ℕ → Head → Called
-head_called room ws src Cut = record { ledger = ledger_of ws; answer = answer.Refused (head_number Cut) }
-head_called room ws src Bad = record { ledger = ledger_of ws; answer = answer.Refused (head_number Bad) }
+head_called room ws src Cut = record { ledger = ledger_of ws; answer = Err BadEntry }
+head_called room ws src Bad = record { ledger = ledger_of ws; answer = Err BadEntry }
 head_called room ws src (Whole b n) = entry_in room ws b (part src 3 (n - 3))
 
 -- the bytes that it writes
@@ -132,51 +130,19 @@ head_found Bad = 0 ∷ 0 ∷ []
 head_found (Whole b n) = n ∷ 0 ∷ []
 
 -- ---- the lookups
-abbrev pub place_number : Place → ℕ
-place_number (place.At p) = 0
-place_number (place.Refused n) = n
-
-abbrev pub place_left : ℕ → Place → ℕ
-place_left x (place.At p) = p
-place_left x (place.Refused n) = x
-
-abbrev pub amounts_number : Amounts → ℕ
-amounts_number (amounts.Posted charge applied owed) = 0
-amounts_number (amounts.Refused n) = n
-
 -- charge, applied and owed
-abbrev pub amounts_left : List ℕ → Amounts → List ℕ
-amounts_left xs (amounts.Posted charge applied owed) = charge.0 ∷ applied.0 ∷ owed.0 ∷ []
-amounts_left xs (amounts.Refused n) = xs
+abbrev pub amounts_left : List ℕ → Result Amounts Cause → List ℕ
+amounts_left xs (Ok a) = a.charge.0 ∷ a.applied.0 ∷ a.owed.0 ∷ []
+amounts_left xs (Err n) = xs
 
 -- ---- the calendar
-abbrev pub weekday_number : Weekday → ℕ
-weekday_number (weekdays.Number d) = 0
-weekday_number (weekdays.Refused n) = n
-
-abbrev pub weekday_left : ℕ → Weekday → ℕ
-weekday_left x (weekdays.Number d) = d
-weekday_left x (weekdays.Refused n) = x
-
-abbrev pub date_number : Day → ℕ
-date_number (days.On d) = 0
-date_number (days.Refused n) = n
-
-abbrev pub date_left : ℕ → Day → ℕ
-date_left x (days.On d) = d.0
-date_left x (days.Refused n) = x
+abbrev pub date_left : ℕ → Result Date Cause → ℕ
+date_left x (Ok d) = d.0
+date_left x (Err n) = x
 
 -- ---- the table of a ledger
-abbrev pub printed_number : Printed → ℕ
-printed_number (table.Table n) = 0
-printed_number (table.Refused n) = n
-
-abbrev pub printed_left : ℕ → Printed → ℕ
-printed_left x (table.Table n) = n
-printed_left x (table.Refused n) = x
-
 -- the number answered, the output and the bytes written after the table of l was asked for
 pub record Prints (l : Ledger) (out₀ : List ℕ) (x : ℕ) (out : List ℕ) (x₁ n : ℕ) : Type 0 where
-  pub number : n ≡ printed_number (printed_by l false (length out₀))
-  pub written : x₁ ≡ printed_left x (printed_by l false (length out₀))
+  pub number : n ≡ number_of (printed_by l false (length out₀))
+  pub written : x₁ ≡ number_left x (printed_by l false (length out₀))
   pub bytes : out ≡ put out₀ 0 (printed l false (length out₀))

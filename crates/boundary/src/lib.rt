@@ -9,24 +9,25 @@ ghost use Rattle.calls.specs.Machine.{step_in, called};
 ghost use Rattle.journal.specs.EntryCalls.{entry_written};
 ghost use Rattle.boundary.specs.Boundary.{entry_in, Leaves, Stores, Gives};
 
-use calls::Answer;
+use calls::Returned;
 use causes::CalendarRequest;
 use engine::call;
 use entries::entry;
 use journal::Body;
+use rules::Cause;
 
 // Makes a call in the lent words: a fresh asks that they are 2,564, and any other that they are those of a sound ledger (2).
-fn make(ledger: &mut [u64], out: &mut [u8], body: Body, s: &[u8]) -> Answer
+fn make(ledger: &mut [u64], out: &mut [u8], body: Body, s: &[u8]) -> Result<Returned, Cause>
     ensures { Leaves (entry_in (length out.old) ledger.old body s.now) (entry_written (length out.old) (ledger_of ledger.old) body s.now) ledger.old out.old ledger.new out.new result }
 {
     if let Body::Fresh(start) = body {
         if ledger.len() != words::LEDGER_SIZE {
-            return Answer::Refused(2);
+            return Err(Cause::BadArgument);
         }
         return call::fresh_in(ledger, start);
     }
     if !places::checks::sound(ledger) {
-        return Answer::Refused(2);
+        return Err(Cause::BadArgument);
     }
     let room = out.len();
     entry::entry(ledger, out, true, room, body, s)
@@ -38,23 +39,23 @@ fn make_by_calendar(
     out: &mut [u8],
     q: CalendarRequest,
     holidays: &[u64],
-) -> Answer
+) -> Result<Returned, Cause>
     ensures { Leaves (called (ledger_of ledger.old) (calendar q holidays.now (length out.old))) (step_in (ledger_of ledger.old) (calendar q holidays.now (length out.old))).written ledger.old out.old ledger.new out.new result }
 {
     if !places::checks::sound(ledger) {
-        return Answer::Refused(2);
+        return Err(Cause::BadArgument);
     }
     let room = out.len();
     call::calendar_in(ledger, out, true, room, q, holidays)
 }
 
 // Stores what an answer returned, and gives its number.
-fn give(change: &mut i64, counts: &mut [u64; 4], a: Answer) -> u64
+fn give(change: &mut i64, counts: &mut [u64; 4], a: Result<Returned, Cause>) -> u64
     ensures { Stores a change.old counts.old change.new counts.new result }
 {
     match a {
-        Answer::Refused(n) => n,
-        Answer::Done(r) => {
+        Err(cause) => cause.number(),
+        Ok(r) => {
             let cents = r.change;
             *change = cents;
             let all = [r.written as u64, r.accepted, r.rejected, r.closed];

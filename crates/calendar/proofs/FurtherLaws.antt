@@ -8,8 +8,6 @@ use native.Mathlib.Decide.{dec_le}
 use lib.Dec.{leb, eqb}
 use borrow.Author.Tests.{eq-eqb, ne_eqb}
 use Rattle.fields.proofs.BoolLaws.{and_left, cases}
-use Rattle.rules.specs.declared.Found.{Found}
-use Rattle.rules.specs.declared.Found.TheVariants.{At, Nothing}
 use Rattle.rules.specs.Lists.{has}
 use Rattle.rules.specs.Least.{least_up_to}
 use Rattle.rules.proofs.LeastLaws.{up-to-hit, up-to-none, up-to-skip, up-to-found, up-to-before, up-to-nothing}
@@ -17,6 +15,7 @@ use Rattle.units.specs.Calendar.{is_date}
 use Rattle.units.specs.Days.{last_date, weekday}
 use Rattle.units.proofs.DateLaws.{Next, date-last}
 use Rattle.calendar.specs.BusinessDays.{is_business_day, business_days, next_business_day, is_further, business_day, next_day, next_causes, further_day, further_causes}
+use Rattle.std.specs.Prelude.{Option, Some, None}
 
 day-date : (hs : List ℕ) (d : ℕ) → is_business_day hs d ≡ true → is_date d ≡ true
 unfolding is_business_day
@@ -87,12 +86,12 @@ module _ (hs : List ℕ) (start number : ℕ) where
   way-start h = record { date = h; from = omega arith; counted = omega (arith, count_none hs start); same = refl }
 
   module _ (d left : ℕ) (w : Way hs start number d left) where
-    pub way_end : left ≡ 0 → business_day hs start number ≡ At d
+    pub way_end : left ≡ 0 → business_day hs start number ≡ Some d
     way_end z =
         sym w.same
         ∙ up-to-hit (is_further hs start number) d last_date (date-last d w.date) (enough hs start number d w.date (omega (arith, w.counted)))
 
-    pub way-none : 0 < left → last_date ≤ d → business_day hs start number ≡ Nothing
+    pub way-none : 0 < left → last_date ≤ d → business_day hs start number ≡ None
     way-none h l =
         let p = is_further hs start number in
         let e : d ≡ last_date = omega (arith, date-last d w.date) in
@@ -134,8 +133,8 @@ module _ (hs : List ℕ) (d : ℕ) where
       let n : d - d ≡ 0 = omega arith in
       too_few hs d 1 e 1 (omega arith) (omega (arith, rw z at s, rw n at (count_none hs d)))
 
-  one_further : (f : Found) → least_up_to (is_business_day hs) (suc d) last_date ≡ f → d ≤ last_date → f ≡ least_up_to p d last_date
-  one_further (At r) e t =
+  one_further : (f : Option ℕ) → least_up_to (is_business_day hs) (suc d) last_date ≡ f → d ≤ last_date → f ≡ least_up_to p d last_date
+  one_further (Some r) e t =
       let b = is_business_day hs in
       let g = up-to-found b (suc d) last_date r e in
       let none = up-to-before b (suc d) last_date r e in
@@ -144,7 +143,7 @@ module _ (hs : List ℕ) (d : ℕ) where
       sym
       (up-to-skip p d r last_date (omega arith) (omega arith) (λ j a l. still j a (λ i m n. none i m (omega arith)))
       ∙ up-to-hit p r last_date g.2 k)
-  one_further Nothing e t =
+  one_further None e t =
       let none = up-to-nothing (is_business_day hs) (suc d) last_date e in
       sym
       (up-to-skip p d (suc last_date) last_date (omega arith) (omega arith) (λ j a l. still j a (λ i m n. none i m (omega arith)))

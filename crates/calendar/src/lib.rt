@@ -6,7 +6,7 @@ ghost use Rattle.rules.specs.Lists.{has};
 ghost use Rattle.units.specs.Calendar.{is_date};
 ghost use Rattle.calendar.specs.BusinessDays.{is_business_day, good_holidays, business_day, weekday_of, next_day, further_day};
 
-use rules::Found;
+use rules::Cause;
 use units::Date;
 
 // "a lent list of up to 64 holiday dates".
@@ -17,20 +17,6 @@ pub const MOST_FURTHER: u64 = 9;
 
 // The weekdays from Monday to this one are business days.
 const FRIDAY: u64 = 5;
-
-// The weekday of a date, 1 Monday to 7 Sunday, or the number of the cause against it.
-#[derive(Drop)]
-pub enum Weekday {
-    Number(u64),
-    Refused(u64),
-}
-
-// A date that was worked out, or the number of the cause against it.
-#[derive(Drop)]
-pub enum Day {
-    On(Date),
-    Refused(u64),
-}
 
 // Whether a date is among the holidays.
 fn is_holiday(d: Date, holidays: &[u64]) -> bool
@@ -80,7 +66,7 @@ fn good_holidays(holidays: &[u64]) -> bool
 }
 
 // The date with `number` business days after the start up to it, if there is one up to the last date.
-fn further(start: Date, number: u64, holidays: &[u64]) -> Found
+fn further(start: Date, number: u64, holidays: &[u64]) -> Option<u64>
     requires { is_date start.0 ≡ true }
     ensures { result ≡ business_day holidays.now start.0 number }
 {
@@ -88,48 +74,48 @@ fn further(start: Date, number: u64, holidays: &[u64]) -> Found
     let mut left = number;
     while 0 < left {
         if units::LAST_DATE <= d.0 {
-            return Found::Nothing;
+            return None;
         }
         d = d.next();
         if is_business_day(d, holidays) {
             left -= 1;
         }
     }
-    Found::At(d.0 as usize)
+    Some(d.0)
 }
 
-// The weekday of a date.
-pub fn weekday_of(d: Date) -> Weekday
+// The weekday of a date, 1 Monday to 7 Sunday.
+pub fn weekday_of(d: Date) -> Result<u64, Cause>
     ensures { result ≡ weekday_of d.0 }
 {
     if !d.valid() {
-        return Weekday::Refused(2);
+        return Err(Cause::BadArgument);
     }
-    Weekday::Number(d.weekday())
+    Ok(d.weekday())
 }
 
 // The business day `number` further on.
-pub fn business_day(start: Date, number: u64, holidays: &[u64]) -> Day
+pub fn business_day(start: Date, number: u64, holidays: &[u64]) -> Result<Date, Cause>
     ensures { result ≡ further_day holidays.now start.0 number }
 {
     if !start.valid() {
-        return Day::Refused(2);
+        return Err(Cause::BadArgument);
     }
     if MOST_FURTHER < number {
-        return Day::Refused(2);
+        return Err(Cause::BadArgument);
     }
     if !good_holidays(holidays) {
-        return Day::Refused(14);
+        return Err(Cause::BadHolidays);
     }
     let found = further(start, number, holidays);
     match found {
-        Found::At(d) => Day::On(Date(d as u64)),
-        Found::Nothing => Day::Refused(15),
+        Some(d) => Ok(Date(d)),
+        None => Err(Cause::NoSuchDay),
     }
 }
 
 // The first business day after a date.
-pub fn next_business_day(d: Date, holidays: &[u64]) -> Day
+pub fn next_business_day(d: Date, holidays: &[u64]) -> Result<Date, Cause>
     ensures { result ≡ next_day holidays.now d.0 }
 {
     business_day(d, 1, holidays)

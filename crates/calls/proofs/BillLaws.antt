@@ -13,8 +13,6 @@ use Rattle.ledger.specs.declared.Identity.{Identity}
 use Rattle.ledger.specs.declared.Bill.{Bill}
 use Rattle.ledger.specs.declared.Ledger.{Ledger}
 use Rattle.ledger.specs.declared.LedgerHeader.{LedgerHeader}
-use Rattle.rules.specs.declared.Found.{Found}
-use Rattle.rules.specs.declared.Found.TheVariants.{At, Nothing}
 use Rattle.rules.specs.Lists.{update}
 use Rattle.ledger.specs.Bills.{renewed, cancelled_bill, blank_bill}
 use Rattle.ledger.specs.Books.{Book, book, view, live, stored, of_id, place_of, bill_terms, bill_charge, total_of}
@@ -23,9 +21,6 @@ use Rattle.ledger.specs.Sound.{holds_id, sound_bill, sound_ledger}
 use Rattle.ledger.proofs.BookLaws.{live-appended, live-replaced, length-live, difference}
 use Rattle.rules.proofs.ListLaws.{sum-append}
 use Rattle.ledger.proofs.SoundLaws.{TermsFacts, terms-facts, bill-terms, bill-small, book-facts, ledger-book, ledger-count}
-use Rattle.rules.specs.declared.Check.{Check}
-use Rattle.rules.specs.declared.Check.TheVariants.{Clear, Stop}
-use Rattle.verdict.specs.declared.Sought.TheVariants as sought
 use Rattle.rules.specs.Rules.{first}
 use Rattle.verdict.specs.Lines.{is_nothing}
 use Rattle.notices.proofs.NoticeLengths.{length-bil, length-cxl}
@@ -35,7 +30,7 @@ use Rattle.group.proofs.FoundLaws.{Held, nowhere, somewhere, held, sought-is, ev
 use Rattle.causes.specs.declared.Request.{Request}
 use Rattle.causes.specs.declared.BillCall.{BillCall}
 use Rattle.causes.specs.declared.BillCall.TheVariants as bill_call
-use Rattle.causes.specs.declared.Decision.{Decision}
+use Rattle.ledger.specs.declared.Update.{Update}
 use Rattle.causes.specs.Causes.{request, cancel, causes}
 use Rattle.causes.specs.Requests.{latest_of, new_bill}
 use Rattle.causes.specs.parts.Decisions.{SoundAt, as_call, call_identity, causes_by, update_by, decided_by, ChangeFits, change_by, notice_by}
@@ -44,14 +39,16 @@ use Rattle.calls.specs.Machine.{bill_of, numbered, next, next_written, next_verd
 use Rattle.calls.specs.parts.Answers.{noticed}
 use Rattle.calls.proofs.PlaceOfLaws.{first-of, spot, spot-none}
 use Rattle.calls.proofs.CallLaws.{Carried, Stopped, carried, stopped, cause-sound}
+use Rattle.std.specs.Prelude.{Option, Some, None, Result, Ok, Err, ⊤}
+use Rattle.rules.specs.declared.Cause.{Cause}
 
 -- ---- where a bill is
 -- all that is known of a bill by its place in the struct
 pub data Placed (l : Ledger) (id : Identity) : Type 0 where
-  new : place_of id (live l) ≡ Nothing → holds_id id (live l) ≡ false → bill_of id (live l) ≡ blank_bill
-      → sought_in id (map bill_terms (live l)) ≡ sought.Nothing → Placed l id
-  old : (p : ℕ) → p < l.count → place_of id (live l) ≡ At p → holds_id id (live l) ≡ true → bill_of id (live l) ≡ bill_at l p
-      → sought_in id (map bill_terms (live l)) ≡ sought.Bill (bill_at l p).terms
+  new : place_of id (live l) ≡ None → holds_id id (live l) ≡ false → bill_of id (live l) ≡ blank_bill
+      → sought_in id (map bill_terms (live l)) ≡ None → Placed l id
+  old : (p : ℕ) → p < l.count → place_of id (live l) ≡ Some p → holds_id id (live l) ≡ true → bill_of id (live l) ≡ bill_at l p
+      → sought_in id (map bill_terms (live l)) ≡ Some (bill_at l p).terms
       → ((f : Bill → Bill) → update (of_id id) f (live l) ≡ set (live l) p (f (bill_at l p))) → Placed l id
 
 pub placed : (l : Ledger) (id : Identity) → Placed l id
@@ -125,29 +122,29 @@ module _ (l : Ledger) (long : length l.bills ≡ 128) (s : sound_ledger l ≡ tr
   held-length = length-map (live l) bill_terms ∙ length-live l within
 
 -- ---- what they answer
-pub request-answer : (k : Book) (r : Request) (room : ℕ) → noticed (pos 0) ≡ answer_by (outcome k (request r room) Clear) Clear
+pub request-answer : (k : Book) (r : Request) (room : ℕ) → noticed (pos 0) ≡ answer_by (outcome k (request r room) (Ok tt)) (Ok tt)
 unfolding outcome answer_by next_written next_verdicts next_closed
 request-answer k r room = rw (change-request k r room, length-bil)
 
 pub cancel-answer : (k : Book) (id : Identity) (room : ℕ)
-    → noticed (pos 0 -ℤ pos (bill_charge (bill_of id k.bills))) ≡ answer_by (outcome k (cancel id room) Clear) Clear
+    → noticed (pos 0 -ℤ pos (bill_charge (bill_of id k.bills))) ≡ answer_by (outcome k (cancel id room) (Ok tt)) (Ok tt)
 unfolding outcome answer_by next_written next_verdicts next_closed
 cancel-answer k id room = rw (change-cancel k id room, length-cxl)
 
 -- what is known of a request or a cancel, c, that d decides: b stands at its place p
-pub record Decided (l : Ledger) (c : BillCall) (room : ℕ) (h : LedgerHeader) (f : Found) (p : ℕ) (b : Bill) (d : Decision) : Type 0 where
-  pub stops : (n : ℕ) → d.check ≡ Stop n → Stopped l (as_call c room) n
-  pub wide : d.check ≡ Clear → 642 ≤ room
-  pub fits : d.check ≡ Clear → ChangeFits c b
-  pub done : d.check ≡ Clear → Carried l (as_call c room) (updated l p d.update) (noticed (change_by c b)) (notice_by c h f b d.update.bill)
+pub record Decided (l : Ledger) (c : BillCall) (room : ℕ) (h : LedgerHeader) (f : Option ℕ) (p : ℕ) (b : Bill) (d : Result Update Cause) : Type 0 where
+  pub stops : (n : Cause) → d ≡ Err n → Stopped l (as_call c room) n
+  pub wide : (u : Update) → d ≡ Ok u → 642 ≤ room
+  pub fits : (u : Update) → d ≡ Ok u → ChangeFits c b
+  pub done : (u : Update) → d ≡ Ok u → Carried l (as_call c room) (updated l p u) (noticed (change_by c b)) (notice_by c h f b u.bill)
 
 -- ---- a call on a struct that is known to be sound: b stands at the place p, of what a search found
-module _ (l : Ledger) (long : length l.bills ≡ 128) (sure : sound_ledger l ≡ true) (f : Found) (p : ℕ) (pe : p ≡ place_for f l.count) where
+module _ (l : Ledger) (long : length l.bills ≡ 128) (sure : sound_ledger l ≡ true) (f : Option ℕ) (p : ℕ) (pe : p ≡ place_for f l.count) where
   few : l.count ≤ 128
   few = ledger-count l sure
 
   module _ (id : Identity) (fe : f ≡ place_of id (live l)) where
-    known_at : (i : ℕ) → i < l.count → place_of id (live l) ≡ At i → p ≡ i
+    known_at : (i : ℕ) → i < l.count → place_of id (live l) ≡ Some i → p ≡ i
     known_at i h x = pe ∙ rw (fe ∙ x, lt-ltb i 128 (omega (arith, few)))
 
     pub sound-here : SoundAt f (bill_at l p)
@@ -170,18 +167,18 @@ module _ (l : Ledger) (long : length l.bills ≡ 128) (sure : sound_ledger l ≡
       wide : 642 ≤ room
       fits : ChangeFits c (bill_at l p)
       left : updated l p (update_by c (header_of l) f (bill_at l p)) ≡ stored l (next (book l) (as_call c room))
-      answer : noticed (change_by c (bill_at l p)) ≡ answer_by (outcome (book l) (as_call c room) Clear) Clear
+      answer : noticed (change_by c (bill_at l p)) ≡ answer_by (outcome (book l) (as_call c room) (Ok tt)) (Ok tt)
       bytes : notice_by c (header_of l) f (bill_at l p) (update_by c (header_of l) f (bill_at l p)).bill ≡ next_written (book l) (as_call c room)
 
     -- a request
-    module _ (r : Request) (fe : f ≡ place_of r.identity (live l)) (e : first (causes_by (bill_call.Request r) room (header_of l) f (bill_at l p)) ≡ Clear) where
+    module _ (r : Request) (fe : f ≡ place_of r.identity (live l)) (e : first (causes_by (bill_call.Request r) room (header_of l) f (bill_at l p)) ≡ Ok tt) where
       abbrev request-facts : Asks r room l.today l.next_tracking l.next_confirmation l.count (sought_by f (bill_at l p))
       request-facts = asks r room l.today l.next_tracking l.next_confirmation l.count (sought_by f (bill_at l p)) e
 
       requests : Placed l r.identity → Carries (bill_call.Request r)
       unfolding next next_written
       requests (new x b c y) =
-          let z : f ≡ Nothing = fe ∙ x in
+          let z : f ≡ None = fe ∙ x in
           let m : l.count < 128 = request-facts.new (rw z) in
           let k : p ≡ l.count = pe ∙ rw (z, lt-ltb l.count 128 m) in
           record {
@@ -204,13 +201,13 @@ module _ (l : Ledger) (long : length l.bills ≡ 128) (sure : sound_ledger l ≡
           }
 
     -- a cancel: its bill is known, and what it takes away can be told with a sign
-    module _ (id : Identity) (fe : f ≡ place_of id (live l)) (e : first (causes_by (bill_call.Cancel id) room (header_of l) f (bill_at l p)) ≡ Clear) where
+    module _ (id : Identity) (fe : f ≡ place_of id (live l)) (e : first (causes_by (bill_call.Cancel id) room (header_of l) f (bill_at l p)) ≡ Ok tt) where
       abbrev cancel-facts : Cancels id room l.next_tracking l.next_confirmation (sought_by f (bill_at l p))
       cancel-facts = cancels id room l.next_tracking l.next_confirmation (sought_by f (bill_at l p)) e
 
       cancelled : Placed l id → Carries (bill_call.Cancel id)
       unfolding next next_written
-      cancelled (new x y z w) = absurd (true≢false (subst (λ (i : Found). is_nothing (sought_by i (bill_at l p)) ≡ false) (fe ∙ x) cancel-facts.known))
+      cancelled (new x y z w) = absurd (true≢false (subst (λ (i : Option ℕ). is_nothing (sought_by i (bill_at l p)) ≡ false) (fe ∙ x) cancel-facts.known))
       cancelled (old i m x y z w u) =
           let k = known_at id fe i m x in
           let small : bill_charge (bill_at l i) < 10 ^ 13 = ltb-true _ _ (bill-small (bill_at l i) (sound-at l long sure i m)) in
@@ -223,48 +220,49 @@ module _ (l : Ledger) (long : length l.bills ≡ 128) (sure : sound_ledger l ≡
             bytes = rw same;
           }
 
-    carries : (c : BillCall) → f ≡ place_of (call_identity c) (live l) → first (causes_by c room (header_of l) f (bill_at l p)) ≡ Clear → Carries c
+    carries : (c : BillCall) → f ≡ place_of (call_identity c) (live l) → first (causes_by c room (header_of l) f (bill_at l p)) ≡ Ok tt → Carries c
     carries (bill_call.Request r) fe e = requests r fe e (placed l r.identity)
     carries (bill_call.Cancel id) fe e = cancelled id fe e (placed l id)
 
     -- a request or a cancel
-    module _ (c : BillCall) (fe : f ≡ place_of (call_identity c) (live l)) (h : LedgerHeader) (he : h ≡ header_of l) (b : Bill) (be : b ≡ bill_at l p) (d : Decision)
+    module _ (c : BillCall) (fe : f ≡ place_of (call_identity c) (live l)) (h : LedgerHeader) (he : h ≡ header_of l) (b : Bill) (be : b ≡ bill_at l p) (d : Result Update Cause)
         (de : d ≡ decided_by (first (causes_by c room h f b)) c h f b) where
-      abbrev now : Check
+      abbrev now : Result ⊤ Cause
       now = first (causes_by c room (header_of l) f (bill_at l p))
 
       decision-now : d ≡ decided_by now c (header_of l) f (bill_at l p)
       decision-now = de ∙ ap₂ (λ (t : LedgerHeader) (x : Bill). decided_by (first (causes_by c room t f x)) c t f x) he be
 
-      check-by : (k : Check) → (decided_by k c (header_of l) f (bill_at l p)).check ≡ k
-      check-by Clear = refl
-      check-by (Stop n) = refl
+      -- what is decided tells what the check came to
+      stop-by : (k : Result ⊤ Cause) (n : Cause) → decided_by k c (header_of l) f (bill_at l p) ≡ Err n → k ≡ Err n
+      stop-by (Ok u) n e = let z : ◌≡◌ {A = ℕ} 0 1 = cc in absurd (omega arith)
+      stop-by (Err m) n e = let z : m ≡ n = cc in rw z
 
-      check-now : d.check ≡ now
-      check-now = ap (λ (z : Decision). z.check) decision-now ∙ check-by now
+      clear-by : (k : Result ⊤ Cause) (u : Update) → decided_by k c (header_of l) f (bill_at l p) ≡ Ok u → (k ≡ Ok tt) × (u ≡ update_by c (header_of l) f (bill_at l p))
+      clear-by (Ok x) u e = (refl, cc)
+      clear-by (Err m) u e = let z : ◌≡◌ {A = ℕ} 0 1 = cc in absurd (omega arith)
 
-      -- what the check decides is the cause
-      cause-now : cause_in l (as_call c room) ≡ d.check
-      cause-now = cause-sound l (as_call c room) sure ∙ causes-are c fe ∙ sym check-now
+      cause-now : cause_in l (as_call c room) ≡ now
+      cause-now = cause-sound l (as_call c room) sure ∙ causes-are c fe
 
-      clear-now : d.check ≡ Clear → d ≡ decided_by Clear c (header_of l) f (bill_at l p)
-      clear-now e = decision-now ∙ ap (λ (k : Check). decided_by k c (header_of l) f (bill_at l p)) (sym check-now ∙ e)
+      clear-now : (u : Update) → d ≡ Ok u → (now ≡ Ok tt) × (u ≡ update_by c (header_of l) f (bill_at l p))
+      clear-now u e = clear-by now u (sym decision-now ∙ e)
 
-      known : d.check ≡ Clear → Carries c
-      known e = carries c fe (sym check-now ∙ e)
+      known : (u : Update) → d ≡ Ok u → Carries c
+      known u e = carries c fe (clear-now u e).0
 
       pub decided : Decided l c room h f p b d
       decided =
           record {
-            stops = λ n e. stopped l (as_call c room) n (cause-now ∙ e);
-            wide = λ e. (known e).wide;
-            fits = λ e. rw be (known e).fits;
+            stops = λ n e. stopped l (as_call c room) n (cause-now ∙ stop-by now n (sym decision-now ∙ e));
+            wide = λ u e. (known u e).wide;
+            fits = λ u e. rw be (known u e).fits;
             done =
-                λ e.
-                carried l (as_call c room) (cause-now ∙ e) _ _ _
-                (ap (λ (z : Decision). updated l p z.update) (clear-now e) ∙ (known e).left)
-                (ap (λ (x : Bill). noticed (change_by c x)) be ∙ (known e).answer)
-                (ap₂ (λ (t : LedgerHeader) (x : Bill). notice_by c t f x d.update.bill) he be
-                ∙ ap (λ (z : Decision). notice_by c (header_of l) f (bill_at l p) z.update.bill) (clear-now e)
-                ∙ (known e).bytes);
+                λ u e.
+                carried l (as_call c room) (cause-now ∙ (clear-now u e).0) _ _ _
+                (ap (updated l p) (clear-now u e).1 ∙ (known u e).left)
+                (ap (λ (x : Bill). noticed (change_by c x)) be ∙ (known u e).answer)
+                (ap₂ (λ (t : LedgerHeader) (x : Bill). notice_by c t f x u.bill) he be
+                ∙ ap (λ (z : Update). notice_by c (header_of l) f (bill_at l p) z.bill) (clear-now u e).1
+                ∙ (known u e).bytes);
           }

@@ -22,10 +22,6 @@ use Rattle.notices.specs.declared.rej.Rej.{Rej}
 use Rattle.notices.specs.Answers.{acf, rej_header, rej_detail, rej_details, rej}
 use Rattle.notices.proofs.AnswerLaws.{length-acf, length-rej-header, length-rej-detail}
 use Rattle.file.specs.File.{records, is_header, Group, leading, groups, file_groups}
-use Rattle.rules.specs.declared.Check.{Check}
-use Rattle.rules.specs.declared.Check.TheVariants.{Clear, Stop}
-use Rattle.verdict.specs.declared.Verdict.{Verdict}
-use Rattle.verdict.specs.declared.Verdict.TheVariants.{Accepted, Rejected}
 use Rattle.rules.specs.Rules.{first}
 use Rattle.group.specs.declared.Tally.{Tally}
 use Rattle.group.specs.Groups.{verdict_here, settled, answer, taken, answers}
@@ -38,24 +34,29 @@ use Rattle.causes.specs.Causes.{Call, request, calendar, file, cancel, close, re
 use Rattle.causes.proofs.CauseLaws.{asks, sends, cancels}
 use Rattle.calls.specs.Machine.{cause, room_of, cause_in, outcome, answer_by, next, next_written, next_verdicts, next_closed}
 use Rattle.calls.specs.parts.Answers.{cleared}
+use Rattle.std.specs.Prelude.{Result, Ok, Err, ⊤}
+use Rattle.ledger.specs.declared.Posted.{Posted}
+use Rattle.rules.specs.declared.Cause.{Cause}
+use Rattle.rules.specs.declared.ErrorCode.{ErrorCode}
+use Rattle.rules.specs.declared.Cause.TheVariants.{BadArgument}
 
 -- ---- the call
-pub cause-file : (l : Ledger) (s : List ℕ) (room : ℕ) (v : Check) → sound_ledger l ≡ true
+pub cause-file : (l : Ledger) (s : List ℕ) (room : ℕ) (v : Result ⊤ Cause) → sound_ledger l ≡ true
     → v ≡ first (file_causes s room l.next_tracking l.next_confirmation) → cause_in l (file s room) ≡ v
 unfolding cause_in causes
 cause-file l s room v h e = rw h (sym e)
 
-module _ (l : Ledger) (sure : sound_ledger l ≡ true) (s : List ℕ) (room : ℕ) (k : Check)
+module _ (l : Ledger) (sure : sound_ledger l ≡ true) (s : List ℕ) (room : ℕ) (k : Result ⊤ Cause)
     (ke : k ≡ first (file_causes s room l.next_tracking l.next_confirmation)) where
-  pub file-stops : (n : ℕ) → k ≡ Stop n → Stopped l (file s room) n
+  pub file-stops : (n : Cause) → k ≡ Err n → Stopped l (file s room) n
   file-stops n e = stopped l (file s room) n (cause-file l s room k sure ke ∙ e)
 
-  pub file-short : k ≡ Clear → (length s ≤ 64200) × (length s ≤ room)
+  pub file-short : k ≡ Ok tt → (length s ≤ 64200) × (length s ≤ room)
   file-short e =
       let x = sends s room l.next_tracking l.next_confirmation (sym ke ∙ e) in (good-short s x.good, x.wide)
 
   -- what a file that was taken leaves, returns and writes
-  pub file-done : k ≡ Clear → (writes : Bool) (out₀ : List ℕ) (led : Ledger) (out : List ℕ) (c : Tally)
+  pub file-done : k ≡ Ok tt → (writes : Bool) (out₀ : List ℕ) (led : Ledger) (out : List ℕ) (c : Tally)
       → FileTaken l (groups (records_from s 0 (length s / 321))) writes out₀ led out c
       → Carried l (file s room) led (cleared c) (answers [] (book l) (groups (records_from s 0 (length s / 321))))
   unfolding answer_by outcome next next_written next_verdicts next_closed file_groups records
@@ -101,11 +102,11 @@ rej-within h ds x e k =
       length-details (is_sup h) ds x k,
     )
 
-answer-within : (v : View) (g : Group) (w : Verdict) → 321 ≤ length g.header → Long g.details
+answer-within : (v : View) (g : Group) (w : Result Posted ErrorCode) → 321 ≤ length g.header → Long g.details
     → length (answer v g w) ≤ (1 + length g.details) * 321
 unfolding answer
-answer-within v g (Accepted amounts) h k = acf-within g.header _ (length g.details) h
-answer-within v g (Rejected n) h k = rej-within g.header g.details _ h k
+answer-within v g (Ok amounts) h k = acf-within g.header _ (length g.details) h
+answer-within v g (Err n) h k = rej-within g.header g.details _ h k
 
 -- the records before the first header are no group's
 answers-within : (before : List Group) (l : Book) (rs : List (List ℕ)) → Long rs
@@ -117,7 +118,7 @@ answers-within before l (r ∷ rs) h = go (λ x k. answers-within x k rs h.1) (i
     g : Group
     g = record { header = r; details = take (leading rs) rs }
 
-    v : Verdict
+    v : Result Posted ErrorCode
     v = verdict_here before l g (groups rs)
 
     go : ((x : List Group) (k : Book) → length (answers x k (groups rs)) + leading rs * 321 ≤ length rs * 321) → (b : Bool)
@@ -142,11 +143,11 @@ file-within l s =
     )
 
 -- ---- no call writes past the output lent to it
-clear-causes : (l : Book) (c : Call) → cause l c ≡ Clear → first (causes (view l) c) ≡ Clear
+clear-causes : (l : Book) (c : Call) → cause l c ≡ Ok tt → first (causes (view l) c) ≡ Ok tt
 unfolding cause
 clear-causes l c e = go (sound l) e
   where
-    go : (b : Bool) → cond b (first (causes (view l) c)) (Stop 2) ≡ Clear → first (causes (view l) c) ≡ Clear
+    go : (b : Bool) → cond b (first (causes (view l) c)) (Err BadArgument) ≡ Ok tt → first (causes (view l) c) ≡ Ok tt
     go true h = h
     go false h = let z : ◌≡◌ {A = ℕ} 0 1 = cc in absurd (omega arith)
 
@@ -156,7 +157,7 @@ bil-within b room h = omega (arith, length-bil b)
 cxl-within : (x : Cxl) (room : ℕ) → 642 ≤ room → length (cxl x) ≤ room
 cxl-within x room h = omega (arith, length-cxl x)
 
-pub written-within : (l : Book) (c : Call) → cause l c ≡ Clear → length (next_written l c) ≤ room_of c
+pub written-within : (l : Book) (c : Call) → cause l c ≡ Ok tt → length (next_written l c) ≤ room_of c
 unfolding causes next_written
 written-within l (request r room) e =
     bil-within _ room (asks r room l.today l.tracking l.confirmation _ _ (clear-causes l (request r room) e)).wide

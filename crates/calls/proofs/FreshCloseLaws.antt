@@ -17,15 +17,15 @@ use Rattle.ledger.specs.Books.{book, live, total_of}
 use Rattle.ledger.specs.Sound.{is_next, distinct, sound_ledger}
 use Rattle.rules.proofs.ListLaws.{all-on, slice-step}
 use Rattle.ledger.proofs.SoundLaws.{facts-sound}
-use Rattle.rules.specs.declared.Check.TheVariants.{Clear}
 use Rattle.rules.specs.Rules.{first}
-use Rattle.group.proofs.AcceptedLaws.{clear-off}
+use Rattle.rules.proofs.RuleLaws.{clear-off}
 use Rattle.groups.proofs.FileSound.{count-step}
 use Rattle.causes.specs.declared.Start.{Start}
 use Rattle.causes.specs.Causes.{close, is_number, start_tests, fresh_causes}
 use Rattle.calls.specs.Machine.{fresh, next, next_written, next_verdicts, next_closed, outcome, cause_in, step_in, left_by, answer_by, called}
 use Rattle.causes.specs.Requests.{closes}
 use Rattle.calls.specs.Days.{fresh_ledger, quiet_answer}
+use Rattle.std.specs.Prelude.{Ok}
 
 -- ---- fresh
 -- the struct that fresh leaves holds the book that it begins with
@@ -39,7 +39,7 @@ number-next n h =
     rw (le-leb 1 n a, le-leb n 1000000000 (omega arith))
 
 -- "After fresh the ledger part of 2 never occurs": it begins sound
-pub fresh-sound : (s : Start) → first (fresh_causes s) ≡ Clear → sound_ledger (fresh_ledger s) ≡ true
+pub fresh-sound : (s : Start) → first (fresh_causes s) ≡ Ok tt → sound_ledger (fresh_ledger s) ≡ true
 unfolding fresh_causes start_tests distinct sound_ledger
 fresh-sound s e =
     let o = all-on (start_tests s) (not-false _ (clear-off (fresh_causes s) e).0) in
@@ -71,7 +71,7 @@ dated l d =
     }
 
 -- a close that is carried out: no bill changes, and so no total
-pub close-done : (l : Ledger) (d : Date) → l.count ≤ length l.bills → cause_in l (close d) ≡ Clear
+pub close-done : (l : Ledger) (d : Date) → l.count ≤ length l.bills → cause_in l (close d) ≡ Ok tt
     → called l (close d) ≡ record { ledger = dated l d; answer = quiet_answer (count (closes l.today d) (live l)) }
 unfolding called left_by answer_by step_in outcome next next_written next_verdicts next_closed
 close-done l d h e =

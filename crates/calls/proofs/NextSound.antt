@@ -25,8 +25,6 @@ use Rattle.rules.proofs.ListLaws.{all-on, every_append}
 use Rattle.ledger.proofs.SoundLaws.{TermsFacts, moved_facts, BookFacts, book-facts, facts-sound, terms-facts, facts-terms, bill-terms}
 use Rattle.file.specs.File.{file_groups}
 use Rattle.file.proofs.WalkLaws.{has-append}
-use Rattle.verdict.specs.declared.Sought.TheVariants.{Nothing}
-use Rattle.rules.specs.declared.Check.TheVariants.{Clear}
 use Rattle.rules.specs.Rules.{first}
 use Rattle.group.specs.Groups.{sought_in}
 use Rattle.group.proofs.GroupWalk.{length-update}
@@ -39,6 +37,7 @@ use Rattle.causes.specs.Requests.{code_of, latest_of, new_bill}
 use Rattle.calls.specs.Machine.{numbered, next}
 use Rattle.causes.proofs.CodeLaws.{good-five}
 use Rattle.causes.proofs.CauseLaws.{asks, sends, cancels, closes-on, removes}
+use Rattle.std.specs.Prelude.{None, Ok}
 
 -- ---- a bill
 -- what soundness asks of the amounts reads the mark and the product alone
@@ -140,7 +139,7 @@ eqb-sym a b =
     (λ e. e ∙ sym (ne_eqb b a (λ q. eqb-false a b e (sym q))))
 
 -- an identity that no bill has is not found
-pub nowhere : (id : Identity) (bs : List bill.Bill) → holds_id id bs ≡ false → sought_in id (map bill_terms bs) ≡ Nothing
+pub nowhere : (id : Identity) (bs : List bill.Bill) → holds_id id bs ≡ false → sought_in id (map bill_terms bs) ≡ None
 nowhere id [] h = refl
 nowhere id (b ∷ bs) h = let o = or-both (is_of id b.terms) (holds_id id bs) h in rw o.0 (nowhere id bs o.1)
 
@@ -172,7 +171,7 @@ module _ (l : Book) (f : BookFacts l) (n : (l.tracking + 1 ≤ 1000000000) × (l
       }
 
 -- ---- the calls
-request-facts : (l : Book) (r : Request) (room : ℕ) → BookFacts l → first (causes (view l) (request r room)) ≡ Clear → BookFacts (next l (request r room))
+request-facts : (l : Book) (r : Request) (room : ℕ) → BookFacts l → first (causes (view l) (request r room)) ≡ Ok tt → BookFacts (next l (request r room))
 unfolding causes next
 request-facts l r room f e =
     let a = asks r room l.today l.tracking l.confirmation (length (map bill_terms l.bills)) (sought_in r.identity (map bill_terms l.bills)) e in
@@ -190,7 +189,7 @@ request-facts l r room f e =
     (rw (every_append sound_bill l.bills (b ∷ []), f.bills, s))
     (distinct_append l.bills b f.once h)))
 
-cancel-facts : (l : Book) (id : Identity) (room : ℕ) → BookFacts l → first (causes (view l) (cancel id room)) ≡ Clear → BookFacts (next l (cancel id room))
+cancel-facts : (l : Book) (id : Identity) (room : ℕ) → BookFacts l → first (causes (view l) (cancel id room)) ≡ Ok tt → BookFacts (next l (cancel id room))
 unfolding causes next
 cancel-facts l id room f e =
     let a = cancels id room l.tracking l.confirmation (sought_in id (map bill_terms l.bills)) e in
@@ -199,7 +198,7 @@ cancel-facts l id room f e =
     (bills-kept id cancelled_bill l.bills f.bills (λ b y s. cancelled-sound b s))
     (distinct-kept id cancelled_bill (λ b. refl) l.bills ∙ f.once)
 
-pub next-facts : (l : Book) (c : Call) → BookFacts l → first (causes (view l) c) ≡ Clear → BookFacts (next l c)
+pub next-facts : (l : Book) (c : Call) → BookFacts l → first (causes (view l) c) ≡ Ok tt → BookFacts (next l c)
 unfolding causes next
 next-facts l (request r room) f e = request-facts l r room f e
 next-facts l (calendar q hs room) f e = request-facts l (worked_out q hs l.today) room f (clear-dated (view l) q hs room e)

@@ -10,12 +10,12 @@ use Rattle.fields.proofs.BoolLaws.{cases}
 use Rattle.ledger.specs.declared.Identity.{Identity}
 use Rattle.ledger.specs.declared.Bill.{Bill}
 use Rattle.ledger.specs.declared.Ledger.{Ledger}
-use Rattle.rules.specs.declared.Found.TheVariants.{At, Nothing}
 use Rattle.rules.specs.Lists.{find, has}
 use Rattle.ledger.specs.Bills.{blank_bill}
 use Rattle.ledger.specs.Books.{live, of_id}
 use Rattle.ledger.specs.parts.Places.{bill_at}
 use Rattle.calls.specs.Machine.{bill_of}
+use Rattle.std.specs.Prelude.{Some, None}
 
 -- the first bill that passes the test
 abbrev pub first_of : (Bill → Bool) → List Bill → Bill
@@ -28,8 +28,8 @@ first-of id (b ∷ bs) = rw (first-of id bs)
 
 -- what a search from n on comes to
 data Search (p : Bill → Bool) (n : ℕ) (bs : List Bill) : Type 0 where
-  fails : find p n bs ≡ Nothing → has p bs ≡ false → first_of p bs ≡ blank_bill → Search p n bs
-  hits : (i : ℕ) → i < length bs → find p n bs ≡ At (n + i) → has p bs ≡ true → p (get_or bs i blank_bill) ≡ true
+  fails : find p n bs ≡ None → has p bs ≡ false → first_of p bs ≡ blank_bill → Search p n bs
+  hits : (i : ℕ) → i < length bs → find p n bs ≡ Some (n + i) → has p bs ≡ true → p (get_or bs i blank_bill) ≡ true
       → first_of p bs ≡ get_or bs i blank_bill → Search p n bs
 
 search-from : (p : Bill → Bool) (n : ℕ) (bs : List Bill) → Search p n bs
@@ -37,13 +37,13 @@ search-from p n [] = fails refl refl refl
 search-from p n (b ∷ bs) = cases (p b) here (λ e. there e (search-from p (suc n) bs))
   where
     here : p b ≡ true → Search p n (b ∷ bs)
-    here e = hits 0 (omega arith) (rw e (ap At (omega arith))) (rw e) e (rw e)
+    here e = hits 0 (omega arith) (rw e (ap Some (omega arith))) (rw e) e (rw e)
 
     there : p b ≡ false → Search p (suc n) bs → Search p n (b ∷ bs)
     there e (fails x y z) = fails (rw e x) (rw e y) (rw e z)
     there e (hits i h x y z w) =
         let m : suc n + i ≡ n + suc i = omega arith in
-        hits (suc i) (omega arith) (rw e (x ∙ ap At m)) (rw e y) z (rw e w)
+        hits (suc i) (omega arith) (rw e (x ∙ ap Some m)) (rw e y) z (rw e w)
 
 -- a struct's search that found nothing, and one that found a place
 pub record Spot (p : Bill → Bool) (l : Ledger) (i : ℕ) : Type 0 where
@@ -53,14 +53,14 @@ pub record Spot (p : Bill → Bool) (l : Ledger) (i : ℕ) : Type 0 where
   pub bill : first_of p (live l) ≡ bill_at l i
 
 module _ (p : Bill → Bool) (l : Ledger) where
-  pub spot-none : find p 0 (live l) ≡ Nothing → (has p (live l) ≡ false) × (first_of p (live l) ≡ blank_bill)
+  pub spot-none : find p 0 (live l) ≡ None → (has p (live l) ≡ false) × (first_of p (live l) ≡ blank_bill)
   spot-none e = go (search-from p 0 (live l))
     where
       go : Search p 0 (live l) → (has p (live l) ≡ false) × (first_of p (live l) ≡ blank_bill)
       go (fails x y z) = (y, z)
       go (hits i h x y z w) = let q : ◌≡◌ {A = ℕ} 0 1 = cc in absurd (omega arith)
 
-  pub spot : (i : ℕ) → find p 0 (live l) ≡ At i → Spot p l i
+  pub spot : (i : ℕ) → find p 0 (live l) ≡ Some i → Spot p l i
   spot i e = go (search-from p 0 (live l))
     where
       at : (j : ℕ) → j ≡ i → j < length (live l) → has p (live l) ≡ true → p (get_or (live l) j blank_bill) ≡ true

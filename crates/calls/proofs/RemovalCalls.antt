@@ -15,14 +15,14 @@ use Rattle.ledger.specs.Books.{live, bill_terms, of_account, removed_of, bill_ch
 use Rattle.ledger.specs.parts.Places.{removed_first}
 use Rattle.ledger.specs.Sound.{sound_ledger}
 use Rattle.ledger.proofs.RemovalLaws.{removed-all}
-use Rattle.rules.specs.declared.Check.{Check}
-use Rattle.rules.specs.declared.Check.TheVariants.{Clear}
 use Rattle.rules.specs.Rules.{first}
 use Rattle.causes.specs.declared.AccountRemoval.{AccountRemoval}
 use Rattle.causes.specs.Causes.{removal, removal_causes, causes}
 use Rattle.calls.specs.Machine.{next, next_written, next_verdicts, next_closed, outcome, cause_in, step_in, left_by, answer_by, called}
 use Rattle.calls.specs.Days.{quiet_answer}
 use Rattle.calls.proofs.CallLaws.{cause-sound}
+use Rattle.std.specs.Prelude.{Result, Ok, ⊤}
+use Rattle.rules.specs.declared.Cause.{Cause}
 
 -- a removal leaves each charge
 pub charge-kept : (account : ℕ) (date : Date) (b : Bill) → bill_charge (removed_of account date b) ≡ bill_charge b
@@ -39,13 +39,13 @@ has-terms account (b ∷ bs) = ap (λ (x : Bool). of_account account b || x) (ha
 
 -- the cause on a sound struct is what the check came to
 pub removal-cause : (l : Ledger) (a : AccountRemoval) → sound_ledger l ≡ true → (held : Bool) → held ≡ has (of_account a.account) (live l)
-    → (check k : Check) → check ≡ first (removal_causes a held) → check ≡ k → cause_in l (removal a) ≡ k
+    → (check k : Result ⊤ Cause) → check ≡ first (removal_causes a held) → check ≡ k → cause_in l (removal a) ≡ k
 unfolding causes
 removal-cause l a h held e check k c q =
     cause-sound l (removal a) h ∙ ap (λ (x : Bool). first (removal_causes a x)) (has-terms a.account (live l) ∙ sym e) ∙ sym c ∙ q
 
 -- a removal that is carried out
-pub removal-done : (l : Ledger) (a : AccountRemoval) → l.count ≤ length l.bills → cause_in l (removal a) ≡ Clear
+pub removal-done : (l : Ledger) (a : AccountRemoval) → l.count ≤ length l.bills → cause_in l (removal a) ≡ Ok tt
     → called l (removal a) ≡ record { ledger = removed_first l.count a.account a.date l; answer = quiet_answer 0 }
 unfolding called left_by answer_by step_in outcome next next_written next_verdicts next_closed
 removal-done l a h e =

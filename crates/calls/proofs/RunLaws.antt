@@ -7,22 +7,22 @@ use Rattle.ledger.specs.declared.Ledger.{Ledger}
 use Rattle.ledger.specs.Books.{Book, book, view, stored}
 use Rattle.ledger.specs.Sound.{sound, sound_ledger}
 use Rattle.ledger.proofs.SoundLaws.{book-facts, facts-sound, ledger-book}
-use Rattle.rules.specs.declared.Check.{Check}
-use Rattle.rules.specs.declared.Check.TheVariants.{Clear, Stop}
 use Rattle.rules.specs.Rules.{first}
 use Rattle.group.proofs.GroupWalk.{book-stored}
 use Rattle.causes.specs.Causes.{Call, causes}
 use Rattle.calls.specs.Machine.{cause, next, Outcome, outcome, step, after, outcomes, cause_in, step_in, left_by, answer_by, called, ran, each_called, Runs}
 use Rattle.calls.proofs.NextSound.{next-facts}
+use Rattle.std.specs.Prelude.{Result, Ok, Err, ⊤}
+use Rattle.rules.specs.declared.Cause.{Cause}
 
 stored-sound : (l : Ledger) (k : Book) → sound k ≡ true → sound_ledger (stored l k) ≡ true
 unfolding sound_ledger
 stored-sound l k h = rw (book-stored l k, h, le-leb _ _ (book-facts k h).few)
 
-result-is : (l : Book) (c : Call) (v : Check) → (outcome l c v).result ≡ v
+result-is : (l : Book) (c : Call) (v : Result ⊤ Cause) → (outcome l c v).result ≡ v
 unfolding outcome
-result-is l c Clear = refl
-result-is l c (Stop n) = refl
+result-is l c (Ok tt) = refl
+result-is l c (Err n) = refl
 
 -- ---- one call
 module _ (l : Ledger) (c : Call) (h : sound_ledger l ≡ true) where
@@ -40,21 +40,21 @@ module _ (l : Ledger) (c : Call) (h : sound_ledger l ≡ true) where
 
   called-book : book (called l c).ledger ≡ (step (book l) c).ledger
   unfolding called step left_by outcome
-  called-book = go (cause_in l c) refl ∙ ap (λ (v : Check). (outcome (book l) c v).ledger) cause-in
+  called-book = go (cause_in l c) refl ∙ ap (λ (v : Result ⊤ Cause). (outcome (book l) c v).ledger) cause-in
     where
-      go : (v : Check) → cause_in l c ≡ v → book (left_by l c v) ≡ (outcome (book l) c v).ledger
-      go Clear e = book-stored l (next (book l) c)
-      go (Stop n) e = refl
+      go : (v : Result ⊤ Cause) → cause_in l c ≡ v → book (left_by l c v) ≡ (outcome (book l) c v).ledger
+      go (Ok tt) e = book-stored l (next (book l) c)
+      go (Err n) e = refl
 
   called-sound : sound_ledger (called l c).ledger ≡ true
   unfolding called left_by
   called-sound = go (cause_in l c) refl
     where
-      go : (v : Check) → cause_in l c ≡ v → sound_ledger (left_by l c v) ≡ true
-      go Clear e =
+      go : (v : Result ⊤ Cause) → cause_in l c ≡ v → sound_ledger (left_by l c v) ≡ true
+      go (Ok tt) e =
           stored-sound l (next (book l) c)
           (facts-sound _ (next-facts (book l) c (book-facts (book l) (ledger-book l h)) (sym cause-first ∙ e)))
-      go (Stop n) e = h
+      go (Err n) e = h
 
   called-answer : (called l c).answer ≡ answer_by (step (book l) c) (step (book l) c).result
   unfolding called step

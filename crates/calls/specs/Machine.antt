@@ -1,5 +1,5 @@
 -- "The ledger and its calls": what each call returns, writes and leaves. Assumes nothing.
-use Rattle.std.specs.Prelude.{ℕ, ◌+◌, ◌≡◌, true, cond, List, [], ◌∷◌, ◌++◌, map, length, ℤ, pos, ◌-ℤ◌}
+use Rattle.std.specs.Prelude.{ℕ, ◌+◌, ◌≡◌, true, cond, List, [], ◌∷◌, ◌++◌, map, length, ℤ, pos, ◌-ℤ◌, Result, Ok, Err, ⊤}
 use Rattle.ledger.specs.declared.Identity.{Identity}
 use Rattle.ledger.specs.declared.Bill.{Bill}
 use Rattle.ledger.specs.declared.Ledger.{Ledger}
@@ -9,22 +9,22 @@ use Rattle.ledger.specs.Books.{Book, book, view, stored, of_id, removed_of, tota
 use Rattle.ledger.specs.Sound.{holds_id, sound, sound_ledger}
 use Rattle.notices.specs.Notices.{bil, cxl}
 use Rattle.file.specs.File.{file_groups}
-use Rattle.rules.specs.declared.Check.{Check}
-use Rattle.rules.specs.declared.Check.TheVariants.{Clear, Stop}
-use Rattle.verdict.specs.declared.Verdict.{Verdict}
 use Rattle.rules.specs.Rules.{first}
 use Rattle.group.specs.Groups.{taken, answers, verdicts, is_accepted, is_rejected}
 use Rattle.causes.specs.declared.Start.{Start}
 use Rattle.causes.specs.declared.Request.{Request}
 use Rattle.calls.specs.declared.Called.{Called}
-use Rattle.calls.specs.declared.Answer.{Answer}
-use Rattle.calls.specs.declared.Answer.TheVariants.{Done, Refused}
 use Rattle.causes.specs.Causes.{Call, request, calendar, file, cancel, close, removal, causes, worked_out}
 use Rattle.causes.specs.Requests.{latest_of, new_bill, closes}
+use Rattle.ledger.specs.declared.Posted.{Posted}
+use Rattle.rules.specs.declared.Cause.{Cause}
+use Rattle.rules.specs.declared.ErrorCode.{ErrorCode}
+use Rattle.calls.specs.declared.Returned.{Returned}
+use Rattle.rules.specs.declared.Cause.TheVariants.{BadArgument}
 
 -- "a ledger that isn't sound" is 2; then the causes of the call in their order
-unfoldable pub cause : Book → Call → Check
-cause l c = cond (sound l) (first (causes (view l) c)) (Stop 2)
+unfoldable pub cause : Book → Call → Result ⊤ Cause
+cause l c = cond (sound l) (first (causes (view l) c)) (Err BadArgument)
 
 -- ---- the bill of an identity
 -- the bill with this identity; a blank one stands where there is none
@@ -102,7 +102,7 @@ room_of (close d) = 0
 room_of (removal a) = 0
 
 -- the verdicts of a file's groups
-unfoldable pub next_verdicts : Book → Call → List Verdict
+unfoldable pub next_verdicts : Book → Call → List (Result Posted ErrorCode)
 next_verdicts l (request r room) = []
 next_verdicts l (calendar q hs room) = []
 next_verdicts l (file s room) = verdicts [] l (file_groups s)
@@ -126,20 +126,20 @@ total l = total_of l.bills
 -- what a call comes to: whether it was carried out (Clear) or refused with a number (Stop), the ledger, "the signed change: new posted total
 -- minus old", the bytes written, the verdicts of a file's groups with how many it accepted and rejected, how many bills a close closed
 pub record Outcome : Type 0 where
-  pub result : Check
+  pub result : Result ⊤ Cause
   pub ledger : Book
   pub change : ℤ
   pub written : List ℕ
-  pub verdicts : List Verdict
+  pub verdicts : List (Result Posted ErrorCode)
   pub accepted : ℕ
   pub rejected : ℕ
   pub closed : ℕ
 
 -- "Returned is the number alone; ledger and output stay as they were."
-unfoldable pub outcome : Book → Call → Check → Outcome
-outcome l c Clear =
+unfoldable pub outcome : Book → Call → Result ⊤ Cause → Outcome
+outcome l c (Ok tt) =
     record {
-      result = Clear;
+      result = Ok tt;
       ledger = next l c;
       change = pos (total (next l c)) -ℤ pos (total l);
       written = next_written l c;
@@ -148,8 +148,8 @@ outcome l c Clear =
       rejected = count is_rejected (next_verdicts l c);
       closed = next_closed l c;
     }
-outcome l c (Stop n) =
-    record { result = Stop n; ledger = l; change = pos 0; written = []; verdicts = []; accepted = 0; rejected = 0; closed = 0 }
+outcome l c (Err n) =
+    record { result = Err n; ledger = l; change = pos 0; written = []; verdicts = []; accepted = 0; rejected = 0; closed = 0 }
 
 unfoldable pub step : Book → Call → Outcome
 step l c = outcome l c (cause l c)
@@ -170,21 +170,21 @@ outcomes l [] = []
 outcomes l (c ∷ cs) = step l c ∷ outcomes (step l c).ledger cs
 
 -- ---- the same on the struct, whose count may be past its places: then it is not sound
-unfoldable pub cause_in : Ledger → Call → Check
-cause_in l c = cond (sound_ledger l) (first (causes (view (book l)) c)) (Stop 2)
+unfoldable pub cause_in : Ledger → Call → Result ⊤ Cause
+cause_in l c = cond (sound_ledger l) (first (causes (view (book l)) c)) (Err BadArgument)
 
 unfoldable pub step_in : Ledger → Call → Outcome
 step_in l c = outcome (book l) c (cause_in l c)
 
 -- the struct that it leaves: past its bills it holds what it held
-unfoldable pub left_by : Ledger → Call → Check → Ledger
-left_by l c Clear = stored l (next (book l) c)
-left_by l c (Stop n) = l
+unfoldable pub left_by : Ledger → Call → Result ⊤ Cause → Ledger
+left_by l c (Ok tt) = stored l (next (book l) c)
+left_by l c (Err n) = l
 
 -- document 01's number and values for each case of the answer
-unfoldable pub answer_by : Outcome → Check → Answer
-answer_by o Clear =
-    Done
+unfoldable pub answer_by : Outcome → Result ⊤ Cause → Result Returned Cause
+answer_by o (Ok tt) =
+    Ok
     (record {
       change = o.change;
       written = length o.written;
@@ -192,7 +192,7 @@ answer_by o Clear =
       rejected = o.rejected;
       closed = o.closed;
     })
-answer_by o (Stop n) = Refused n
+answer_by o (Err n) = Err n
 
 -- what a call by value gives back
 unfoldable pub called : Ledger → Call → Called

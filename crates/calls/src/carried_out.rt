@@ -3,15 +3,16 @@ ghost use Rattle.std.specs.Prelude.{◌≡◌, ◌<◌, ◌^◌};
 ghost use Rattle.calls.specs.parts.Answers.{noticed, cleared};
 ghost use Rattle.calls.specs.Days.{quiet_answer};
 
-use crate::{Answer, Returned};
+use crate::Returned;
 use group::Tally;
+use rules::Cause;
 use units::Cents;
 
 // The answer of a call that wrote a notice of two records.
-pub fn noticed(change: i64) -> Answer
+pub fn noticed(change: i64) -> Result<Returned, Cause>
     ensures { result ≡ noticed change }
 {
-    Answer::Done(Returned {
+    Ok(Returned {
         change,
         written: records::NOTICE_SIZE,
         accepted: 0,
@@ -21,10 +22,10 @@ pub fn noticed(change: i64) -> Answer
 }
 
 // What a call that writes and posts nothing returns.
-pub fn quiet(closed: u64) -> Answer
+pub fn quiet(closed: u64) -> Result<Returned, Cause>
     ensures { result ≡ quiet_answer closed }
 {
-    Answer::Done(Returned {
+    Ok(Returned {
         change: 0,
         written: 0,
         accepted: 0,
@@ -34,12 +35,12 @@ pub fn quiet(closed: u64) -> Answer
 }
 
 // What a file that was taken returns: the change is what came less what went.
-pub fn cleared(c: Tally) -> Answer
+pub fn cleared(c: Tally) -> Result<Returned, Cause>
     requires { (c.came < 2 ^ 63) × (c.went < 2 ^ 63) }
     ensures { result ≡ cleared c }
 {
     let change = ledger::books::signed_change(Cents(c.came), Cents(c.went));
-    Answer::Done(Returned {
+    Ok(Returned {
         change,
         written: c.written,
         accepted: c.accepted,

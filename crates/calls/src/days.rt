@@ -9,10 +9,10 @@ ghost use Rattle.calls.specs.Machine.{called};
 ghost use Rattle.calls.specs.Days.{fresh_called};
 ghost use Rattle.ledger.specs.Limits.{ledger_places};
 
-use crate::{Answer, Called, carried_out};
+use crate::{Called, carried_out};
 use causes::{Start, checks};
 use ledger::Ledger;
-use rules::Check;
+use rules::Cause;
 use units::Date;
 
 // Begins a history: whatever the ledger held is gone.
@@ -21,11 +21,11 @@ pub fn fresh(l: Ledger, s: Start) -> Called
 {
     let check = checks::fresh_check(s);
     match check {
-        Check::Stop(n) => Called {
+        Err(cause) => Called {
             ledger: l,
-            answer: Answer::Refused(n),
+            answer: Err(cause),
         },
-        Check::Clear => Called {
+        Ok(()) => Called {
             ledger: Ledger::empty(s.today, s.tracking, s.confirmation),
             answer: carried_out::quiet(0),
         },
@@ -57,11 +57,11 @@ fn close_on_sound(l: Ledger, d: Date) -> Called
     let today = l.today;
     let check = checks::close_check(d, today);
     match check {
-        Check::Stop(n) => Called {
+        Err(cause) => Called {
             ledger: l,
-            answer: Answer::Refused(n),
+            answer: Err(cause),
         },
-        Check::Clear => {
+        Ok(()) => {
             let closed = closed_by(l, d);
             let mut next = l;
             next.today = d;
@@ -80,7 +80,7 @@ pub fn close_day(l: Ledger, d: Date) -> Called
     if !sound_ledger::sound(l) {
         return Called {
             ledger: l,
-            answer: Answer::Refused(2),
+            answer: Err(Cause::BadArgument),
         };
     }
     close_on_sound(l, d)

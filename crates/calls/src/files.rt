@@ -5,9 +5,9 @@ ghost use Rattle.ledger.specs.Sound.{sound_ledger};
 ghost use Rattle.causes.specs.Causes.{file};
 ghost use Rattle.calls.specs.Machine.{step_in, called};
 
-use crate::{Answer, Called, carried_out};
+use crate::{Called, carried_out};
 use ledger::Ledger;
-use rules::Check;
+use rules::Cause;
 
 // Takes a supplier file on a ledger that is known to be sound.
 fn file_on_sound(l: Ledger, out: &mut [u8], s: &[u8]) -> Called
@@ -16,11 +16,11 @@ fn file_on_sound(l: Ledger, out: &mut [u8], s: &[u8]) -> Called
 {
     let check = causes::checks::file_check(s, out.len(), l.next_tracking, l.next_confirmation);
     match check {
-        Check::Stop(n) => Called {
+        Err(cause) => Called {
             ledger: l,
-            answer: Answer::Refused(n),
+            answer: Err(cause),
         },
-        Check::Clear => {
+        Ok(()) => {
             let t = groups::take_groups(l, out, s, s.len() / records::RECORD_SIZE);
             let next = t.ledger;
             let c = t.tally;
@@ -40,7 +40,7 @@ pub fn take_file(l: Ledger, out: &mut [u8], s: &[u8]) -> Called
     if !sound_ledger::sound(l) {
         return Called {
             ledger: l,
-            answer: Answer::Refused(2),
+            answer: Err(Cause::BadArgument),
         };
     }
     file_on_sound(l, out, s)

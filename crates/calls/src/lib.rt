@@ -7,6 +7,7 @@ pub mod files;
 pub mod removals;
 
 use ledger::Ledger;
+use rules::Cause;
 
 // What a call that was carried out returns: the signed change in cents, how many bytes it wrote, of a file how many groups were
 // accepted and rejected, of a close how many bills it closed.
@@ -19,16 +20,9 @@ pub struct Returned {
     pub closed: u64,
 }
 
-// A call was carried out, or refused with the number of its cause.
-#[derive(Clone, Copy)]
-pub enum Answer {
-    Done(Returned),
-    Refused(u64),
-}
-
-// The ledger that a call leaves, and its answer.
+// The ledger that a call leaves, and its answer: what it returned, or the cause against it.
 #[derive(Clone, Copy)]
 pub struct Called {
     pub ledger: Ledger,
-    pub answer: Answer,
+    pub answer: Result<Returned, Cause>,
 }

@@ -8,10 +8,10 @@ ghost use Rattle.ledger.specs.Limits.{ledger_places};
 ghost use Rattle.causes.specs.Causes.{removal};
 ghost use Rattle.calls.specs.Machine.{called};
 
-use crate::{Answer, Called, carried_out};
+use crate::{Called, carried_out};
 use causes::{AccountRemoval, checks};
 use ledger::Ledger;
-use rules::Check;
+use rules::Cause;
 
 // Whether a bill of the account is held.
 fn has_account(l: Ledger, account: u64) -> bool
@@ -57,11 +57,11 @@ fn remove_on_sound(l: Ledger, a: AccountRemoval) -> Called
     let held = has_account(l, a.account);
     let check = checks::removal_check(a, held);
     match check {
-        Check::Stop(n) => Called {
+        Err(cause) => Called {
             ledger: l,
-            answer: Answer::Refused(n),
+            answer: Err(cause),
         },
-        Check::Clear => {
+        Ok(()) => {
             let next = removed(l, a);
             Called {
                 ledger: next,
@@ -78,7 +78,7 @@ pub fn remove_account(l: Ledger, a: AccountRemoval) -> Called
     if !sound_ledger::sound(l) {
         return Called {
             ledger: l,
-            answer: Answer::Refused(2),
+            answer: Err(Cause::BadArgument),
         };
     }
     remove_on_sound(l, a)

@@ -16,21 +16,19 @@ use Rattle.ledger.specs.Bills.{code_bytes, product_byte}
 use Rattle.ledger.specs.declared.Identity.{Identity}
 use Rattle.ledger.specs.declared.Terms.{Terms}
 use Rattle.ledger.specs.declared.Bill as bill
-use Rattle.rules.specs.declared.Found.{Found}
-use Rattle.rules.specs.declared.Found.TheVariants as found
 use Rattle.group.specs.parts.Turns.{sought_by}
 use Rattle.causes.specs.parts.Decisions.{SoundAt, CanRenew}
 use Rattle.rules.specs.Lists.{all, count}
 use Rattle.file.specs.File.{good_file, file_groups, asks_id}
-use Rattle.verdict.specs.declared.Sought.{Sought}
-use Rattle.verdict.specs.declared.Sought.TheVariants.{Bill, Nothing}
-use Rattle.rules.specs.declared.Check.TheVariants.{Clear}
 use Rattle.rules.specs.Rules.{Rule, rule, first}
 use Rattle.verdict.specs.Lines.{is_nothing, terms_of}
-use Rattle.group.proofs.AcceptedLaws.{clear-off}
+use Rattle.rules.proofs.RuleLaws.{clear-off}
 use Rattle.causes.specs.declared.Request.{Request}
 use Rattle.causes.specs.declared.AccountRemoval.{AccountRemoval}
 use Rattle.causes.specs.Causes.{good_identity, five_of, request_tests, lacks, bill_causes, request_causes, file_causes, cancel_causes, close_causes, removal_causes}
+use Rattle.std.specs.Prelude.{Option, Some, None, Ok}
+use Rattle.rules.specs.declared.Cause.TheVariants.{ConsumptionUnchanged, SequenceUsedUp}
+use Rattle.rules.specs.declared.Cause.{Cause}
 
 -- the numbers that a call needs are left
 pub enough : (tracking confirmation t c : ℕ) → lacks tracking confirmation t c ≡ false
@@ -41,28 +39,28 @@ enough tracking confirmation t c e =
 
 -- ---- a request
 -- of a known bill's causes, those after 6: they are left where 5 and 6 do not hold
-abbrev pub after-6 : Request → Terms → List Rule
-after-6 r t = rule (eqb r.consumption.0 t.latest.consumption.0) 7 ∷ rule (eqb t.sequence last_sequence) 8 ∷ []
+abbrev pub after-6 : Request → Terms → List (Rule Cause)
+after-6 r t = rule (eqb r.consumption.0 t.latest.consumption.0) ConsumptionUnchanged ∷ rule (eqb t.sequence last_sequence) SequenceUsedUp ∷ []
 
-pub known-past-6 : (r : Request) (held : ℕ) (b : Sought) (t : Terms) → b ≡ Bill t → t.cancelled ≡ false
+pub known-past-6 : (r : Request) (held : ℕ) (b : Option Terms) (t : Terms) → b ≡ Some t → t.cancelled ≡ false
     → not (same_list (five_of r.code) (code_bytes t.code) && eqb r.product (product_byte t.product)) ≡ false
     → first (bill_causes r held b) ≡ first (after-6 r t)
 unfolding bill_causes
 known-past-6 r held b t e d f = rw (e, d, f)
 
-pub record Asks (r : Request) (room : ℕ) (today : Date) (tracking confirmation held : ℕ) (b : Sought) : Type 0 where
+pub record Asks (r : Request) (room : ℕ) (today : Date) (tracking confirmation held : ℕ) (b : Option Terms) : Type 0 where
   pub good : all (request_tests r) ≡ true
   pub wide : 642 ≤ room
   pub due : today.0 ≤ r.scheduled.0
   pub left : (tracking + 1 ≤ 1000000000) × (confirmation + 1 ≤ 1000000000)
-  pub known : (t : Terms) → b ≡ Bill t → (t.cancelled ≡ false) × (t.sequence ≡ 999 → ⊥)
-  pub new : b ≡ Nothing → held < 128
+  pub known : (t : Terms) → b ≡ Some t → (t.cancelled ≡ false) × (t.sequence ≡ 999 → ⊥)
+  pub new : b ≡ None → held < 128
 
-pub asks : (r : Request) (room : ℕ) (today : Date) (tracking confirmation held : ℕ) (b : Sought)
-    → first (request_causes r room today tracking confirmation held b) ≡ Clear → Asks r room today tracking confirmation held b
+pub asks : (r : Request) (room : ℕ) (today : Date) (tracking confirmation held : ℕ) (b : Option Terms)
+    → first (request_causes r room today tracking confirmation held b) ≡ Ok tt → Asks r room today tracking confirmation held b
 unfolding request_causes bill_causes
-asks r room today tracking confirmation held (Bill t) e =
-    let o = clear-off (request_causes r room today tracking confirmation held (Bill t)) e in
+asks r room today tracking confirmation held (Some t) e =
+    let o = clear-off (request_causes r room today tracking confirmation held (Some t)) e in
     record {
       good = not-false _ o.0;
       wide = ltb-false _ _ o.1.0;
@@ -75,8 +73,8 @@ asks r room today tracking confirmation held (Bill t) e =
           rw z at p;
       new = λ s. let z : ◌≡◌ {A = ℕ} 0 1 = cc in absurd (omega native.Mathlib.Omega.arith);
     }
-asks r room today tracking confirmation held Nothing e =
-    let o = clear-off (request_causes r room today tracking confirmation held Nothing) e in
+asks r room today tracking confirmation held None e =
+    let o = clear-off (request_causes r room today tracking confirmation held None) e in
     record {
       good = not-false _ o.0;
       wide = ltb-false _ _ o.1.0;
@@ -92,7 +90,7 @@ pub record Sends (s : List ℕ) (room tracking confirmation : ℕ) : Type 0 wher
   pub wide : length s ≤ room
   pub left : (tracking + count asks_id (file_groups s) ≤ 1000000000) × (confirmation + length (file_groups s) ≤ 1000000000)
 
-pub sends : (s : List ℕ) (room tracking confirmation : ℕ) → first (file_causes s room tracking confirmation) ≡ Clear
+pub sends : (s : List ℕ) (room tracking confirmation : ℕ) → first (file_causes s room tracking confirmation) ≡ Ok tt
     → Sends s room tracking confirmation
 unfolding file_causes
 sends s room tracking confirmation e =
@@ -104,14 +102,14 @@ sends s room tracking confirmation e =
     }
 
 -- ---- a cancel
-pub record Cancels (id : Identity) (room tracking confirmation : ℕ) (b : Sought) : Type 0 where
+pub record Cancels (id : Identity) (room tracking confirmation : ℕ) (b : Option Terms) : Type 0 where
   pub good : good_identity id ≡ true
   pub wide : 642 ≤ room
   pub known : is_nothing b ≡ false
   pub alive : (terms_of b).cancelled ≡ false
   pub left : (tracking + 1 ≤ 1000000000) × (confirmation + 1 ≤ 1000000000)
 
-pub cancels : (id : Identity) (room tracking confirmation : ℕ) (b : Sought) → first (cancel_causes id room tracking confirmation b) ≡ Clear
+pub cancels : (id : Identity) (room tracking confirmation : ℕ) (b : Option Terms) → first (cancel_causes id room tracking confirmation b) ≡ Ok tt
     → Cancels id room tracking confirmation b
 unfolding cancel_causes
 cancels id room tracking confirmation b e =
@@ -125,7 +123,7 @@ cancels id room tracking confirmation b e =
     }
 
 -- ---- a close
-pub closes-on : (d today : Date) → first (close_causes d today) ≡ Clear → is_date d.0 ≡ true
+pub closes-on : (d today : Date) → first (close_causes d today) ≡ Ok tt → is_date d.0 ≡ true
 unfolding close_causes
 closes-on d today e = not-false _ (clear-off (close_causes d today) e).0
 
@@ -135,7 +133,7 @@ pub record Removes (a : AccountRemoval) (held : Bool) : Type 0 where
   pub date : is_date a.date.0 ≡ true
   pub some : held ≡ true
 
-pub removes : (a : AccountRemoval) (held : Bool) → first (removal_causes a held) ≡ Clear → Removes a held
+pub removes : (a : AccountRemoval) (held : Bool) → first (removal_causes a held) ≡ Ok tt → Removes a held
 unfolding removal_causes
 removes a held e =
     let o = clear-off (removal_causes a held) e in
@@ -147,9 +145,9 @@ removes a held e =
     }
 
 -- a known bill that no cause is against has room for a request more
-pub renews : (r : Request) (room : ℕ) (today : Date) (tracking confirmation held : ℕ) (f : Found) (b : bill.Bill) → SoundAt f b
-    → first (request_causes r room today tracking confirmation held (sought_by f b)) ≡ Clear → CanRenew f b
-renews r room today tracking confirmation held found.Nothing b h e = tt
-renews r room today tracking confirmation held (found.At p) b h e =
-    let n = ((asks r room today tracking confirmation held (sought_by (found.At p) b) e).known b.terms refl).1 in
+pub renews : (r : Request) (room : ℕ) (today : Date) (tracking confirmation held : ℕ) (f : Option ℕ) (b : bill.Bill) → SoundAt f b
+    → first (request_causes r room today tracking confirmation held (sought_by f b)) ≡ Ok tt → CanRenew f b
+renews r room today tracking confirmation held None b h e = tt
+renews r room today tracking confirmation held (Some p) b h e =
+    let n = ((asks r room today tracking confirmation held (sought_by (Some p) b) e).known b.terms refl).1 in
     (h.0, omega (native.Mathlib.Omega.arith, h.1, n))

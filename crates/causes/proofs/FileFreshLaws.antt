@@ -14,11 +14,12 @@ use Rattle.rules.proofs.ListLaws.{all-joined}
 use Rattle.records.specs.Layout.{records_from}
 use Rattle.records.proofs.LayoutLaws.{length-records}
 use Rattle.file.specs.File.{records, good_record, headed, good_file, is_header, Group, leading, groups, file_groups, asks_id}
-use Rattle.rules.specs.declared.Check.{Check}
-use Rattle.rules.specs.declared.Check.TheVariants.{Clear, Stop}
 use Rattle.rules.specs.Rules.{first}
 use Rattle.causes.specs.declared.Start.{Start}
 use Rattle.causes.specs.Causes.{is_number, start_tests, lacks, fresh_causes, file_causes}
+use Rattle.std.specs.Prelude.{Result, Ok, Err, ⊤}
+use Rattle.rules.specs.declared.Cause.{Cause}
+use Rattle.rules.specs.declared.Cause.TheVariants.{OutputTooSmall, BadArgument, BadFile, TooFewNumbers}
 
 -- ---- how long a file is, and how many groups it has
 pub good-short : (s : List ℕ) → good_file s ≡ true → length s ≤ 64200
@@ -79,32 +80,32 @@ module _ (s : List ℕ) (tracking confirmation : ℕ) where
   short-is n ids e f = rw (e, f)
 
 module _ (s : List ℕ) (room tracking confirmation : ℕ) where
-  abbrev asked : Check
+  abbrev asked : Result ⊤ Cause
   asked = first (file_causes s room tracking confirmation)
 
-  pub stop-bad : good_file s ≡ false → Stop 11 ≡ asked
+  pub stop-bad : good_file s ≡ false → Err BadFile ≡ asked
   unfolding file_causes
   stop-bad a = rw a
 
-  pub stop-room : good_file s ≡ true → ltb room (length s) ≡ true → Stop 1 ≡ asked
+  pub stop-room : good_file s ≡ true → ltb room (length s) ≡ true → Err OutputTooSmall ≡ asked
   unfolding file_causes
   stop-room a b = rw (a, b)
 
-  pub stop-numbers : good_file s ≡ true → ltb room (length s) ≡ false → short s tracking confirmation ≡ true → Stop 12 ≡ asked
+  pub stop-numbers : good_file s ≡ true → ltb room (length s) ≡ false → short s tracking confirmation ≡ true → Err TooFewNumbers ≡ asked
   unfolding file_causes
   stop-numbers a b c = rw (a, b, c)
 
-  pub no-cause : good_file s ≡ true → ltb room (length s) ≡ false → short s tracking confirmation ≡ false → Clear ≡ asked
+  pub no-cause : good_file s ≡ true → ltb room (length s) ≡ false → short s tracking confirmation ≡ false → (Ok tt) ≡ asked
   unfolding file_causes
   no-cause a b c = rw (a, b, c)
 
 -- ---- fresh
 -- the code's tests, joined from the left
 module _ (s : Start) (a b c : Bool) (p : a ≡ is_date s.today.0) (q : b ≡ is_number s.tracking) (r : c ≡ is_number s.confirmation) where
-  pub fresh-tested : (t : Bool) → (a && b && c) ≡ t → first (fresh_causes s) ≡ cond t Clear (Stop 2)
+  pub fresh-tested : (t : Bool) → (a && b && c) ≡ t → first (fresh_causes s) ≡ cond t (Ok tt) (Err BadArgument)
   unfolding fresh_causes start_tests
   fresh-tested t e = rw (sym (all-joined (is_date s.today.0) (is_number s.tracking ∷ is_number s.confirmation ∷ [])), ← p, ← q, ← r, e) (by t)
     where
-      by : (t : Bool) → cond (not t) (Stop 2) Clear ≡ cond t Clear (Stop 2)
+      by : (t : Bool) → cond {A = Result ⊤ Cause} (not t) (Err BadArgument) (Ok tt) ≡ cond t (Ok tt) (Err BadArgument)
       by true = refl
       by false = refl

@@ -1,5 +1,5 @@
 -- "Causes": the calls with their arguments, and the causes of each in its order, without the ledger part of 2. Assumes nothing.
-use Rattle.std.specs.Prelude.{ℕ, ◌+◌, Bool, not, ◌&&◌, ◌||◌, List, [], ◌∷◌, ◌++◌, eqb, leb, ltb, length, get_or}
+use Rattle.std.specs.Prelude.{ℕ, ◌+◌, Bool, not, ◌&&◌, ◌||◌, List, [], ◌∷◌, ◌++◌, eqb, leb, ltb, length, get_or, Option, Some, None}
 use Rattle.fields.specs.Digits.{fits}
 use Rattle.fields.specs.Put.{same_list}
 use Rattle.units.specs.declared.Date.{Date}
@@ -12,8 +12,6 @@ use Rattle.rules.specs.Lists.{has, count, all}
 use Rattle.ledger.specs.Bills.{is_of_account, is_rate_code, code_bytes, product_byte}
 use Rattle.ledger.specs.Books.{View}
 use Rattle.file.specs.File.{good_file, file_groups, asks_id}
-use Rattle.verdict.specs.declared.Sought.{Sought}
-use Rattle.verdict.specs.declared.Sought.TheVariants.{Bill, Nothing}
 use Rattle.rules.specs.Rules.{Rule, rule}
 use Rattle.verdict.specs.Lines.{is_nothing, terms_of}
 use Rattle.group.specs.Groups.{sought_in}
@@ -24,6 +22,9 @@ use Rattle.causes.specs.declared.CalendarRequest.{CalendarRequest}
 use Rattle.causes.specs.declared.AccountRemoval.{AccountRemoval}
 use Rattle.ledger.specs.Limits.{ledger_places, last_sequence, last_number, used_up}
 use Rattle.records.specs.Limits.{notice_size}
+use Rattle.ledger.specs.declared.Terms.{Terms}
+use Rattle.rules.specs.declared.Cause.TheVariants.{OutputTooSmall, BadArgument, LedgerFull, NoSuchBill, BillCancelled, OtherCodeOrProduct, ConsumptionUnchanged, SequenceUsedUp, ScheduledBeforeToday, NotAfterToday, BadFile, TooFewNumbers}
+use Rattle.rules.specs.declared.Cause.{Cause}
 
 -- "The list holds each call with its arguments, file bytes and the length of the output lent to it": room is that length. Paper 1 of document 02 adds the
 -- request that leaves its Scheduled Date to the calendar, with the holidays lent to it; paper 2, "Demand 3's list and its history take in removals", the removal of an account
@@ -76,29 +77,29 @@ lacks tracking confirmation t c = ltb used_up (tracking + t) || ltb used_up (con
 
 -- ---- the causes of each call in their order
 -- "Fresh: 2."
-unfoldable pub fresh_causes : Start → List Rule
-fresh_causes s = rule (not (all (start_tests s))) 2 ∷ []
+unfoldable pub fresh_causes : Start → List (Rule Cause)
+fresh_causes s = rule (not (all (start_tests s))) BadArgument ∷ []
 
 -- "5, 6, 7, 8 for a known bill or 3 for a new one", where so many bills are held
-unfoldable pub bill_causes : Request → ℕ → Sought → List Rule
-bill_causes r held (Bill t) =
-    rule t.cancelled 5
-    ∷ rule (not (same_list (five_of r.code) (code_bytes t.code) && eqb r.product (product_byte t.product))) 6
-    ∷ rule (eqb r.consumption.0 t.latest.consumption.0) 7
-    ∷ rule (eqb t.sequence last_sequence) 8
+unfoldable pub bill_causes : Request → ℕ → Option Terms → List (Rule Cause)
+bill_causes r held (Some t) =
+    rule t.cancelled BillCancelled
+    ∷ rule (not (same_list (five_of r.code) (code_bytes t.code) && eqb r.product (product_byte t.product))) OtherCodeOrProduct
+    ∷ rule (eqb r.consumption.0 t.latest.consumption.0) ConsumptionUnchanged
+    ∷ rule (eqb t.sequence last_sequence) SequenceUsedUp
     ∷ []
-bill_causes r held Nothing = rule (leb ledger_places held) 3 ∷ []
+bill_causes r held None = rule (leb ledger_places held) LedgerFull ∷ []
 
 -- "Request: 2, 1, 9, then 5, 6, 7, 8 for a known bill or 3 for a new one, 12."
-abbrev pub causes_after2 : Request → ℕ → Date → ℕ → ℕ → ℕ → Sought → List Rule
+abbrev pub causes_after2 : Request → ℕ → Date → ℕ → ℕ → ℕ → Option Terms → List (Rule Cause)
 causes_after2 r room today tracking confirmation held b =
-    rule (ltb room notice_size) 1
-    ∷ rule (ltb r.scheduled.0 today.0) 9
-    ∷ (bill_causes r held b ++ (rule (lacks tracking confirmation 1 1) 12 ∷ []))
+    rule (ltb room notice_size) OutputTooSmall
+    ∷ rule (ltb r.scheduled.0 today.0) ScheduledBeforeToday
+    ∷ (bill_causes r held b ++ (rule (lacks tracking confirmation 1 1) TooFewNumbers ∷ []))
 
-unfoldable pub request_causes : Request → ℕ → Date → ℕ → ℕ → ℕ → Sought → List Rule
+unfoldable pub request_causes : Request → ℕ → Date → ℕ → ℕ → ℕ → Option Terms → List (Rule Cause)
 request_causes r room today tracking confirmation held b =
-    rule (not (all (request_tests r))) 2 ∷ causes_after2 r room today tracking confirmation held b
+    rule (not (all (request_tests r))) BadArgument ∷ causes_after2 r room today tracking confirmation held b
 
 -- ---- paper 1 of document 02: the request by calendar
 -- "A request may then leave its Scheduled Date to the calendar, counted from today": the request with the date worked out
@@ -118,46 +119,46 @@ abbrev pub worked_out : CalendarRequest → List ℕ → Date → Request
 worked_out q hs today = on_date q.request (date_of (number_in (business_day hs today.0 q.number)))
 
 -- "14, .. after 2 of the same call; 15, .. after 14; both before 1": 2, 14 and 15 of the request and of the business day counted from today
-unfoldable pub schedule_causes : CalendarRequest → List ℕ → Date → List Rule
-schedule_causes q hs today = rule (not (all (undated_tests q.request))) 2 ∷ further_causes hs today.0 q.number
+unfoldable pub schedule_causes : CalendarRequest → List ℕ → Date → List (Rule Cause)
+schedule_causes q hs today = rule (not (all (undated_tests q.request))) BadArgument ∷ further_causes hs today.0 q.number
 
-unfoldable pub calendar_causes : CalendarRequest → List ℕ → ℕ → Date → ℕ → ℕ → ℕ → Sought → List Rule
+unfoldable pub calendar_causes : CalendarRequest → List ℕ → ℕ → Date → ℕ → ℕ → ℕ → Option Terms → List (Rule Cause)
 calendar_causes q hs room today tracking confirmation held b =
     schedule_causes q hs today ++ causes_after2 (worked_out q hs today) room today tracking confirmation held b
 
 -- ---- the other calls
 
 -- "File: 2, 11, 1, 12.": "each group a Confirmation, each SUP header a Tracking"
-unfoldable pub file_causes : List ℕ → ℕ → ℕ → ℕ → List Rule
+unfoldable pub file_causes : List ℕ → ℕ → ℕ → ℕ → List (Rule Cause)
 file_causes s room tracking confirmation =
-    rule (not (good_file s)) 11
-    ∷ rule (ltb room (length s)) 1
-    ∷ rule (lacks tracking confirmation (count asks_id (file_groups s)) (length (file_groups s))) 12
+    rule (not (good_file s)) BadFile
+    ∷ rule (ltb room (length s)) OutputTooSmall
+    ∷ rule (lacks tracking confirmation (count asks_id (file_groups s)) (length (file_groups s))) TooFewNumbers
     ∷ []
 
 -- "Cancel: 2, 1, 4, 5, 12."
-unfoldable pub cancel_causes : Identity → ℕ → ℕ → ℕ → Sought → List Rule
+unfoldable pub cancel_causes : Identity → ℕ → ℕ → ℕ → Option Terms → List (Rule Cause)
 cancel_causes id room tracking confirmation b =
-    rule (not (good_identity id)) 2
-    ∷ rule (ltb room notice_size) 1
-    ∷ rule (is_nothing b) 4
-    ∷ rule (terms_of b).cancelled 5
-    ∷ rule (lacks tracking confirmation 1 1) 12
+    rule (not (good_identity id)) BadArgument
+    ∷ rule (ltb room notice_size) OutputTooSmall
+    ∷ rule (is_nothing b) NoSuchBill
+    ∷ rule (terms_of b).cancelled BillCancelled
+    ∷ rule (lacks tracking confirmation 1 1) TooFewNumbers
     ∷ []
 
 -- "Close: 2, 10.": "date not after today"
-unfoldable pub close_causes : Date → Date → List Rule
-close_causes d today = rule (not (is_date d.0)) 2 ∷ rule (not (ltb today.0 d.0)) 10 ∷ []
+unfoldable pub close_causes : Date → Date → List (Rule Cause)
+close_causes d today = rule (not (is_date d.0)) BadArgument ∷ rule (not (ltb today.0 d.0)) NotAfterToday ∷ []
 
 -- paper 2 of document 02: "The call gives 2, or 4 for an account without bills." held says that there is one
 abbrev pub good_removal : AccountRemoval → Bool
 good_removal a = fits 12 a.account && is_date a.date.0
 
-unfoldable pub removal_causes : AccountRemoval → Bool → List Rule
-removal_causes a held = rule (not (good_removal a)) 2 ∷ rule (not held) 4 ∷ []
+unfoldable pub removal_causes : AccountRemoval → Bool → List (Rule Cause)
+removal_causes a held = rule (not (good_removal a)) BadArgument ∷ rule (not held) NoSuchBill ∷ []
 
 -- the causes of a call, read on a view
-unfoldable pub causes : View → Call → List Rule
+unfoldable pub causes : View → Call → List (Rule Cause)
 causes v (request r room) =
     request_causes r room v.today v.tracking v.confirmation (length v.bills) (sought_in r.identity v.bills)
 causes v (calendar q hs room) =

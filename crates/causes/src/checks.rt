@@ -10,10 +10,9 @@ ghost use Rattle.ledger.specs.Limits.{used_up};
 ghost use Rattle.records.specs.Limits.{file_records};
 
 use crate::{AccountRemoval, CodeField, Request, Start};
-use ledger::{Bill, Identity, LedgerHeader, RateCode};
-use rules::Check;
+use ledger::{Bill, Identity, LedgerHeader, RateCode, Terms};
+use rules::Cause;
 use units::Date;
-use verdict::Sought;
 
 // Whether t Tracking IDs and c Confirmation Numbers are more than are left.
 pub fn lacks(tracking: u64, confirmation: u64, t: u64, c: u64) -> bool
@@ -92,95 +91,92 @@ pub fn good_request(r: Request) -> bool
 }
 
 // The causes against a request for a known bill, or for a new one where so many bills are held.
-fn bill_check(r: Request, held: usize, b: Sought) -> Check
+fn bill_check(r: Request, held: usize, b: Option<Terms>) -> Result<(), Cause>
     ensures { result ≡ first (bill_causes r held b) }
 {
-    let Sought::Bill(t) = b else {
+    let Some(t) = b else {
         if ledger::PLACES <= held {
-            return Check::Stop(3);
+            return Err(Cause::LedgerFull);
         }
-        return Check::Clear;
+        return Ok(());
     };
     let cancelled = t.cancelled;
     if cancelled {
-        return Check::Stop(5);
+        return Err(Cause::BillCancelled);
     }
     let code = r.code;
     let product = t.product;
     if !(same_code(code, t.code) & (r.product == product.byte())) {
-        return Check::Stop(6);
+        return Err(Cause::OtherCodeOrProduct);
     }
     let consumption = r.consumption;
     if consumption.same(t.latest.consumption) {
-        return Check::Stop(7);
+        return Err(Cause::ConsumptionUnchanged);
     }
     if t.sequence == ledger::LAST_SEQUENCE {
-        return Check::Stop(8);
+        return Err(Cause::SequenceUsedUp);
     }
-    Check::Clear
+    Ok(())
 }
 
 // The first cause against a request of a sound ledger.
-pub fn request_check(r: Request, room: usize, h: LedgerHeader, b: Sought) -> Check
+pub fn request_check(r: Request, room: usize, h: LedgerHeader, b: Option<Terms>) -> Result<(), Cause>
     requires { (h.tracking ≤ used_up) × (h.confirmation ≤ used_up) }
     ensures { result ≡ first (request_causes r room h.today h.tracking h.confirmation h.count b) }
 {
     if !good_request(r) {
-        return Check::Stop(2);
+        return Err(Cause::BadArgument);
     }
     if room < records::NOTICE_SIZE {
-        return Check::Stop(1);
+        return Err(Cause::OutputTooSmall);
     }
     let scheduled = r.scheduled;
     let today = h.today;
     if scheduled.before(today) {
-        return Check::Stop(9);
+        return Err(Cause::ScheduledBeforeToday);
     }
-    let check = bill_check(r, h.count, b);
-    if let Check::Stop(n) = check {
-        return Check::Stop(n);
-    }
+    bill_check(r, h.count, b)?;
     if lacks(h.tracking, h.confirmation, 1, 1) {
-        return Check::Stop(12);
+        return Err(Cause::TooFewNumbers);
     }
-    Check::Clear
+    Ok(())
 }
 
 // The first cause against a cancel of a sound ledger.
-pub fn cancel_check(id: Identity, room: usize, tracking: u64, confirmation: u64, b: Sought) -> Check
+pub fn cancel_check(id: Identity, room: usize, tracking: u64, confirmation: u64, b: Option<Terms>) -> Result<(), Cause>
     requires { (tracking ≤ used_up) × (confirmation ≤ used_up) }
     ensures { result ≡ first (cancel_causes id room tracking confirmation b) }
 {
     if !good_identity(id) {
-        return Check::Stop(2);
+        return Err(Cause::BadArgument);
     }
     if room < records::NOTICE_SIZE {
-        return Check::Stop(1);
+        return Err(Cause::OutputTooSmall);
     }
-    let Sought::Bill(t) = b else {
-        return Check::Stop(4);
+    let Some(t) = b else {
+        return Err(Cause::NoSuchBill);
     };
     let cancelled = t.cancelled;
     if cancelled {
-        return Check::Stop(5);
+        return Err(Cause::BillCancelled);
     }
     if lacks(tracking, confirmation, 1, 1) {
-        return Check::Stop(12);
+        return Err(Cause::TooFewNumbers);
     }
-    Check::Clear
+    Ok(())
 }
 
 // Causes 11, 1 and 12 of a file: room is the length of the output lent for its answers.
-pub fn file_check(s: &[u8], room: usize, tracking: u64, confirmation: u64) -> Check
+pub fn file_check(s: &[u8], room: usize, tracking: u64, confirmation: u64) -> Result<(), Cause>
     requires { (tracking ≤ used_up) × (confirmation ≤ used_up) }
     ensures { result ≡ first (file_causes s.now room tracking confirmation) }
 {
     if !file::good_file(s) {
-        return Check::Stop(11);
+        return Err(Cause::BadFile);
     }
     let len = s.len();
     if room < len {
-        return Check::Stop(1);
+        return Err(Cause::OutputTooSmall);
     }
     let needs = file::count_groups(s, len / records::RECORD_SIZE);
     if lacks(
@@ -189,9 +185,9 @@ pub fn file_check(s: &[u8], room: usize, tracking: u64, confirmation: u64) -> Ch
         needs.ids as u64,
         needs.groups as u64,
     ) {
-        return Check::Stop(12);
+        return Err(Cause::TooFewNumbers);
     }
-    Check::Clear
+    Ok(())
 }
 
 // Whether n is a next number that fresh takes.
@@ -202,27 +198,27 @@ fn is_number(n: u64) -> bool
 }
 
 // The cause against a fresh, if there is one.
-pub fn fresh_check(s: Start) -> Check
+pub fn fresh_check(s: Start) -> Result<(), Cause>
     ensures { result ≡ first (fresh_causes s) }
 {
     let today = s.today;
     if today.valid() & is_number(s.tracking) & is_number(s.confirmation) {
-        return Check::Clear;
+        return Ok(());
     }
-    Check::Stop(2)
+    Err(Cause::BadArgument)
 }
 
 // The cause against a close of day, if there is one.
-pub fn close_check(d: Date, today: Date) -> Check
+pub fn close_check(d: Date, today: Date) -> Result<(), Cause>
     ensures { result ≡ first (close_causes d today) }
 {
     if !d.valid() {
-        return Check::Stop(2);
+        return Err(Cause::BadArgument);
     }
     if !today.before(d) {
-        return Check::Stop(10);
+        return Err(Cause::NotAfterToday);
     }
-    Check::Clear
+    Ok(())
 }
 
 // Whether the account is in its width and the date is one.
@@ -234,16 +230,16 @@ fn good_removal(a: AccountRemoval) -> bool
 }
 
 // The first cause against a removal: held says whether there is a bill of the account.
-pub fn removal_check(a: AccountRemoval, held: bool) -> Check
+pub fn removal_check(a: AccountRemoval, held: bool) -> Result<(), Cause>
     ensures { result ≡ first (removal_causes a held) }
 {
     if !good_removal(a) {
-        return Check::Stop(2);
+        return Err(Cause::BadArgument);
     }
     if held {
-        return Check::Clear;
+        return Ok(());
     }
-    Check::Stop(4)
+    Err(Cause::NoSuchBill)
 }
 
 // 1 for a bill that is open on the old date and not on the new one.

@@ -8,8 +8,7 @@ pub mod checks;
 ghost use Rattle.std.specs.Prelude.{◌≡◌, ◌≤◌, length};
 ghost use Rattle.causes.specs.Causes.{code_field};
 
-use ledger::{Identity, Update};
-use rules::Check;
+use ledger::Identity;
 use units::{Ccf, Date};
 
 // What fresh takes.
@@ -68,13 +67,6 @@ pub struct CalendarRequest {
 pub struct AccountRemoval {
     pub account: u64,
     pub date: Date,
-}
-
-// What a request or a cancel comes to: the first cause against it, and the header and the bill that it leaves.
-#[derive(Clone, Copy)]
-pub struct Decision {
-    pub check: Check,
-    pub update: Update,
 }
 
 // What a request or a cancel takes: each is a call on one bill.

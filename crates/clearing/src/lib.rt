@@ -8,14 +8,15 @@ ghost use Rattle.calls.specs.Days.{fresh_called};
 ghost use Rattle.clearing.specs.LentLeaves.{LentLeaves};
 ghost use Rattle.lookups.specs.Lookups.{open_in, amounts_in};
 
-use calls::Answer;
+use calls::Returned;
 use causes::{AccountRemoval, CalendarRequest, Request, Start};
 use ledger::{Identity, Ledger};
-use lookups::{Amounts, Place};
+use lookups::Amounts;
 use units::Date;
+use rules::Cause;
 
 // Begins a history: whatever the ledger held is gone.
-pub fn fresh(ledger: &mut Ledger, s: Start) -> Answer
+pub fn fresh(ledger: &mut Ledger, s: Start) -> Result<Returned, Cause>
     ensures { (ledger.new ≡ (fresh_called ledger.old s).ledger) × (result ≡ (fresh_called ledger.old s).answer) }
 {
     let c = calls::days::fresh(*ledger, s);
@@ -24,7 +25,7 @@ pub fn fresh(ledger: &mut Ledger, s: Start) -> Answer
 }
 
 // Sets today to a later date.
-pub fn close_day(ledger: &mut Ledger, d: Date) -> Answer
+pub fn close_day(ledger: &mut Ledger, d: Date) -> Result<Returned, Cause>
     ensures { (ledger.new ≡ (called ledger.old (close d)).ledger) × (result ≡ (called ledger.old (close d)).answer) }
 {
     let c = calls::days::close_day(*ledger, d);
@@ -33,7 +34,7 @@ pub fn close_day(ledger: &mut Ledger, d: Date) -> Answer
 }
 
 // The call removal: sets the removal date on all bills of an account.
-pub fn remove_account(ledger: &mut Ledger, a: AccountRemoval) -> Answer
+pub fn remove_account(ledger: &mut Ledger, a: AccountRemoval) -> Result<Returned, Cause>
     ensures { (ledger.new ≡ (called ledger.old (removal a)).ledger) × (result ≡ (called ledger.old (removal a)).answer) }
 {
     let c = calls::removals::remove_account(*ledger, a);
@@ -42,7 +43,7 @@ pub fn remove_account(ledger: &mut Ledger, a: AccountRemoval) -> Answer
 }
 
 // The call request: its BIL goes to out.
-pub fn request_bill(ledger: &mut Ledger, r: Request, out: &mut [u8]) -> Answer
+pub fn request_bill(ledger: &mut Ledger, r: Request, out: &mut [u8]) -> Result<Returned, Cause>
     ensures { LentLeaves ledger.old (request r (length out.old)) out.old ledger.new out.new result }
 {
     let c = bill_calls::request_bill(*ledger, out, r);
@@ -56,7 +57,7 @@ pub fn request_by_calendar(
     q: CalendarRequest,
     holidays: &[u64],
     out: &mut [u8],
-) -> Answer
+) -> Result<Returned, Cause>
     ensures { LentLeaves ledger.old (calendar q holidays.now (length out.old)) out.old ledger.new out.new result }
 {
     let c = bill_calls::request_by_calendar(*ledger, out, q, holidays);
@@ -65,7 +66,7 @@ pub fn request_by_calendar(
 }
 
 // The call cancel: its CXL goes to out.
-pub fn cancel_bill(ledger: &mut Ledger, id: Identity, out: &mut [u8]) -> Answer
+pub fn cancel_bill(ledger: &mut Ledger, id: Identity, out: &mut [u8]) -> Result<Returned, Cause>
     ensures { LentLeaves ledger.old (cancel id (length out.old)) out.old ledger.new out.new result }
 {
     let c = bill_calls::cancel_bill(*ledger, out, id);
@@ -74,7 +75,7 @@ pub fn cancel_bill(ledger: &mut Ledger, id: Identity, out: &mut [u8]) -> Answer
 }
 
 // Takes a supplier file: its answers go to out.
-pub fn take_file(ledger: &mut Ledger, s: &[u8], out: &mut [u8]) -> Answer
+pub fn take_file(ledger: &mut Ledger, s: &[u8], out: &mut [u8]) -> Result<Returned, Cause>
     ensures { LentLeaves ledger.old (file s.now (length out.old)) out.old ledger.new out.new result }
 {
     let c = calls::files::take_file(*ledger, out, s);
@@ -83,14 +84,14 @@ pub fn take_file(ledger: &mut Ledger, s: &[u8], out: &mut [u8]) -> Answer
 }
 
 // The place of the open bill of an account that is due first; of equals it is the one first requested.
-pub fn open_bill_of(ledger: &Ledger, account: u64) -> Place
+pub fn open_bill_of(ledger: &Ledger, account: u64) -> Result<usize, Cause>
     ensures { result ≡ open_in ledger.now account }
 {
     lookups::open_bill_of(*ledger, account)
 }
 
 // The amounts of the bill with this identity.
-pub fn amounts_of(ledger: &Ledger, id: Identity) -> Amounts
+pub fn amounts_of(ledger: &Ledger, id: Identity) -> Result<Amounts, Cause>
     ensures { result ≡ amounts_in ledger.now id }
 {
     lookups::amounts_of(*ledger, id)

@@ -14,8 +14,6 @@ use Rattle.ledger.specs.declared.Ledger.{Ledger}
 use Rattle.ledger.specs.Books.{Book, book}
 use Rattle.ledger.specs.Sound.{sound_ledger}
 use Rattle.words.specs.Layout.{ledger_of}
-use Rattle.rules.specs.declared.Check.{Check}
-use Rattle.rules.specs.declared.Check.TheVariants.{Clear, Stop}
 use Rattle.rules.specs.Rules.{first}
 use Rattle.calls.specs.declared.Called.{Called}
 use Rattle.causes.specs.declared.Start.{Start}
@@ -28,8 +26,11 @@ use Rattle.history.specs.Claim.{changes, assigned, ByValue}
 use Rattle.history.proofs.ClaimProof.{claim-by-value}
 use Rattle.boundary.specs.Boundary.{number_of, change_left, counts_left}
 use Rattle.boundary.proofs.GiveLaws.{fresh-long}
-use Rattle.clearing_c.specs.InWords.{Held, MadeBy, CallsMade, change_of, bytes_written, changes_of, assigned_of, number_by, SumInWords}
+use Rattle.clearing_c.specs.InWords.{Held, MadeBy, CallsMade, change_of, bytes_written, changes_of, assigned_of, SumInWords}
 use Rattle.clearing_c.proofs.NumberLaws.{numbered}
+use Rattle.std.specs.Prelude.{Result, Ok, Err, ⊤}
+use Rattle.rules.specs.declared.Cause.{Cause}
+use Rattle.rules.specs.Numbers.{cause_number}
 
 made-ran : (cs : List Call) (hs : List Held) (ws ws₂ : List ℕ) → CallsMade ws cs hs ws₂ → ledger_of ws₂ ≡ ran (ledger_of ws) cs
 unfolding ran
@@ -41,21 +42,21 @@ made-ran (c ∷ cs) (a ∷ hs) ws ws₂ m = made-ran cs hs m.0 ws₂ m.2 ∙ ap 
 -- ---- one call
 -- what the caller reads off it is what it came to
 record Read (o : Outcome) (a : Held) : Type 0 where
-  number : a.number ≡ number_by o.result
+  number : a.number ≡ number_of o.result
   change : change_of a ≡ o.change
   written : bytes_written a ≡ o.written
 
 -- its answer and outcome by the cause against it
-by-cause : (l : Ledger) (c : Call) (v : Check) → cause_in l c ≡ v
+by-cause : (l : Ledger) (c : Call) (v : Result ⊤ Cause) → cause_in l c ≡ v
     → ((called l c).answer ≡ answer_by (outcome (book l) c v) v) × (step_in l c ≡ outcome (book l) c v)
 unfolding called step_in
 by-cause l c v e = (rw e, rw e)
 
 module _ (ws : List ℕ) (c : Call) (a : Held) (ws₁ : List ℕ) (m : MadeBy ws c a ws₁) where
-  read-clear : cause_in (ledger_of ws) c ≡ Clear → Read (step_in (ledger_of ws) c) a
+  read-clear : cause_in (ledger_of ws) c ≡ Ok tt → Read (step_in (ledger_of ws) c) a
   unfolding outcome answer_by
   read-clear e =
-      let q = by-cause (ledger_of ws) c Clear e in
+      let q = by-cause (ledger_of ws) c (Ok tt) e in
       let w = next_written (book (ledger_of ws)) c in
       let k : a.number ≡ 0 = m.gives.number ∙ ap number_of q.0 in
       let n : get_or a.counts 0 0 ≡ length w = ap (λ (ks : List ℕ). get_or ks 0 0) (m.gives.counts ∙ ap (counts_left m.counts) q.0) in
@@ -67,20 +68,20 @@ module _ (ws : List ℕ) (c : Call) (a : Held) (ws₁ : List ℕ) (m : MadeBy ws
         written = rw (k, n, o) (part-put m.output 0 w (length w) (omega arith) refl);
       })
 
-  read-stop : (n : ℕ) → cause_in (ledger_of ws) c ≡ Stop n → Read (step_in (ledger_of ws) c) a
+  read-stop : (n : Cause) → cause_in (ledger_of ws) c ≡ Err n → Read (step_in (ledger_of ws) c) a
   unfolding outcome answer_by
   read-stop n e =
-      let q = by-cause (ledger_of ws) c (Stop n) e in
-      let k : a.number ≡ n = m.gives.number ∙ ap number_of q.0 in
-      let z : eqb n 0 ≡ false = ne_eqb n 0 (λ y. omega (arith, (numbered (ledger_of ws) c n q.0).0)) in
+      let q = by-cause (ledger_of ws) c (Err n) e in
+      let k : a.number ≡ cause_number n = m.gives.number ∙ ap number_of q.0 in
+      let z : eqb (cause_number n) 0 ≡ false = ne_eqb (cause_number n) 0 (λ y. omega (arith, (numbered (ledger_of ws) c n q.0).0)) in
       rw q.1 (record { number = k; change = rw (k, z); written = rw (k, z) })
 
   read-call : Read (step_in (ledger_of ws) c) a
   read-call = go (cause_in (ledger_of ws) c) refl
     where
-      go : (v : Check) → cause_in (ledger_of ws) c ≡ v → Read (step_in (ledger_of ws) c) a
-      go Clear e = read-clear e
-      go (Stop n) e = read-stop n e
+      go : (v : Result ⊤ Cause) → cause_in (ledger_of ws) c ≡ v → Read (step_in (ledger_of ws) c) a
+      go (Ok tt) e = read-clear e
+      go (Err n) e = read-stop n e
 
 -- ---- a list of calls
 module _ (l : Ledger) (c : Call) (h : sound_ledger l ≡ true) where
@@ -94,7 +95,7 @@ module _ (l : Ledger) (c : Call) (h : sound_ledger l ≡ true) where
 
 -- what the caller reads off the calls is what they came to
 record ReadAll (l : Ledger) (cs : List Call) (hs : List Held) : Type 0 where
-  numbers : map (λ (a : Held). a.number) hs ≡ map (λ (o : Outcome). number_by o.result) (outcomes (book l) cs)
+  numbers : map (λ (a : Held). a.number) hs ≡ map (λ (o : Outcome). number_of o.result) (outcomes (book l) cs)
   changes : changes_of hs ≡ changes (outcomes (book l) cs)
   written : map bytes_written hs ≡ map (λ (o : Outcome). o.written) (outcomes (book l) cs)
 
@@ -127,7 +128,7 @@ ids-read (a ∷ hs) (o ∷ os) e =
     let more : map bytes_written hs ≡ map (λ (x : Outcome). x.written) os = cc in
     rw (w, ids-read hs os more)
 
-fresh_kept : (l : Ledger) (s : Start) → first (fresh_causes s) ≡ Clear → sound_ledger (fresh_called l s).ledger ≡ true
+fresh_kept : (l : Ledger) (s : Start) → first (fresh_causes s) ≡ Ok tt → sound_ledger (fresh_called l s).ledger ≡ true
 unfolding ran
 fresh_kept l s clear = (claim-by-value l s clear []).runs.kept
 
@@ -142,7 +143,7 @@ sum-in-words ws ws₁ ws₂ s cs hs long clear e m =
     record {
       ledger = r;
       claims = b;
-      numbers = a.numbers ∙ sym (map-map number_by (λ (o : Outcome). o.result) (outcomes (book (ledger_of ws₁)) cs)) ∙ ap (map number_by) b.claims.results;
+      numbers = a.numbers ∙ sym (map-map number_of (λ (o : Outcome). o.result) (outcomes (book (ledger_of ws₁)) cs)) ∙ ap (map number_of) b.claims.results;
       returned = ap (λ (x : Book). pos (total x)) k ∙ b.claims.returned ∙ sym a.changes;
       history = ap total k ∙ b.claims.history;
       written = a.written;

@@ -1,10 +1,8 @@
 -- Demand 3 through the boundary: a list of calls on a ledger in words, each on the words that the one before left. Assumes nothing.
-use Rattle.std.specs.Prelude.{ℕ, ◌≡◌, cond, List, [], ◌∷◌, ◌++◌, map, eqb, length, get_or, ℤ, pos, ◌+ℤ◌}
+use Rattle.std.specs.Prelude.{ℕ, ◌≡◌, cond, List, [], ◌∷◌, ◌++◌, map, eqb, length, get_or, ℤ, pos, ◌+ℤ◌, Result, Ok, Err, ⊤}
 use Rattle.fields.specs.Put.{part, put}
 use Rattle.ledger.specs.Books.{book}
 use Rattle.words.specs.Layout.{ledger_of, ledger_size}
-use Rattle.rules.specs.declared.Check.{Check}
-use Rattle.rules.specs.declared.Check.TheVariants.{Clear, Stop}
 use Rattle.rules.specs.Rules.{first}
 use Rattle.causes.specs.declared.Start.{Start}
 use Rattle.causes.specs.Causes.{Call, fresh_causes}
@@ -12,7 +10,8 @@ use Rattle.calls.specs.Machine.{Outcome, total, outcomes, called, step_in, ran}
 use Rattle.history.specs.History.{begun, history_sum, h_after, h_causes}
 use Rattle.history.specs.Written.{assigned_in}
 use Rattle.history.specs.Claim.{NoneTwice, ByValue}
-use Rattle.boundary.specs.Boundary.{fresh_in, Gives}
+use Rattle.boundary.specs.Boundary.{fresh_in, Gives, number_of}
+use Rattle.rules.specs.declared.Cause.{Cause}
 
 -- what a caller holds after a call: the number answered, and what stands in `change`, `counts` and the output
 pub record Held : Type 0 where
@@ -55,18 +54,13 @@ abbrev pub assigned_of : List Held → List ℕ
 assigned_of [] = []
 assigned_of (a ∷ hs) = assigned_in (bytes_written a) ++ assigned_of hs
 
--- the number answered where the causes say this
-abbrev pub number_by : Check → ℕ
-number_by Clear = 0
-number_by (Stop n) = n
-
 -- ---- the claim about calls after a fresh that left the words ws₁
 pub record ClaimsInWords (s : Start) (ws₁ : List ℕ) (cs : List Call) (hs : List Held) (ws₂ : List ℕ) : Type 0 where
   -- the words hold what the calls by value leave, and of these calls the claim holds
   pub ledger : ledger_of ws₂ ≡ ran (ledger_of ws₁) cs
   pub claims : ByValue (ledger_of ws₁) (begun s) cs
   -- each answers the number that the history gives
-  pub numbers : map (λ (a : Held). a.number) hs ≡ map number_by (h_causes (begun s) cs)
+  pub numbers : map (λ (a : Held). a.number) hs ≡ map number_of (h_causes (begun s) cs)
   -- the total of the ledger in the words = the sum of the changes that the caller holds = the history's sum
   pub returned : pos (total (book (ledger_of ws₂))) ≡ changes_of hs
   pub history : total (book (ledger_of ws₂)) ≡ history_sum (h_after (begun s) cs)
@@ -77,5 +71,5 @@ pub record ClaimsInWords (s : Start) (ws₁ : List ℕ) (cs : List Call) (hs : L
 -- after a fresh that succeeded on any 2,564 words and any list of calls
 abbrev pub SumInWords : Type 0
 SumInWords =
-    (ws ws₁ ws₂ : List ℕ) (s : Start) (cs : List Call) (hs : List Held) → length ws ≡ ledger_size → first (fresh_causes s) ≡ Clear
+    (ws ws₁ ws₂ : List ℕ) (s : Start) (cs : List Call) (hs : List Held) → length ws ≡ ledger_size → first (fresh_causes s) ≡ Ok tt
     → ledger_of ws₁ ≡ (fresh_in ws s).ledger → CallsMade ws₁ cs hs ws₂ → ClaimsInWords s ws₁ cs hs ws₂

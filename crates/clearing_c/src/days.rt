@@ -1,43 +1,43 @@
 // The business-day calendar for C and Rust programs: dates as numbers yyyymmdd, the holidays lent as such.
 ghost use Rattle.std.specs.Prelude.{◌≡◌};
 ghost use Rattle.calendar.specs.BusinessDays.{weekday_of, next_day, further_day};
-ghost use Rattle.boundary.specs.Boundary.{weekday_number, weekday_left, date_number, date_left};
+ghost use Rattle.boundary.specs.Boundary.{number_of, number_left, date_left};
 
-use calendar::{Day, Weekday};
+use rules::Cause;
 use units::Date;
 
 // The weekday of a date, 1 Monday to 7 Sunday.
 pub fn clearing_weekday(date: u64, weekday: &mut u64) -> u64
-    ensures value { result ≡ weekday_number (weekday_of date) }
-    ensures weekday_after { weekday.new ≡ weekday_left weekday.old (weekday_of date) }
+    ensures value { result ≡ number_of (weekday_of date) }
+    ensures weekday_after { weekday.new ≡ number_left weekday.old (weekday_of date) }
 {
     let found = calendar::weekday_of(Date(date));
     match found {
-        Weekday::Number(d) => {
+        Ok(d) => {
             *weekday = d;
             0
         }
-        Weekday::Refused(n) => n,
+        Err(cause) => cause.number(),
     }
 }
 
 // Stores a day that was found, and gives the number of the answer.
-fn store_day(day: &mut u64, found: Day) -> u64
-    ensures value { result ≡ date_number found }
+fn store_day(day: &mut u64, found: Result<Date, Cause>) -> u64
+    ensures value { result ≡ number_of found }
     ensures day_after { day.new ≡ date_left day.old found }
 {
     match found {
-        Day::On(d) => {
+        Ok(d) => {
             *day = d.0;
             0
         }
-        Day::Refused(n) => n,
+        Err(cause) => cause.number(),
     }
 }
 
 // The first business day after a date.
 pub fn clearing_next_business_day(date: u64, holidays: &[u64], day: &mut u64) -> u64
-    ensures value { result ≡ date_number (next_day holidays.now date) }
+    ensures value { result ≡ number_of (next_day holidays.now date) }
     ensures day_after { day.new ≡ date_left day.old (next_day holidays.now date) }
 {
     let found = calendar::next_business_day(Date(date), holidays);
@@ -46,7 +46,7 @@ pub fn clearing_next_business_day(date: u64, holidays: &[u64], day: &mut u64) ->
 
 // The business day so many further on from a date.
 pub fn clearing_business_day(date: u64, number: u64, holidays: &[u64], day: &mut u64) -> u64
-    ensures value { result ≡ date_number (further_day holidays.now date number) }
+    ensures value { result ≡ number_of (further_day holidays.now date number) }
     ensures day_after { day.new ≡ date_left day.old (further_day holidays.now date number) }
 {
     let found = calendar::business_day(Date(date), number, holidays);

@@ -1,17 +1,18 @@
 // The table and the notices of a whole journal, for C and Rust programs.
 ghost use Rattle.std.specs.Prelude.{◌≡◌};
-ghost use Rattle.clearing_c.specs.WholeJournals.{report_number, result_left, Tables, Notices};
+ghost use Rattle.clearing_c.specs.WholeJournals.{result_left, Tables, Notices};
+ghost use Rattle.boundary.specs.Boundary.{number_of};
 
-use report::{Report, Reported};
+use report::Reported;
 
 // Says how many bytes were written and how the journal ended, and answers 0, or 1 for an output that is too small.
 fn store_result(res: &mut [u64; 2], r: Reported) -> u64
-    ensures { (result ≡ report_number r.report) × (res.new ≡ result_left res.old r.stopped r.report) }
+    ensures { (result ≡ number_of r.report) × (res.new ≡ result_left res.old r.stopped r.report) }
 {
     let report = r.report;
     match report {
-        Report::TooSmall => 1,
-        Report::Written(n) => {
+        Err(cause) => cause.number(),
+        Ok(n) => {
             let end = if r.stopped { 13 } else { 0 };
             let all = [n as u64, end];
             *res = all;

@@ -13,14 +13,13 @@ ghost use Rattle.causes.specs.Causes.{request, calendar, file, cancel, close, re
 ghost use Rattle.calls.specs.Machine.{step_in, called};
 ghost use Rattle.lookups.specs.Lookups.{open_in, amounts_in};
 ghost use Rattle.journal.specs.Entries.{head_of};
-ghost use Rattle.boundary.specs.Boundary.{start_of, identity_from, removal_from, request_of, calendar_of, fresh_in, Gives, head_called, head_written, head_found, place_number, place_left, amounts_number, amounts_left, Prints};
+ghost use Rattle.boundary.specs.Boundary.{start_of, identity_from, removal_from, request_of, calendar_of, fresh_in, Gives, head_called, head_written, head_found, number_of, number_left, amounts_left, Prints};
 ghost use Rattle.units.specs.Calendar.{date_of};
 
 use causes::{AccountRemoval, CalendarRequest, Request, Start};
 use journal::{Body, Head};
 use ledger::Identity;
-use lookups::{Amounts, Place};
-use table::Printed;
+use rules::Cause;
 use units::{Ccf, Date};
 
 // Fresh.
@@ -192,36 +191,32 @@ pub fn clearing_cancel(
 
 // Lookup: the place of the open bill of an account that is due first; of equals it is the one first requested.
 pub fn clearing_open_bill(ledger: &[u64], account: u64, place: &mut u64) -> u64
-    ensures value { result ≡ place_number (open_in (ledger_of ledger.now) account) }
-    ensures place_after { place.new ≡ place_left place.old (open_in (ledger_of ledger.now) account) }
+    ensures value { result ≡ number_of (open_in (ledger_of ledger.now) account) }
+    ensures place_after { place.new ≡ number_left place.old (open_in (ledger_of ledger.now) account) }
 {
     let found = lookups_in_words::open_bill_in(ledger, account);
     match found {
-        Place::At(p) => {
+        Ok(p) => {
             *place = p as u64;
             0
         }
-        Place::Refused(n) => n,
+        Err(cause) => cause.number(),
     }
 }
 
 // Lookup: charge, applied and owed of one bill.
 pub fn clearing_amounts(ledger: &[u64], account: u64, key: u64, amounts: &mut [u64; 3]) -> u64
-    ensures value { result ≡ amounts_number (amounts_in (ledger_of ledger.now) (identity_from account key)) }
+    ensures value { result ≡ number_of (amounts_in (ledger_of ledger.now) (identity_from account key)) }
     ensures amounts_after { amounts.new ≡ amounts_left amounts.old (amounts_in (ledger_of ledger.now) (identity_from account key)) }
 {
     let found = lookups_in_words::amounts_in(ledger, Identity { account, key });
     match found {
-        Amounts::Posted {
-            charge,
-            applied,
-            owed,
-        } => {
-            let all = [charge.0, applied.0, owed.0];
+        Ok(a) => {
+            let all = [a.charge.0, a.applied.0, a.owed.0];
             *amounts = all;
             0
         }
-        Amounts::Refused(n) => n,
+        Err(cause) => cause.number(),
     }
 }
 
@@ -231,11 +226,11 @@ pub fn clearing_ledger_table(ledger: &[u64], out: &mut [u8], written: &mut u64) 
 {
     let p = table_in_words::print_words(out, ledger, false);
     match p {
-        Printed::Table(n) => {
+        Ok(n) => {
             *written = n as u64;
             0
         }
-        Printed::Refused(n) => n,
+        Err(cause) => cause.number(),
     }
 }
 
@@ -258,11 +253,11 @@ pub fn clearing_entry(
     match h {
         Head::Cut => {
             *found = [0, 1];
-            13
+            Cause::BadEntry.number()
         }
         Head::Bad => {
             *found = [0, 0];
-            13
+            Cause::BadEntry.number()
         }
         Head::Whole(body, n) => {
             *found = [n as u64, 0];

@@ -12,7 +12,7 @@ ghost use Rattle.causes.specs.Causes.{request, calendar, file, cancel, close, re
 ghost use Rattle.calls.specs.Machine.{step_in, called};
 ghost use Rattle.lookups.specs.Lookups.{open_in, amounts_in};
 ghost use Rattle.journal.specs.Entries.{head_of};
-ghost use Rattle.boundary.specs.Boundary.{start_of, identity_from, removal_from, request_of, calendar_of, fresh_in, Gives, head_called, head_written, head_found, place_number, place_left, amounts_number, amounts_left, Prints};
+ghost use Rattle.boundary.specs.Boundary.{start_of, identity_from, removal_from, request_of, calendar_of, fresh_in, Gives, head_called, head_written, head_found, number_of, number_left, amounts_left, Prints};
 ghost use Rattle.units.specs.Calendar.{date_of};
 
 // Fresh.
@@ -163,8 +163,8 @@ pub extern "C" fn clearing_cancel(
 // Lookup: the place of the open bill of an account that is due first; of equals it is the one first requested.
 #[unsafe(no_mangle)]
 pub extern "C" fn clearing_open_bill(ledger: &[u64], account: u64, place: &mut u64) -> u64
-    ensures value { result ≡ place_number (open_in (ledger_of ledger.now) account) }
-    ensures place_after { place.new ≡ place_left place.old (open_in (ledger_of ledger.now) account) }
+    ensures value { result ≡ number_of (open_in (ledger_of ledger.now) account) }
+    ensures place_after { place.new ≡ number_left place.old (open_in (ledger_of ledger.now) account) }
 {
     clearing_c::clearing_open_bill(ledger, account, place)
 }
@@ -177,7 +177,7 @@ pub extern "C" fn clearing_amounts(
     key: u64,
     amounts: &mut [u64; 3],
 ) -> u64
-    ensures value { result ≡ amounts_number (amounts_in (ledger_of ledger.now) (identity_from account key)) }
+    ensures value { result ≡ number_of (amounts_in (ledger_of ledger.now) (identity_from account key)) }
     ensures amounts_after { amounts.new ≡ amounts_left amounts.old (amounts_in (ledger_of ledger.now) (identity_from account key)) }
 {
     clearing_c::clearing_amounts(ledger, account, key, amounts)

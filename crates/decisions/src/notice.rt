@@ -9,21 +9,20 @@ use causes::BillCall;
 use ledger::{Bill, LedgerHeader};
 use notices::bil::Bil;
 use notices::cxl::Cxl;
-use rules::Found;
 use units::Ccf;
 
 // The consumption before a request.
-fn previous(f: Found, b: Bill) -> Ccf
+fn previous(f: Option<usize>, b: Bill) -> Ccf
     ensures { result ≡ previous_by f b }
 {
     match f {
-        Found::Nothing => Ccf(0),
-        Found::At(_) => b.terms.latest.consumption,
+        None => Ccf(0),
+        Some(_) => b.terms.latest.consumption,
     }
 }
 
 // The BIL of a request: b stood at its place, and c does now.
-fn put_bil(out: &mut [u8], h: LedgerHeader, f: Found, b: Bill, c: Bill)
+fn put_bil(out: &mut [u8], h: LedgerHeader, f: Option<usize>, b: Bill, c: Bill)
     requires { notice_size ≤ length out.old }
     ensures { out.new ≡ put out.old 0 (bil_by h f b c) }
 {
@@ -61,7 +60,7 @@ fn put_cxl(out: &mut [u8], h: LedgerHeader, b: Bill)
 }
 
 // The notice of a request or a cancel: b stood at its place, and k does now.
-pub fn put(out: &mut [u8], writes: bool, c: BillCall, h: LedgerHeader, f: Found, b: Bill, k: Bill)
+pub fn put(out: &mut [u8], writes: bool, c: BillCall, h: LedgerHeader, f: Option<usize>, b: Bill, k: Bill)
     requires { writes ≡ true → notice_size ≤ length out.old }
     ensures { out.new ≡ put out.old 0 (if_written writes (notice_by c h f b k)) }
 {

@@ -6,9 +6,9 @@ ghost use Rattle.ledger.specs.Bills.{product_of};
 ghost use Rattle.causes.specs.parts.Decisions.{SoundAt, CanRenew, requested_by, grown, used_by, call_identity, causes_by, decided_by, ChangeFits, change_by};
 ghost use Rattle.ledger.specs.Limits.{ledger_places, used_up};
 
-use causes::{BillCall, Decision, Request, checks};
+use causes::{BillCall, Request, checks};
 use ledger::{Bill, Identity, Latest, LedgerHeader, Product, Update};
-use rules::{Check, Found};
+use rules::Cause;
 use units::Cents;
 
 // The product that a byte holds.
@@ -49,24 +49,24 @@ fn new_bill(r: Request, tracking: u64) -> Bill
 }
 
 // The bill as a request leaves it: a new one, or a known one with the new values.
-fn requested(r: Request, tracking: u64, f: Found, b: Bill) -> Bill
+fn requested(r: Request, tracking: u64, f: Option<usize>, b: Bill) -> Bill
     requires { CanRenew f b }
     ensures { result ≡ requested_by r tracking f b }
 {
     match f {
-        Found::Nothing => new_bill(r, tracking),
-        Found::At(_) => b.request(latest_of(r, tracking)),
+        None => new_bill(r, tracking),
+        Some(_) => b.request(latest_of(r, tracking)),
     }
 }
 
 // One bill more, where none was found.
-fn grown(f: Found, n: usize) -> usize
+fn grown(f: Option<usize>, n: usize) -> usize
     requires { n ≤ ledger_places }
     ensures { result ≡ grown f n }
 {
     match f {
-        Found::Nothing => n + 1,
-        Found::At(_) => n,
+        None => n + 1,
+        Some(_) => n,
     }
 }
 
@@ -95,7 +95,7 @@ pub fn call_identity(c: BillCall) -> Identity
 }
 
 // The first cause against a request or a cancel, where b stands at the place that was found.
-fn first_cause(c: BillCall, room: usize, h: LedgerHeader, f: Found, b: Bill) -> Check
+fn first_cause(c: BillCall, room: usize, h: LedgerHeader, f: Option<usize>, b: Bill) -> Result<(), Cause>
     requires { (h.tracking ≤ used_up) × (h.confirmation ≤ used_up) }
     ensures { result ≡ first (causes_by c room h f b) }
 {
@@ -108,34 +108,22 @@ fn first_cause(c: BillCall, room: usize, h: LedgerHeader, f: Found, b: Bill) -> 
     }
 }
 
-// What a request or a cancel comes to, where b stands at the place that was found.
-pub fn decide(c: BillCall, room: usize, h: LedgerHeader, f: Found, b: Bill) -> Decision
+// The header and the bill that a request or a cancel leaves, or the first cause against it, where b stands at the place that was found.
+pub fn decide(c: BillCall, room: usize, h: LedgerHeader, f: Option<usize>, b: Bill) -> Result<Update, Cause>
     requires tracking_le_used_up { (h.tracking ≤ used_up) × (h.confirmation ≤ used_up) × (h.count ≤ ledger_places) }
     requires sound_at { SoundAt f b }
     ensures { result ≡ decided_by (first (causes_by c room h f b)) c h f b }
 {
-    let check = first_cause(c, room, h, f, b);
-    if let Check::Stop(_) = check {
-        return Decision {
-            check,
-            update: Update { header: h, bill: b },
-        };
-    }
+    first_cause(c, room, h, f, b)?;
     match c {
-        BillCall::Request(r) => Decision {
-            check,
-            update: Update {
-                header: use_numbers(h, grown(f, h.count)),
-                bill: requested(r, h.tracking, f, b),
-            },
-        },
-        BillCall::Cancel(_) => Decision {
-            check,
-            update: Update {
-                header: use_numbers(h, h.count),
-                bill: b.cancel(),
-            },
-        },
+        BillCall::Request(r) => Ok(Update {
+            header: use_numbers(h, grown(f, h.count)),
+            bill: requested(r, h.tracking, f, b),
+        }),
+        BillCall::Cancel(_) => Ok(Update {
+            header: use_numbers(h, h.count),
+            bill: b.cancel(),
+        }),
     }
 }
 

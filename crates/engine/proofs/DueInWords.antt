@@ -5,8 +5,6 @@ use mathlib.Core.Bool.{Bool, true}
 use mathlib.Core.List.{List}
 use Rattle.fields.specs.Put.{put}
 use Rattle.units.specs.declared.Date.{Date}
-use Rattle.calendar.specs.declared.Day.{Day}
-use Rattle.calendar.specs.declared.Day.TheVariants as days
 use Rattle.calendar.specs.BusinessDays.{business_day, day_by}
 use Rattle.ledger.specs.declared.LedgerHeader.{LedgerHeader}
 use Rattle.ledger.specs.parts.Places.{header_of}
@@ -20,15 +18,16 @@ use Rattle.causes.specs.declared.CalendarRequest.{CalendarRequest}
 use Rattle.causes.specs.Causes.{request, calendar, on_date, worked_out, schedule_causes}
 use Rattle.causes.proofs.CalendarLaws.{due-on, due-refused}
 use Rattle.calls.specs.declared.Called.{Called}
-use Rattle.calls.specs.declared.Answer.{Answer}
-use Rattle.calls.specs.declared.Answer.TheVariants.{Refused}
 use Rattle.calls.specs.Machine.{Outcome, step_in, called}
 use Rattle.calls.proofs.CallLaws.{stopped}
 use Rattle.calls.proofs.CalendarCalls.{dated-called, dated-step, undated-cause}
 use Rattle.engine.specs.parts.Calls.{CalledIn}
 use Rattle.engine.proofs.WordCalls.{stopped-in}
+use Rattle.std.specs.Prelude.{Result, Ok, Err}
+use Rattle.rules.specs.declared.Cause.{Cause}
+use Rattle.calls.specs.declared.Returned.{Returned}
 
-module _ (writes : Bool) (room : ℕ) (q : CalendarRequest) (hs ws out : List ℕ) (h : LedgerHeader) (he : h ≡ header_of (ledger_of ws)) (day : Day)
+module _ (writes : Bool) (room : ℕ) (q : CalendarRequest) (hs ws out : List ℕ) (h : LedgerHeader) (he : h ≡ header_of (ledger_of ws)) (day : Result Date Cause)
     (e : day ≡ day_by (business_day hs h.today.0 q.number) (first (schedule_causes q hs h.today))) where
   -- the day is counted from the ledger's today
   from-today : day ≡ day_by (business_day hs (ledger_of ws).today.0 q.number) (first (schedule_causes q hs (ledger_of ws).today))
@@ -36,7 +35,7 @@ module _ (writes : Bool) (room : ℕ) (q : CalendarRequest) (hs ws out : List �
       e ∙ ap (λ (t : LedgerHeader). day_by (business_day hs t.today.0 q.number) (first (schedule_causes q hs t.today))) he
 
   -- the request with that date does what the request by calendar does
-  pub called-in-on : (d : Date) → day ≡ days.On d → (r : Request) → r ≡ on_date q.request d → (us out' : List ℕ) (a : Answer)
+  pub called-in-on : (d : Date) → day ≡ Ok d → (r : Request) → r ≡ on_date q.request d → (us out' : List ℕ) (a : Result Returned Cause)
       → CalledIn writes (request r room) ws out us out' a → CalledIn writes (calendar q hs room) ws out us out' a
   called-in-on d f r g us out' a x =
       let l = ledger_of ws in
@@ -51,7 +50,7 @@ module _ (writes : Bool) (room : ℕ) (q : CalendarRequest) (hs ws out : List �
       }
 
   -- without a date it is refused
-  pub refused-in : (n : ℕ) → day ≡ days.Refused n → sound_ledger (ledger_of ws) ≡ true → CalledIn writes (calendar q hs room) ws out ws out (Refused n)
+  pub refused-in : (n : Cause) → day ≡ Err n → sound_ledger (ledger_of ws) ≡ true → CalledIn writes (calendar q hs room) ws out ws out (Err n)
   refused-in n f sure =
       stopped-in writes (calendar q hs room) ws out (sound-holds ws sure) n
       (stopped (ledger_of ws) (calendar q hs room) n (undated-cause (ledger_of ws) q hs room n sure (due-refused q hs (ledger_of ws).today day from-today n f)))

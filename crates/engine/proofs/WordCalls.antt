@@ -12,7 +12,6 @@ use Rattle.ledger.specs.declared.Bill.{Bill}
 use Rattle.ledger.specs.declared.Identity.{Identity}
 use Rattle.ledger.specs.declared.Ledger.{Ledger}
 use Rattle.ledger.specs.declared.LedgerHeader.{LedgerHeader}
-use Rattle.rules.specs.declared.Found.{Found}
 use Rattle.rules.specs.Lists.{find, count}
 use Rattle.ledger.specs.Books.{live, of_id, place_of}
 use Rattle.ledger.specs.parts.Places.{header_of, with_header, place_for, bill_at}
@@ -21,8 +20,6 @@ use Rattle.ledger.proofs.SoundLaws.{ledger-count}
 use Rattle.words.specs.Layout.{holds_ledger, ledger_of}
 use Rattle.places.proofs.PartLaws.{places_of}
 use Rattle.words.proofs.WordLaws.{sound-holds}
-use Rattle.rules.specs.declared.Check.{Check}
-use Rattle.rules.specs.declared.Check.TheVariants.{Clear, Stop}
 use Rattle.rules.specs.Rules.{first}
 use Rattle.file.specs.File.{Group}
 use Rattle.group.specs.declared.Tally.{Tally}
@@ -32,10 +29,8 @@ use Rattle.group.specs.parts.Turns.{sought_by, if_written, TurnLeaves}
 use Rattle.causes.specs.Causes.{Call, close, close_causes, causes}
 use Rattle.causes.specs.Requests.{closes}
 use Rattle.causes.specs.declared.BillCall.{BillCall}
-use Rattle.causes.specs.declared.Decision.{Decision}
+use Rattle.ledger.specs.declared.Update.{Update}
 use Rattle.causes.specs.parts.Decisions.{SoundAt, call_identity, causes_by, decided_by}
-use Rattle.calls.specs.declared.Answer.{Answer}
-use Rattle.calls.specs.declared.Answer.TheVariants.{Refused}
 use Rattle.calls.specs.declared.Called.{Called}
 use Rattle.calls.specs.Machine.{called, cause_in}
 use Rattle.calls.specs.Days.{quiet_answer}
@@ -43,6 +38,9 @@ use Rattle.calls.proofs.CallLaws.{Stopped, Carried, cause-sound, called-stop}
 use Rattle.calls.proofs.BillLaws.{Decided, sound-here, decided}
 use Rattle.calls.proofs.FreshCloseLaws.{close-done}
 use Rattle.engine.specs.parts.Calls.{CalledIn}
+use Rattle.std.specs.Prelude.{Option, Result, Ok, Err, ⊤}
+use Rattle.rules.specs.declared.Cause.{Cause}
+use Rattle.calls.specs.declared.Returned.{Returned}
 
 -- nothing is if_written, whether notices are written or not
 pub said-none : (writes : Bool) (out : List ℕ) → out ≡ put out 0 (if_written writes [])
@@ -51,7 +49,7 @@ said-none false out = put-nil out 0
 
 module _ (writes : Bool) (c : Call) (ws out : List ℕ) (holds : holds_ledger ws ≡ true) where
   -- a call that is refused
-  pub stopped-in : (n : ℕ) → Stopped (ledger_of ws) c n → CalledIn writes c ws out ws out (Refused n)
+  pub stopped-in : (n : Cause) → Stopped (ledger_of ws) c n → CalledIn writes c ws out ws out (Err n)
   stopped-in n s =
       record {
         holds = holds;
@@ -61,7 +59,7 @@ module _ (writes : Bool) (c : Call) (ws out : List ℕ) (holds : holds_ledger ws
       }
 
   -- and one that is carried out
-  pub carried-in : (k : Ledger) (a : Answer) (ys : List ℕ) → Carried (ledger_of ws) c k a ys → (us out' : List ℕ) → holds_ledger us ≡ true → ledger_of us ≡ k
+  pub carried-in : (k : Ledger) (a : Result Returned Cause) (ys : List ℕ) → Carried (ledger_of ws) c k a ys → (us out' : List ℕ) → holds_ledger us ≡ true → ledger_of us ≡ k
       → out' ≡ put out 0 (if_written writes ys) → CalledIn writes c ws out us out' a
   carried-in k a ys s us out' h e o =
       record {
@@ -72,7 +70,7 @@ module _ (writes : Bool) (c : Call) (ws out : List ℕ) (holds : holds_ledger ws
       }
 
 -- ---- what a search in the words found
-module _ (ws : List ℕ) (id : Identity) (h : LedgerHeader) (he : h ≡ header_of (ledger_of ws)) (f : Found)
+module _ (ws : List ℕ) (id : Identity) (h : LedgerHeader) (he : h ≡ header_of (ledger_of ws)) (f : Option ℕ)
     (fe : f ≡ find (of_id id) 0 (take h.count (ledger_of ws).bills)) where
   pub found-is : f ≡ place_of id (live (ledger_of ws))
   found-is = fe ∙ ap (λ (t : LedgerHeader). find (of_id id) 0 (take t.count (ledger_of ws).bills)) he
@@ -82,7 +80,7 @@ module _ (ws : List ℕ) (id : Identity) (h : LedgerHeader) (he : h ≡ header_o
 
 -- ---- a request or a cancel, by what the search for its bill found
 module _ (ws : List ℕ) (sure : sound_ledger (ledger_of ws) ≡ true) (c : BillCall) (id : Identity) (ie : id ≡ call_identity c) (h : LedgerHeader)
-    (he : h ≡ header_of (ledger_of ws)) (f : Found) (fe : f ≡ find (of_id id) 0 (take h.count (ledger_of ws).bills)) (p : ℕ)
+    (he : h ≡ header_of (ledger_of ws)) (f : Option ℕ) (fe : f ≡ find (of_id id) 0 (take h.count (ledger_of ws).bills)) (p : ℕ)
     (pe : p ≡ place_for f h.count) (b : Bill) (be : b ≡ bill_at (ledger_of ws) p) where
   long : length (ledger_of ws).bills ≡ 128
   long = places_of ws (sound-holds ws sure)
@@ -96,29 +94,29 @@ module _ (ws : List ℕ) (sure : sound_ledger (ledger_of ws) ≡ true) (c : Bill
   pub sound-in : SoundAt f b
   sound-in = subst (SoundAt f) (sym be) (sound-here (ledger_of ws) long sure f p stands (call_identity c) finds)
 
-  pub decided-in : (room : ℕ) (d : Decision) → d ≡ decided_by (first (causes_by c room h f b)) c h f b → Decided (ledger_of ws) c room h f p b d
+  pub decided-in : (room : ℕ) (d : Result Update Cause) → d ≡ decided_by (first (causes_by c room h f b)) c h f b → Decided (ledger_of ws) c room h f p b d
   decided-in room d de = decided (ledger_of ws) long sure f p stands room c finds h he b be d de
 
 -- ---- a close
-module _ (ws : List ℕ) (sure : sound_ledger (ledger_of ws) ≡ true) (d : Date) (h : LedgerHeader) (he : h ≡ header_of (ledger_of ws)) (check : Check)
+module _ (ws : List ℕ) (sure : sound_ledger (ledger_of ws) ≡ true) (d : Date) (h : LedgerHeader) (he : h ≡ header_of (ledger_of ws)) (check : Result ⊤ Cause)
     (ke : check ≡ first (close_causes d h.today)) where
   abbrev l : Ledger
   l = ledger_of ws
 
-  cause-now : (k : Check) → check ≡ k → cause_in l (close d) ≡ k
+  cause-now : (k : Result ⊤ Cause) → check ≡ k → cause_in l (close d) ≡ k
   unfolding causes
   cause-now k e = cause-sound l (close d) sure ∙ sym (ke ∙ ap (λ (t : LedgerHeader). first (close_causes d t.today)) he) ∙ e
 
-  pub close-stops : (n : ℕ) → check ≡ Stop n → (l ≡ (called l (close d)).ledger) × (Refused n ≡ (called l (close d)).answer)
+  pub close-stops : (n : Cause) → check ≡ Err n → (l ≡ (called l (close d)).ledger) × (Err n ≡ (called l (close d)).answer)
   close-stops n e =
-      let x = called-stop l (close d) n (cause-now (Stop n) e) in
+      let x = called-stop l (close d) n (cause-now (Err n) e) in
       (ap (λ (r : Called). r.ledger) x, ap (λ (r : Called). r.answer) x)
 
-  pub close-made : check ≡ Clear → (closed : ℕ) → closed ≡ count (closes h.today d) (take h.count l.bills)
+  pub close-made : check ≡ Ok tt → (closed : ℕ) → closed ≡ count (closes h.today d) (take h.count l.bills)
       → (with_header l (record { today = d; tracking = h.tracking; confirmation = h.confirmation; count = h.count }) ≡ (called l (close d)).ledger)
       × (quiet_answer closed ≡ (called l (close d)).answer)
   close-made e closed ce =
-      let x = close-done l d (omega (arith, ledger-count l sure, places_of ws (sound-holds ws sure))) (cause-now Clear e) in
+      let x = close-done l d (omega (arith, ledger-count l sure, places_of ws (sound-holds ws sure))) (cause-now (Ok tt) e) in
       let y : closed ≡ count (closes l.today d) (live l) = ce ∙ ap (λ (t : LedgerHeader). count (closes t.today d) (take t.count l.bills)) he in (
         ap (λ (t : LedgerHeader). with_header l (record { today = d; tracking = t.tracking; confirmation = t.confirmation; count = t.count })) he
             ∙ sym (ap (λ (r : Called). r.ledger) x),
@@ -126,7 +124,7 @@ module _ (ws : List ℕ) (sure : sound_ledger (ledger_of ws) ≡ true) (d : Date
       )
 
 -- ---- a group's turn, by the header that the words hold
-pub turn-here : (d : Bool) (f : Found) (b : Bill) (g : Group) (c : Tally) (writes : Bool) (out₀ out : List ℕ) (x : TurnResult) (h k : LedgerHeader) → h ≡ k
+pub turn-here : (d : Bool) (f : Option ℕ) (b : Bill) (g : Group) (c : Tally) (writes : Bool) (out₀ out : List ℕ) (x : TurnResult) (h k : LedgerHeader) → h ≡ k
     → TurnLeaves (verdict_on d h.today (sought_by f b) g) g h b c writes out₀ out x → TurnLeaves (verdict_on d k.today (sought_by f b) g) g k b c writes out₀ out x
 turn-here d f b g c writes out₀ out x h k e w =
     subst (λ (t : LedgerHeader). TurnLeaves (verdict_on d t.today (sought_by f b) g) g t b c writes out₀ out x) e w

@@ -12,9 +12,6 @@ use Rattle.units.proofs.DateLaws.{date-some}
 use Rattle.ledger.specs.declared.Bill.{Bill}
 use Rattle.ledger.specs.declared.Ledger.{Ledger}
 use Rattle.ledger.specs.declared.LedgerHeader.{LedgerHeader}
-use Rattle.ledger.specs.declared.Removal.TheVariants.{On}
-use Rattle.rules.specs.declared.Found.{Found}
-use Rattle.rules.specs.declared.Found.TheVariants as found
 use Rattle.rules.specs.Lists.{has}
 use Rattle.ledger.specs.Books.{live, of_account}
 use Rattle.ledger.specs.parts.Places.{bill_at, header_of, removed_first}
@@ -23,82 +20,83 @@ use Rattle.ledger.proofs.SoundLaws.{ledger-count}
 use Rattle.words.specs.Layout.{holds_ledger, ledger_of, removal_said}
 use Rattle.words.proofs.WordLaws.{sound-holds}
 use Rattle.places.proofs.PartLaws.{places_of, removal-said}
-use Rattle.rules.specs.declared.Check.{Check}
-use Rattle.rules.specs.declared.Check.TheVariants.{Clear, Stop}
 use Rattle.rules.specs.Rules.{first}
 use Rattle.file.specs.File.{Group, asks_id}
-use Rattle.verdict.specs.declared.Verdict.{Verdict}
-use Rattle.verdict.specs.declared.Verdict.TheVariants.{Accepted, Rejected}
 use Rattle.group.specs.declared.Tally.{Tally}
 use Rattle.group.specs.declared.TurnResult.{TurnResult}
 use Rattle.group.specs.parts.Turns.{bill_by, TurnLeaves}
 use Rattle.causes.specs.declared.AccountRemoval.{AccountRemoval}
 use Rattle.causes.specs.declared.BillCall.{BillCall}
 use Rattle.causes.specs.declared.BillCall.TheVariants as bill_call
-use Rattle.causes.specs.declared.Decision.{Decision}
+use Rattle.ledger.specs.declared.Update.{Update}
 use Rattle.causes.specs.Causes.{removal, removal_causes}
-use Rattle.causes.specs.parts.Decisions.{causes_by, decided_by}
+use Rattle.causes.specs.parts.Decisions.{causes_by, update_by, decided_by}
 use Rattle.causes.proofs.CauseLaws.{removes}
-use Rattle.calls.specs.declared.Answer.TheVariants.{Refused}
 use Rattle.calls.specs.declared.Called.{Called}
 use Rattle.calls.specs.Machine.{called}
 use Rattle.calls.specs.Days.{quiet_answer}
 use Rattle.calls.proofs.CallLaws.{called-stop}
 use Rattle.calls.proofs.RemovalCalls.{removal-cause, removal-done}
+use Rattle.std.specs.Prelude.{Option, Some, None, Result, Ok, Err, ⊤}
+use Rattle.ledger.specs.declared.Posted.{Posted}
+use Rattle.rules.specs.declared.Cause.{Cause}
+use Rattle.rules.specs.declared.ErrorCode.{ErrorCode}
 
 -- ---- what is stored has a removal date that its word says
 -- a request or a cancel leaves that of the bill, or none
-said-by : (k : Check) (c : BillCall) (h : LedgerHeader) (f : Found) (b : Bill) → removal_said b.terms.removal ≡ true
-    → removal_said (decided_by k c h f b).update.bill.terms.removal ≡ true
-said-by (Stop n) c h f b e = e
-said-by Clear (bill_call.Request r) h found.Nothing b e = refl
-said-by Clear (bill_call.Request r) h (found.At p) b e = e
-said-by Clear (bill_call.Cancel id) h f b e = e
+said-by : (k : Result ⊤ Cause) (c : BillCall) (h : LedgerHeader) (f : Option ℕ) (b : Bill) → removal_said b.terms.removal ≡ true
+    → (u : Update) → decided_by k c h f b ≡ Ok u → removal_said u.bill.terms.removal ≡ true
+said-by (Err n) c h f b e u d = let z : ◌≡◌ {A = ℕ} 0 1 = cc in absurd (omega arith)
+said-by (Ok x) c h f b e u d = let z : update_by c h f b ≡ u = cc in rw (sym z) (said c f)
+  where
+    said : (c : BillCall) (f : Option ℕ) → removal_said (update_by c h f b).bill.terms.removal ≡ true
+    said (bill_call.Request r) None = refl
+    said (bill_call.Request r) (Some p) = e
+    said (bill_call.Cancel id) f = e
 
 -- so does a group
-said-after : (v : Verdict) (sup : Bool) (b : Bill) → removal_said b.terms.removal ≡ true → removal_said (bill_by v sup b).terms.removal ≡ true
-said-after (Accepted amounts) sup b e = e
-said-after (Rejected n) sup b e = e
+said-after : (v : Result Posted ErrorCode) (sup : Bool) (b : Bill) → removal_said b.terms.removal ≡ true → removal_said (bill_by v sup b).terms.removal ≡ true
+said-after (Ok amounts) sup b e = e
+said-after (Err n) sup b e = e
 
 -- where b was read at place p of the words
 module _ (ws : List ℕ) (holds : holds_ledger ws ≡ true) (p : ℕ) (within : p < 128) (b : Bill) (be : b ≡ bill_at (ledger_of ws) p) where
   said_here : removal_said b.terms.removal ≡ true
   said_here = ap (λ (x : Bill). removal_said x.terms.removal) be ∙ removal-said ws holds p within
 
-  pub said-decided : (room : ℕ) (c : BillCall) (h : LedgerHeader) (f : Found) (d : Decision) → d ≡ decided_by (first (causes_by c room h f b)) c h f b
-      → removal_said d.update.bill.terms.removal ≡ true
-  said-decided room c h f d e =
-      ap (λ (x : Decision). removal_said x.update.bill.terms.removal) e ∙ said-by (first (causes_by c room h f b)) c h f b said_here
+  pub said-decided : (room : ℕ) (c : BillCall) (h : LedgerHeader) (f : Option ℕ) (d : Result Update Cause) → d ≡ decided_by (first (causes_by c room h f b)) c h f b
+      → (u : Update) → d ≡ Ok u → removal_said u.bill.terms.removal ≡ true
+  said-decided room c h f d e u g = said-by (first (causes_by c room h f b)) c h f b said_here u (sym e ∙ g)
 
-  pub said-turn : {v : Verdict} {g : Group} {h : LedgerHeader} {c : Tally} {writes : Bool} {out₀ out : List ℕ} {r : TurnResult}
+  pub said-turn : {v : Result Posted ErrorCode} {g : Group} {h : LedgerHeader} {c : Tally} {writes : Bool} {out₀ out : List ℕ} {r : TurnResult}
       → TurnLeaves v g h b c writes out₀ out r → removal_said r.update.bill.terms.removal ≡ true
   said-turn {v} {g} x = ap (λ (y : Bill). removal_said y.terms.removal) x.bill ∙ said-after v (asks_id g) b said_here
 
 -- a date is not 0
-said-date : (d : Date) → is_date d.0 ≡ true → removal_said (On d) ≡ true
+said-date : (d : Date) → is_date d.0 ≡ true → removal_said (Some d) ≡ true
 said-date d h = rw (ne_eqb d.0 0 (λ e. omega (arith, date-some d.0 h)))
 
 -- ---- the call
 module _ (ws : List ℕ) (sure : sound_ledger (ledger_of ws) ≡ true) (a : AccountRemoval) (h : LedgerHeader) (he : h ≡ header_of (ledger_of ws)) (held : Bool)
-    (ae : held ≡ has (of_account a.account) (take h.count (ledger_of ws).bills)) (check : Check) (ke : check ≡ first (removal_causes a held)) where
+    (ae : held ≡ has (of_account a.account) (take h.count (ledger_of ws).bills)) (check : Result ⊤ Cause) (ke : check ≡ first (removal_causes a held)) where
   abbrev l : Ledger
   l = ledger_of ws
 
   held-here : held ≡ has (of_account a.account) (live l)
   held-here = ae ∙ ap (λ (t : LedgerHeader). has (of_account a.account) (take t.count l.bills)) he
 
-  pub removal-stops : (n : ℕ) → check ≡ Stop n → (l ≡ (called l (removal a)).ledger) × (Refused n ≡ (called l (removal a)).answer)
+  pub removal-stops : (n : Cause) → check ≡ Err n → (l ≡ (called l (removal a)).ledger) × (Err n ≡ (called l (removal a)).answer)
   removal-stops n e =
-      let x = called-stop l (removal a) n (removal-cause l a sure held held-here check (Stop n) ke e) in
+      let x = called-stop l (removal a) n (removal-cause l a sure held held-here check (Err n) ke e) in
       (ap (λ (r : Called). r.ledger) x, ap (λ (r : Called). r.answer) x)
 
-  pub date-said : check ≡ Clear → removal_said (On a.date) ≡ true
+  pub date-said : check ≡ Ok tt → removal_said (Some a.date) ≡ true
   date-said e = said-date a.date (removes a held (sym ke ∙ e)).date
 
-  pub removal-made : check ≡ Clear
+  pub removal-made : check ≡ Ok tt
       → (removed_first h.count a.account a.date l ≡ (called l (removal a)).ledger) × (quiet_answer 0 ≡ (called l (removal a)).answer)
   removal-made e =
-      let x = removal-done l a (omega (arith, ledger-count l sure, places_of ws (sound-holds ws sure))) (removal-cause l a sure held held-here check Clear ke e) in (
+      let x = removal-done l a (omega (arith, ledger-count l sure, places_of ws (sound-holds ws sure))) (removal-cause l a sure held held-here check (Ok tt) ke e) in (
         ap (λ (t : LedgerHeader). removed_first t.count a.account a.date l) he ∙ sym (ap (λ (r : Called). r.ledger) x),
         sym (ap (λ (r : Called). r.answer) x),
       )

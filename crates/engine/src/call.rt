@@ -13,17 +13,16 @@ ghost use Rattle.engine.specs.parts.Calls.{CalledIn};
 ghost use Rattle.ledger.specs.Limits.{ledger_places};
 
 use crate::file_groups;
-use calendar::Day;
-use calls::Answer;
+use calls::Returned;
 use causes::{AccountRemoval, BillCall, CalendarRequest, Request, Start, by_calendar, checks};
 use decisions::{notice, requests};
 use ledger::{Identity, LedgerHeader};
 use places::{accounts, place};
-use rules::Check;
+use rules::Cause;
 use units::Date;
 
 // A request or a cancel: its bill found, the call decided, and what that leaves stored.
-fn bill_call_in(ws: &mut [u64], out: &mut [u8], writes: bool, room: usize, c: BillCall) -> Answer
+fn bill_call_in(ws: &mut [u64], out: &mut [u8], writes: bool, room: usize, c: BillCall) -> Result<Returned, Cause>
     requires { (sound_ledger (ledger_of ws.old) ≡ true) × (writes ≡ true → room ≤ length out.old) }
     ensures { CalledIn writes (as_call c room) ws.old out.old ws.new out.new result }
 {
@@ -32,13 +31,8 @@ fn bill_call_in(ws: &mut [u64], out: &mut [u8], writes: bool, room: usize, c: Bi
     let f = place::find(ws, count, requests::call_identity(c));
     let p = ledger::books::bill_place(f, count);
     let b = place::bill_at(ws, p);
-    let d = requests::decide(c, room, h, f, b);
-    let check = d.check;
-    if let Check::Stop(n) = check {
-        return Answer::Refused(n);
-    }
+    let u = requests::decide(c, room, h, f, b)?;
     let change = requests::change_of(c, b);
-    let u = d.update;
     let k = u.bill;
     notice::put(out, writes, c, h, f, b, k);
     place::update(ws, p, u);
@@ -46,7 +40,7 @@ fn bill_call_in(ws: &mut [u64], out: &mut [u8], writes: bool, room: usize, c: Bi
 }
 
 // The call request.
-pub fn request_in(ws: &mut [u64], out: &mut [u8], writes: bool, room: usize, r: Request) -> Answer
+pub fn request_in(ws: &mut [u64], out: &mut [u8], writes: bool, room: usize, r: Request) -> Result<Returned, Cause>
     requires { (sound_ledger (ledger_of ws.old) ≡ true) × (writes ≡ true → room ≤ length out.old) }
     ensures { CalledIn writes (request r room) ws.old out.old ws.new out.new result }
 {
@@ -61,23 +55,18 @@ pub fn calendar_in(
     room: usize,
     q: CalendarRequest,
     holidays: &[u64],
-) -> Answer
+) -> Result<Returned, Cause>
     requires { (sound_ledger (ledger_of ws.old) ≡ true) × (writes ≡ true → room ≤ length out.old) }
     ensures { CalledIn writes (calendar q holidays.now room) ws.old out.old ws.new out.new result }
 {
     let h = place::header(ws);
-    let day = by_calendar::due_day(q, holidays, h.today);
-    match day {
-        Day::On(d) => {
-            let r = by_calendar::on_date(q.request, d);
-            request_in(ws, out, writes, room, r)
-        }
-        Day::Refused(n) => Answer::Refused(n),
-    }
+    let day = by_calendar::due_day(q, holidays, h.today)?;
+    let r = by_calendar::on_date(q.request, day);
+    request_in(ws, out, writes, room, r)
 }
 
 // The call cancel.
-pub fn cancel_in(ws: &mut [u64], out: &mut [u8], writes: bool, room: usize, id: Identity) -> Answer
+pub fn cancel_in(ws: &mut [u64], out: &mut [u8], writes: bool, room: usize, id: Identity) -> Result<Returned, Cause>
     requires { (sound_ledger (ledger_of ws.old) ≡ true) × (writes ≡ true → room ≤ length out.old) }
     ensures { CalledIn writes (cancel id room) ws.old out.old ws.new out.new result }
 {
@@ -85,15 +74,12 @@ pub fn cancel_in(ws: &mut [u64], out: &mut [u8], writes: bool, room: usize, id: 
 }
 
 // The file call.
-pub fn file_in(ws: &mut [u64], out: &mut [u8], writes: bool, room: usize, s: &[u8]) -> Answer
+pub fn file_in(ws: &mut [u64], out: &mut [u8], writes: bool, room: usize, s: &[u8]) -> Result<Returned, Cause>
     requires { (sound_ledger (ledger_of ws.old) ≡ true) × (writes ≡ true → room ≤ length out.old) }
     ensures { CalledIn writes (file s.now room) ws.old out.old ws.new out.new result }
 {
     let h = place::header(ws);
-    let check = checks::file_check(s, room, h.tracking, h.confirmation);
-    if let Check::Stop(n) = check {
-        return Answer::Refused(n);
-    }
+    checks::file_check(s, room, h.tracking, h.confirmation)?;
     let c = file_groups::take(ws, out, writes, s, s.len() / records::RECORD_SIZE);
     calls::carried_out::cleared(c)
 }
@@ -114,16 +100,13 @@ fn closed_by(ws: &[u64], n: usize, old: Date, new: Date) -> u64
 }
 
 // The call close.
-pub fn close_in(ws: &mut [u64], d: Date) -> Answer
+pub fn close_in(ws: &mut [u64], d: Date) -> Result<Returned, Cause>
     requires { sound_ledger (ledger_of ws.old) ≡ true }
     ensures { (holds_ledger ws.new ≡ true) × (ledger_of ws.new ≡ (called (ledger_of ws.old) (close d)).ledger) × (result ≡ (called (ledger_of ws.old) (close d)).answer) }
 {
     let h = place::header(ws);
     let today = h.today;
-    let check = checks::close_check(d, today);
-    if let Check::Stop(n) = check {
-        return Answer::Refused(n);
-    }
+    checks::close_check(d, today)?;
     let closed = closed_by(ws, h.count, today, d);
     let next = LedgerHeader {
         today: d,
@@ -136,30 +119,24 @@ pub fn close_in(ws: &mut [u64], d: Date) -> Answer
 }
 
 // The call removal: the date is set where the bills of the account stand.
-pub fn removal_in(ws: &mut [u64], a: AccountRemoval) -> Answer
+pub fn removal_in(ws: &mut [u64], a: AccountRemoval) -> Result<Returned, Cause>
     requires { sound_ledger (ledger_of ws.old) ≡ true }
     ensures { (holds_ledger ws.new ≡ true) × (ledger_of ws.new ≡ (called (ledger_of ws.old) (removal a)).ledger) × (result ≡ (called (ledger_of ws.old) (removal a)).answer) }
 {
     let h = place::header(ws);
     let count = h.count;
     let held = accounts::has_account(ws, count, a.account);
-    let check = checks::removal_check(a, held);
-    if let Check::Stop(n) = check {
-        return Answer::Refused(n);
-    }
+    checks::removal_check(a, held)?;
     accounts::remove(ws, count, a.account, a.date);
     calls::carried_out::quiet(0)
 }
 
 // Fresh: whatever the words held is gone; a fresh that is refused leaves each as it was.
-pub fn fresh_in(ws: &mut [u64], s: Start) -> Answer
+pub fn fresh_in(ws: &mut [u64], s: Start) -> Result<Returned, Cause>
     requires { length ws.old ≡ ledger_size }
     ensures { (ledger_of ws.new ≡ (fresh_called (ledger_of ws.old) s).ledger) × (result ≡ (fresh_called (ledger_of ws.old) s).answer) × (ws.new ≡ words_left ws.old (fresh_called (ledger_of ws.old) s).ledger (fresh_called (ledger_of ws.old) s).answer) }
 {
-    let check = checks::fresh_check(s);
-    if let Check::Stop(n) = check {
-        return Answer::Refused(n);
-    }
+    checks::fresh_check(s)?;
     words::write_empty(ws, s.today.0, s.tracking, s.confirmation);
     calls::carried_out::quiet(0)
 }

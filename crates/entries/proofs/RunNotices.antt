@@ -17,7 +17,6 @@ use Rattle.words.specs.Layout.{ledger_of}
 use Rattle.words.proofs.WordLaws.{words_long, sound-holds}
 use Rattle.group.specs.parts.Turns.{if_written}
 use Rattle.group.proofs.OutputLaws.{Out, out-start, out-more}
-use Rattle.calls.specs.declared.Answer.{Answer}
 use Rattle.calls.specs.Machine.{outcomes}
 use Rattle.journal.specs.declared.Head.{Head}
 use Rattle.journal.specs.declared.Head.TheVariants.{Cut, Bad, Whole}
@@ -32,6 +31,9 @@ use Rattle.entries.specs.parts.Stepping.{StepOn, SteppedIn}
 use Rattle.entries.specs.parts.Running.{entry_at, ran_to, FirstMade, NoneLeft, RanIn}
 use Rattle.entries.proofs.StoodLaws.{Stood, stood-whole, stood-left}
 use Rattle.entries.proofs.FirstMadeLaws.{first-none, left-full, left-none, next_fits, first_more}
+use Rattle.std.specs.Prelude.{Result}
+use Rattle.rules.specs.declared.Cause.{Cause}
+use Rattle.calls.specs.declared.Returned.{Returned}
 
 -- ---- entries one after another
 pub notices-append : (k : Book) (es fs : List Entry) → notices_of k (es ++ fs) ≡ notices_of k es ++ notices_of (after_entries k es) fs
@@ -155,7 +157,7 @@ module _ (src ws₀ : List ℕ) (seen₀ : ℕ) (writes : Bool) (out₀ ws out :
         let x = stood-left writes n seen (drop at src) ws out ws' out' r s bad e in
         rw (x.1, x.2) (ends false bad f (left-none src at seen n bad x.0))
 
-    module _ (m : ℕ) (a : Answer) (e : r ≡ step.Made m a) where
+    module _ (m : ℕ) (a : Result Returned Cause) (e : r ≡ step.Made m a) where
       abbrev was : Stood writes n seen (drop at src) ws out ws' out' r s m a
       was = stood-whole writes n seen (drop at src) ws out ws' out' r s m a e
 

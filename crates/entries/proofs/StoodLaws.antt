@@ -5,7 +5,6 @@ use mathlib.Core.Bool.{Bool, true, false}
 use mathlib.Core.List.{List, []}
 use native.Mathlib.Omega.{arith}
 use Rattle.fields.specs.Put.{part}
-use Rattle.calls.specs.declared.Answer.{Answer}
 use Rattle.journal.specs.declared.Body.{Body}
 use Rattle.journal.specs.declared.Head.{Head}
 use Rattle.journal.specs.declared.Head.TheVariants.{Cut, Bad, Whole}
@@ -15,13 +14,16 @@ use Rattle.journal.proofs.JournalLaws.{parse-cut, parse-bad}
 use Rattle.entries.specs.declared.entry.Stepped.{Stepped}
 use Rattle.entries.specs.declared.entry.Stepped.TheVariants as step
 use Rattle.entries.specs.parts.Stepping.{EntryCalledIn, StepOn, SteppedIn}
+use Rattle.std.specs.Prelude.{Result}
+use Rattle.rules.specs.declared.Cause.{Cause}
+use Rattle.calls.specs.declared.Returned.{Returned}
 
 module _ (writes : Bool) (n seen : ℕ) (src ws₀ out₀ ws out : List ℕ) (r : Stepped) (x : SteppedIn writes n seen src ws₀ out₀ ws out r) where
   -- a whole entry, with what its call left
-  abbrev pub Stood : ℕ → Answer → Type 0
+  abbrev pub Stood : ℕ → Result Returned Cause → Type 0
   Stood m a = (b : Body) × (head_of seen src ≡ Whole b m) × EntryCalledIn writes 64200 n b (part src 3 (m - 3)) ws₀ out₀ ws out a
 
-  pub stood-whole : (m : ℕ) (a : Answer) → r ≡ step.Made m a → Stood m a
+  pub stood-whole : (m : ℕ) (a : Result Returned Cause) → r ≡ step.Made m a → Stood m a
   stood-whole m a q = go (head_of seen src) refl x
     where
       go : (h : Head) → head_of seen src ≡ h → StepOn h writes n src ws₀ out₀ ws out r → Stood m a
@@ -34,7 +36,7 @@ module _ (writes : Bool) (n seen : ℕ) (src ws₀ out₀ ws out : List ℕ) (r 
             b,
             e ∙ ap (λ (i : ℕ). Whole b i) z,
             subst (λ (i : ℕ). EntryCalledIn writes 64200 n b (part src 3 (i - 3)) ws₀ out₀ ws out a) z
-                (subst (λ (v : Answer). EntryCalledIn writes 64200 n b (part src 3 (k - 3)) ws₀ out₀ ws out v) y w.2),
+                (subst (λ (v : Result Returned Cause). EntryCalledIn writes 64200 n b (part src 3 (k - 3)) ws₀ out₀ ws out v) y w.2),
           )
 
   -- no whole entry: nothing is parsed there, and words and output are as they were

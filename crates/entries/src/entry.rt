@@ -6,15 +6,16 @@ ghost use Rattle.journal.proofs.MadeLaws.{Taken};
 ghost use Rattle.entries.specs.parts.Stepping.{EntryCalledIn, SteppedIn};
 ghost use Rattle.records.specs.Limits.{file_size};
 
-use calls::Answer;
+use calls::Returned;
 use engine::call;
 use journal::{Body, Head};
+use rules::Cause;
 
 // What stands before a reader: no whole good entry, and whether a bad one; or one that was made, with how many bytes it has and what its call answers.
 #[derive(Clone, Copy)]
 pub enum Stepped {
     NoEntry(bool),
-    Made(usize, Answer),
+    Made(usize, Result<Returned, Cause>),
 }
 
 // Makes an entry, whose body's bytes are s; its call is lent so much room.
@@ -25,7 +26,7 @@ pub fn entry(
     room: usize,
     body: Body,
     s: &[u8],
-) -> Answer
+) -> Result<Returned, Cause>
     requires ws_value { (sound_ledger (ledger_of ws.old) ≡ true) × Taken body }
     requires room_in_bounds { writes ≡ true → room ≤ length out.old }
     ensures { EntryCalledIn writes room 0 body s.now ws.old out.old ws.new out.new result }
@@ -37,7 +38,7 @@ pub fn entry(
         Body::Close(d) => call::close_in(ws, d),
         Body::Removal(a) => call::removal_in(ws, a),
         Body::Fresh(x) => call::fresh_in(ws, x),
-        Body::Unread => Answer::Refused(2),
+        Body::Unread => Err(Cause::BadArgument),
     }
 }
 

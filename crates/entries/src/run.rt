@@ -10,7 +10,8 @@ ghost use Rattle.records.specs.Limits.{file_size};
 
 use crate::entry;
 use crate::entry::Stepped;
-use calls::Answer;
+use calls::Returned;
+use rules::Cause;
 
 // How many bytes were read, how many entries came by now, how many bytes stand of them in the output or would, whether the output has no room for another entry's, and
 // whether a bad entry stands there.
@@ -37,12 +38,12 @@ pub fn ran_to(used: usize, seen: u64, written: usize, full: bool, stopped: bool)
 }
 
 // How many bytes a call wrote, or would have written.
-fn written(a: Answer) -> usize
+fn written(a: Result<Returned, Cause>) -> usize
     ensures { result ≡ length_of a }
 {
     match a {
-        Answer::Done(r) => r.written,
-        Answer::Refused(_) => 0,
+        Ok(r) => r.written,
+        Err(_) => 0,
     }
 }
 

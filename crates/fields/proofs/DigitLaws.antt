@@ -8,13 +8,13 @@ use native.Mathlib.Omega.{arith}
 use lib.ListN.{length, get_or, set, length-append}
 use Rattle.fields.specs.Put.{put}
 use Rattle.fields.specs.Field.{field_of}
-use Rattle.fields.specs.declared.Field.TheVariants.{Number, NotNumeric}
 use Rattle.fields.proofs.BoolLaws.{and_both}
 use Rattle.fields.proofs.PutLaws.{put-cons}
 use lib.Arith.{mod-mul, digits_lt, digits_div}
 use lib.Dec.{leb}
 use borrow.Author.Tests.{le-leb, leb-true, lt-leb}
 use Rattle.fields.specs.Digits.{digits, number, is_digit, numeric}
+use Rattle.std.specs.Prelude.{Some, None}
 
 pub pow_pos : (w : ℕ) → 0 < 10 ^ w
 pow_pos zero = omega arith
@@ -151,16 +151,16 @@ div-more n w i h k =
     div-div-eq-div-mul n (10 ^ (w - i)) 10 ∙ ap (λ (j : ℕ). n / j) (sym (pow-suc 10 (w - i)) ∙ ap (λ (j : ℕ). 10 ^ j) (sym e))
 
 -- what a field holds, by its test
-pub field-number : (xs : List ℕ) (n : ℕ) → numeric xs ≡ true → n ≡ number xs → Number n ≡ field_of xs
+pub field-number : (xs : List ℕ) (n : ℕ) → numeric xs ≡ true → n ≡ number xs → Some n ≡ field_of xs
 unfolding field_of
 field-number xs n h e = rw (h, e)
 
-pub field-not : (xs : List ℕ) → numeric xs ≡ false → NotNumeric ≡ field_of xs
+pub field-not : (xs : List ℕ) → numeric xs ≡ false → None ≡ field_of xs
 unfolding field_of
 field-not xs h = rw h
 
 -- a field that was written reads back as its number
-pub field-digits : (w n : ℕ) → n < 10 ^ w → field_of (digits w n) ≡ Number n
+pub field-digits : (w n : ℕ) → n < 10 ^ w → field_of (digits w n) ≡ Some n
 field-digits w n h = sym (field-number (digits w n) n (numeric-digits w n) (sym (number_digits w n h)))
 
 -- two numbers with the same digits are equal

@@ -10,28 +10,33 @@ use borrow.Author.Tests.{eqb-true, eqb-false}
 use Rattle.fields.specs.Digits.{digits, number, numeric}
 use Rattle.fields.specs.Put.{part, same_list, holds}
 use Rattle.fields.specs.Field.{field_of, value}
-use Rattle.fields.specs.declared.Field.TheVariants.{Number, NotNumeric}
 use Rattle.fields.proofs.BoolLaws.{cases}
 use Rattle.fields.proofs.PutLaws.{length_part, part-whole}
 use Rattle.fields.proofs.DigitLaws.{number_lt, pow-le, pow_pos, digits_number}
 use Rattle.fields.proofs.SameLaws.{same_refl, same_false, same_parts, differ-parts}
+use Rattle.std.specs.Prelude.{Some, None, is_some}
 
 -- a field that holds a number is numeric, and that is its number
-pub field_is : (xs : List ℕ) (n : ℕ) → field_of xs ≡ Number n → (numeric xs ≡ true) × (n ≡ number xs)
+pub field_is : (xs : List ℕ) (n : ℕ) → field_of xs ≡ Some n → (numeric xs ≡ true) × (n ≡ number xs)
 unfolding field_of
 field_is xs n e = go (numeric xs) refl e
   where
-    go : (b : Bool) → numeric xs ≡ b → cond b (Number (number xs)) NotNumeric ≡ Number n → (numeric xs ≡ true) × (n ≡ number xs)
+    go : (b : Bool) → numeric xs ≡ b → cond b (Some (number xs)) None ≡ Some n → (numeric xs ≡ true) × (n ≡ number xs)
     go true h k = (h, cc)
     go false h k = let z : ◌≡◌ {A = ℕ} 0 1 = cc in absurd (omega arith)
 
-pub field-isnt : (xs : List ℕ) → field_of xs ≡ NotNumeric → numeric xs ≡ false
+pub field-isnt : (xs : List ℕ) → field_of xs ≡ None → numeric xs ≡ false
 unfolding field_of
 field-isnt xs e = go (numeric xs) refl e
   where
-    go : (b : Bool) → numeric xs ≡ b → cond b (Number (number xs)) NotNumeric ≡ NotNumeric → numeric xs ≡ false
+    go : (b : Bool) → numeric xs ≡ b → cond b (Some (number xs)) None ≡ None → numeric xs ≡ false
     go true h k = let z : ◌≡◌ {A = ℕ} 0 1 = cc in absurd (omega arith)
     go false h k = h
+
+-- a field holds a number where it is numeric
+pub holds-number : (xs : List ℕ) → is_some (field_of xs) ≡ numeric xs
+unfolding field_of
+holds-number xs = cases (numeric xs) (λ h. rw h) (λ h. rw h)
 
 -- a part that is compared with a list of its length
 pub holds-part : (xs ys : List ℕ) (i n : ℕ) → length ys ≡ n → same_list (part xs i n) ys ≡ holds xs i ys
@@ -49,7 +54,7 @@ module _ (xs ys : List ℕ) (i : ℕ) where
   holds-differ k h d = rw whole at (differ-parts xs ys i 0 (length ys) k h d)
 
 -- a number read of w bytes is below 10 ^ w
-pub field_below : (r : List ℕ) (at w n : ℕ) → at + w ≤ length r → field_of (part r at w) ≡ Number n → n < 10 ^ w
+pub field_below : (r : List ℕ) (at w n : ℕ) → at + w ≤ length r → field_of (part r at w) ≡ Some n → n < 10 ^ w
 field_below r at w n h e =
     let f = field_is (part r at w) n e in
     rw f.1 (subst (λ (k : ℕ). number (part r at w) < 10 ^ k) (length_part r at w h) (number_lt (part r at w) f.0))

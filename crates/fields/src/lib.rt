@@ -4,7 +4,7 @@
 ghost use Rattle.std.specs.Prelude.{◌≡◌, ◌+◌, ◌≤◌, length};
 ghost use Rattle.fields.specs.Digits.{digits, is_digit, numeric};
 ghost use Rattle.fields.specs.Put.{put, part, filled, same_list, holds};
-ghost use Rattle.fields.specs.Field.{field_of, value};
+ghost use Rattle.fields.specs.Field.{field_of};
 
 // Writes the `width` lowest digits of n into out from index `at` on.
 pub fn put_digits(out: &mut [u8], at: usize, width: usize, n: u64)
@@ -85,27 +85,8 @@ pub fn is_digit(x: u8) -> bool
     (48 <= x) & (x <= 57)
 }
 
-// What a field holds: a number, where it holds digits only.
-#[derive(Clone, Copy)]
-pub enum Field {
-    Number(u64),
-    NotNumeric,
-}
-
-impl Field {
-    // Its number, 0 where it is not numeric.
-    pub fn value(self) -> u64
-        ensures { result ≡ value self }
-    {
-        match self {
-            Field::Number(n) => n,
-            Field::NotNumeric => 0,
-        }
-    }
-}
-
-// Reads a whole slice as a field. Nineteen digits always fit a u64.
-pub fn read_digits(f: &[u8]) -> Field
+// What a whole slice holds as a field: a number, where it holds digits only. Nineteen digits always fit a u64.
+pub fn read_digits(f: &[u8]) -> Option<u64>
     requires { length f.now ≤ 19 }
     ensures { result ≡ field_of f.now }
 {
@@ -114,19 +95,19 @@ pub fn read_digits(f: &[u8]) -> Field
     while i < f.len() {
         let x = f[i];
         if x < 48 {
-            return Field::NotNumeric;
+            return None;
         }
         if 57 < x {
-            return Field::NotNumeric;
+            return None;
         }
         n = n * 10 + (x - 48) as u64;
         i += 1;
     }
-    Field::Number(n)
+    Some(n)
 }
 
 // Reads the field of `width` bytes from index `at` on.
-pub fn read_field(s: &[u8], at: usize, width: usize) -> Field
+pub fn read_field(s: &[u8], at: usize, width: usize) -> Option<u64>
     requires { (at + width ≤ length s.now) × (width ≤ 19) }
     ensures { result ≡ field_of (part s.now at width) }
 {
@@ -138,10 +119,7 @@ pub fn is_numeric(s: &[u8], at: usize, width: usize) -> bool
     requires { (at + width ≤ length s.now) × (width ≤ 19) }
     ensures { result ≡ numeric (part s.now at width) }
 {
-    let Field::Number(_) = read_field(s, at, width) else {
-        return false;
-    };
-    true
+    read_field(s, at, width).is_some()
 }
 
 // Whether n bytes of a from index i on are those of b from index j on.

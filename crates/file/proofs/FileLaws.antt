@@ -14,9 +14,13 @@ use Rattle.rules.specs.Lists.{every, count}
 use Rattle.rules.proofs.ListLaws.{every_append}
 use Rattle.records.specs.Layout.{record_at, records_from, is_rsp, is_sup}
 use Rattle.records.proofs.LayoutLaws.{records-step, records-end, length-records}
-use Rattle.file.specs.declared.Form.TheVariants.{Broken, Unknown, Response, Supplement}
 use Rattle.file.specs.File.{printable, is_header, good_record, headed, Group, leading, groups, asks_id, detail_of, unfit, line1, line2, form_of}
 use Rattle.file.specs.parts.Walk.{records_after, group_at, pair_form}
+use Rattle.records.specs.declared.Notification.{Notification}
+use Rattle.records.specs.declared.Notification.TheVariants.{Response, Supplement}
+use Rattle.rules.specs.declared.ErrorCode.{ErrorCode}
+use Rattle.rules.specs.declared.ErrorCode.TheVariants.{Br17, Br19}
+use Rattle.std.specs.Prelude.{Result, Ok, Err}
 
 -- ---- the check
 -- one byte more
@@ -148,7 +152,7 @@ module _ (s : List ℕ) (i n : ℕ) where
   unfolding line1
   line1-one e = rw (length-details, eq-eqb (leading (records_after s i n)) 1 e, only-detail e, header_is)
 
-  pub form-many : (leading (records_after s i n) ≡ 1 → ⊥) → Broken ≡ form_of (group_at s i n)
+  pub form-many : (leading (records_after s i n) ≡ 1 → ⊥) → (Err Br17) ≡ form_of (group_at s i n)
   unfolding form_of
   form-many h = rw (line1-many h)
 
@@ -156,7 +160,7 @@ module _ (s : List ℕ) (i n : ℕ) where
   unfolding form_of pair_form line2
   form-one e = rw (line1-one e, header_is) (go (unfit (record_at s i) (record_at s (i + 1))) (is_rsp (record_at s i)) (is_sup (record_at s i)))
     where
-      go : (u r p : Bool) → cond u Broken (cond r Response (cond p Supplement Unknown)) ≡ cond u Broken (cond (not r && not p) Unknown (cond r Response Supplement))
+      go : (u r p : Bool) → cond u (Err Br17) (cond r (Ok Response) (cond p (Ok Supplement) (Err Br19))) ≡ cond u (Err Br17) (cond (not r && not p) (Err Br19) (cond r (Ok Response) (Ok Supplement)))
       go true r p = refl
       go false true p = refl
       go false false true = refl

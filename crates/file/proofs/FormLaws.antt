@@ -10,18 +10,21 @@ use Rattle.fields.specs.Text.{text}
 use Rattle.fields.specs.Digits.{numeric}
 use Rattle.fields.specs.Put.{positions, same_list}
 use Rattle.records.specs.Layout.{record_at, company_in, account_in, record_count_in, key_in, is_rsp}
-use Rattle.file.specs.declared.Form.{Form}
-use Rattle.file.specs.declared.Form.TheVariants.{Broken, Unknown, Response, Supplement}
 use Rattle.file.specs.File.{Group, leading, unfit, line1, line2, form_of}
 use Rattle.file.specs.parts.Walk.{records_after, group_at}
 use Rattle.file.proofs.FileLaws.{line1-many, line1-one, leading-within}
+use Rattle.records.specs.declared.Notification.{Notification}
+use Rattle.records.specs.declared.Notification.TheVariants.{Response, Supplement}
+use Rattle.rules.specs.declared.ErrorCode.{ErrorCode}
+use Rattle.rules.specs.declared.ErrorCode.TheVariants.{Br17, Br19}
+use Rattle.std.specs.Prelude.{Result, Ok, Err}
 
 -- what the form says of lines 1 and 2
-pub record Says (f : Form) (u v r : Bool) : Type 0 where
-  pub broken : f ≡ Broken → u ≡ true
-  pub unknown : f ≡ Unknown → (u ≡ false) × (v ≡ true)
-  pub response : f ≡ Response → (u ≡ false) × (v ≡ false) × (r ≡ true)
-  pub supplement : f ≡ Supplement → (u ≡ false) × (v ≡ false) × (r ≡ false)
+pub record Says (f : Result Notification ErrorCode) (u v r : Bool) : Type 0 where
+  pub broken : f ≡ (Err Br17) → u ≡ true
+  pub unknown : f ≡ (Err Br19) → (u ≡ false) × (v ≡ true)
+  pub response : f ≡ (Ok Response) → (u ≡ false) × (v ≡ false) × (r ≡ true)
+  pub supplement : f ≡ (Ok Supplement) → (u ≡ false) × (v ≡ false) × (r ≡ false)
 
 never : {A : Type 0} → ◌≡◌ {A = ℕ} 0 1 → A
 never e = absurd (omega arith)
@@ -30,7 +33,7 @@ pub says : (g : Group) → Says (form_of g) (line1 g) (line2 g) (is_rsp g.header
 unfolding form_of
 says g = go (line1 g) (line2 g) (is_rsp g.header)
   where
-    go : (u v r : Bool) → Says (cond u Broken (cond v Unknown (cond r Response Supplement))) u v r
+    go : (u v r : Bool) → Says (cond u (Err Br17) (cond v (Err Br19) (cond r (Ok Response) (Ok Supplement)))) u v r
     go true v r = record { broken = λ e. refl; unknown = λ e. never (cc); response = λ e. never (cc); supplement = λ e. never (cc) }
     go false true r = record { broken = λ e. never (cc); unknown = λ e. (refl, refl); response = λ e. never (cc); supplement = λ e. never (cc) }
     go false false true = record { broken = λ e. never (cc); unknown = λ e. never (cc); response = λ e. (refl, refl, refl); supplement = λ e. never (cc) }

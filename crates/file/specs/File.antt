@@ -1,13 +1,15 @@
 -- The supplier file: its check, its groups, and lines 1 to 3. Assumes nothing.
-use Rattle.std.specs.Prelude.{ℕ, suc, ◌/◌, ◌%◌, Bool, true, cond, not, ◌&&◌, ◌||◌, List, [], ◌∷◌, eqb, leb, length, get_or, take}
+use Rattle.std.specs.Prelude.{ℕ, suc, ◌/◌, ◌%◌, Bool, true, cond, not, ◌&&◌, ◌||◌, List, [], ◌∷◌, eqb, leb, length, get_or, take, Result, Ok, Err}
 use Rattle.fields.specs.Text.{text}
 use Rattle.fields.specs.Digits.{numeric}
 use Rattle.fields.specs.Put.{positions, same_list}
 use Rattle.rules.specs.Lists.{every, has}
 use Rattle.records.specs.Limits.{record_size, file_size}
 use Rattle.records.specs.Layout.{records_from, company_in, account_in, type_in, notice_in, record_count_in, key_in, is_rsp, is_sup}
-use Rattle.file.specs.declared.Form.{Form}
-use Rattle.file.specs.declared.Form.TheVariants.{Broken, Unknown, Response, Supplement}
+use Rattle.records.specs.declared.Notification.{Notification}
+use Rattle.records.specs.declared.Notification.TheVariants.{Response, Supplement}
+use Rattle.rules.specs.declared.ErrorCode.{ErrorCode}
+use Rattle.rules.specs.declared.ErrorCode.TheVariants.{Br17, Br19}
 
 -- ---- the check of a file
 -- the records of a file
@@ -101,5 +103,5 @@ unfoldable pub line3 : List Group → Group → Bool
 line3 others g = has (alike g) others
 
 -- what lines 1 and 2 say of a group
-unfoldable pub form_of : Group → Form
-form_of g = cond (line1 g) Broken (cond (line2 g) Unknown (cond (is_rsp g.header) Response Supplement))
+unfoldable pub form_of : Group → Result Notification ErrorCode
+form_of g = cond (line1 g) (Err Br17) (cond (line2 g) (Err Br19) (cond (is_rsp g.header) (Ok Response) (Ok Supplement)))

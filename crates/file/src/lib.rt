@@ -8,16 +8,8 @@ ghost use Rattle.records.specs.Layout.{record_at, records_from, is_sup};
 ghost use Rattle.file.specs.File.{printable, is_header, good_record, good_file, leading, groups, asks_id, unfit, form_of};
 ghost use Rattle.file.specs.parts.Walk.{records_after, group_at, pair_form};
 
-use records::{FILE_SIZE, RECORD_SIZE, layout};
-
-// What lines 1 and 2 say of a group: BR17, BR19, or its Notification Code.
-#[derive(Clone, Copy)]
-pub enum Form {
-    Broken,
-    Unknown,
-    Response,
-    Supplement,
-}
+use records::{FILE_SIZE, Notification, RECORD_SIZE, layout};
+use rules::ErrorCode;
 
 // Whether the first n bytes of r are codes from 32 to 126. (No early exit: the loop is vectorised.)
 fn all_printable(r: &[u8], n: usize) -> bool
@@ -151,31 +143,31 @@ fn unfit_pair(h: &[u8], d: &[u8]) -> bool
         | !fields::is_numeric(d, layout::KEY, layout::KEY_WIDTH)
 }
 
-// Lines 1 and 2 for a header and its only detail.
-fn pair_form(h: &[u8], d: &[u8]) -> Form
+// Lines 1 and 2 for a header and its only detail: BR17, BR19, or the Notification Code.
+fn pair_form(h: &[u8], d: &[u8]) -> Result<Notification, ErrorCode>
     requires { (60 ≤ length h.now) × (45 ≤ length d.now) }
     ensures { result ≡ pair_form h.now d.now }
 {
     if unfit_pair(h, d) {
-        return Form::Broken;
+        return Err(ErrorCode::Br17);
     }
     if records::has_notice(h, b"RSP") {
-        return Form::Response;
+        return Ok(Notification::Response);
     }
     if records::has_notice(h, b"SUP") {
-        return Form::Supplement;
+        return Ok(Notification::Supplement);
     }
-    Form::Unknown
+    Err(ErrorCode::Br19)
 }
 
-// Lines 1 and 2 for the group whose header is record i.
-pub fn form_at(s: &[u8], i: usize, n: usize) -> Form
+// Lines 1 and 2 for the group whose header is record i: BR17, BR19, or the Notification Code.
+pub fn form_at(s: &[u8], i: usize, n: usize) -> Result<Notification, ErrorCode>
     requires { (i < n) × (n * record_size ≤ length s.now) }
     ensures { result ≡ form_of (group_at s.now i n) }
 {
     let k = detail_count(s, i, n);
     if k != 1 {
-        return Form::Broken;
+        return Err(ErrorCode::Br17);
     }
     let a = i * RECORD_SIZE;
     let b = (i + 1) * RECORD_SIZE;

@@ -15,65 +15,52 @@ use Rattle.units.specs.Units.{fits_cents}
 use Rattle.units.specs.Calendar.{is_date}
 use Rattle.units.specs.declared.Date.{Date}
 use Rattle.ledger.specs.declared.Bill.{Bill}
-use Rattle.rules.specs.declared.Found.{Found}
-use Rattle.rules.specs.declared.Found.TheVariants as found
 use Rattle.ledger.specs.declared.Posted.{Posted}
 use Rattle.ledger.specs.Bills.{is_prepay, charge_of, posting}
 use Rattle.ledger.specs.Books.{Book, View, view, bill_charge, small_charge}
 use Rattle.records.specs.Layout.{notice_in, sequence_in, detail_charge_in, is_rsp, is_sup}
 use Rattle.file.specs.File.{Group, detail_of, asks_id, line1, line2}
-use Rattle.rules.specs.declared.Check.{Check}
-use Rattle.rules.specs.declared.Check.TheVariants.{Clear, Stop}
-use Rattle.verdict.specs.declared.Notification.{Notification}
-use Rattle.verdict.specs.declared.Notification.TheVariants.{Supplement}
-use Rattle.verdict.specs.declared.Sought.{Sought}
-use Rattle.verdict.specs.declared.Sought.TheVariants as sought
-use Rattle.verdict.specs.declared.Verdict.{Verdict}
-use Rattle.verdict.specs.declared.Verdict.TheVariants.{Accepted, Rejected}
+use Rattle.records.specs.declared.Notification.{Notification}
+use Rattle.records.specs.declared.Notification.TheVariants.{Supplement}
+use Rattle.rules.proofs.RuleLaws.{clear-off}
 use Rattle.rules.specs.Rules.{Rule, rule, first}
 use Rattle.verdict.specs.Lines.{terms_of, line4, line5, line6, line7, lines8to10, sent_consumption, sent_charge, amounts_of, settle}
 use Rattle.verdict.specs.parts.Dated.{dated_terms, Dated}
 use Rattle.group.specs.Groups.{sought, notification_of, lines_by, lines_on, verdict_on, verdict_by}
 use Rattle.group.specs.parts.Turns.{sought_by, in_widths, InWidthsAt, CanPost, came_by, went_by}
+use Rattle.std.specs.Prelude.{Option, Some, None, Result, Ok, Err, ⊤}
+use Rattle.ledger.specs.declared.Terms.{Terms}
+use Rattle.rules.specs.declared.ErrorCode.{ErrorCode}
+use Rattle.rules.specs.declared.ErrorCode.TheVariants.{Br14, Br16, Br17, Br19}
 
 -- ---- no verdict accepts where there is no bill
-pub nothing-rejects : (t : Bool) (today : Date) (g : Group) → (n : ℕ) × (verdict_on t today sought.Nothing g ≡ Rejected n)
+pub nothing-rejects : (t : Bool) (today : Date) (g : Group) → (n : ErrorCode) × (verdict_on t today None g ≡ Err n)
 unfolding verdict_on line4
 nothing-rejects t today g =
-    cases (line1 g) (λ a. (17, rw a))
-    (λ a. cases (line2 g) (λ b. (19, rw (a, b))) (λ b. cases t (λ d. (14, rw (a, b, d))) (λ d. (16, rw (a, b, d)))))
+    cases (line1 g) (λ a. (Br17, rw a))
+    (λ a. cases (line2 g) (λ b. (Br19, rw (a, b))) (λ b. cases t (λ d. (Br14, rw (a, b, d))) (λ d. (Br16, rw (a, b, d)))))
 
 -- ---- what is accepted can be posted, and its charges are small
-module _ (t : Bool) (today : Date) (f : Found) (b : Bill) (g : Group) where
-  abbrev now : Verdict
+module _ (t : Bool) (today : Date) (f : Option ℕ) (b : Bill) (g : Group) where
+  abbrev now : Result Posted ErrorCode
   now = verdict_on t today (sought_by f b) g
 
-  calm-posts : (v : Verdict) → b.terms.sequence ≤ 999 → CanPost v b
-  calm-posts (Accepted amounts) h = h
-  calm-posts (Rejected n) h = tt
+  calm-posts : (v : Result Posted ErrorCode) → b.terms.sequence ≤ 999 → CanPost v b
+  calm-posts (Ok amounts) h = h
+  calm-posts (Err n) h = tt
 
   pub can-post : InWidthsAt f b → CanPost now b
   unfolding in_widths
   can-post h = go f refl
     where
-      go : (k : Found) → f ≡ k → CanPost now b
-      go (found.At p) e = calm-posts now (leb-true _ _ (and_left (leb b.terms.sequence 999) (small_charge b && dated_terms b.terms) (rw e at h)))
-      go found.Nothing e = let q = nothing-rejects t today g in rw (e, q.1) tt
+      go : (k : Option ℕ) → f ≡ k → CanPost now b
+      go (Some p) e = calm-posts now (leb-true _ _ (and_left (leb b.terms.sequence 999) (small_charge b && dated_terms b.terms) (rw e at h)))
+      go None e = let q = nothing-rejects t today g in rw (e, q.1) tt
 
 -- ---- a bill stays in_widths
--- each condition of a list of rules is false
-abbrev pub Off : List Rule → Type 0
-Off [] = Unit {0}
-Off (rule b n ∷ rs) = (b ≡ false) × Off rs
-
-pub clear-off : (rs : List Rule) → first rs ≡ Clear → Off rs
-clear-off [] e = tt
-clear-off (rule true n ∷ rs) e = let z : ◌≡◌ {A = ℕ} 0 1 = cc in absurd (omega arith)
-clear-off (rule false n ∷ rs) e = (refl, clear-off rs e)
-
-settle-clear : (c : Check) (x y : Posted) → settle c x ≡ Accepted y → (c ≡ Clear) × (x ≡ y)
-settle-clear Clear x y e = (refl, cc)
-settle-clear (Stop n) x y e = let z : ◌≡◌ {A = ℕ} 0 1 = cc in absurd (omega arith)
+settle-clear : (c : Result ⊤ ErrorCode) (x y : Posted) → settle c x ≡ Ok y → (c ≡ Ok tt) × (x ≡ y)
+settle-clear (Ok tt) x y e = (refl, cc)
+settle-clear (Err n) x y e = let z : ◌≡◌ {A = ℕ} 0 1 = cc in absurd (omega arith)
 
 -- a code that is SUP is not RSP
 sup-not-rsp : (h : List ℕ) → is_sup h ≡ true → is_rsp h ≡ false
@@ -86,15 +73,15 @@ charge-small true d = lt-ltb _ _ (small-value (detail_charge_in d) 13 (length-pa
 charge-small false d = lt-ltb _ _ (small-value (detail_charge_in d) 13 (length-part-le d 66 13))
 
 -- the lines of a group, with the product's mark written out
-abbrev pub list_for : Bool → Bool → Bool → Notification → Date → List ℕ → List ℕ → Sought → Bool → List Rule
+abbrev pub list_for : Bool → Bool → Bool → Notification → Date → List ℕ → List ℕ → Option Terms → Bool → List (Rule ErrorCode)
 list_for l1 l2 t k today h d b prepay =
-    rule l1 17
-    ∷ rule l2 19
-    ∷ rule t 14
+    rule l1 Br17
+    ∷ rule l2 Br19
+    ∷ rule t Br14
     ∷ line4 b
     ++ (line5 h (terms_of b) ++ (line6 k today h d (terms_of b) ++ (line7 d (terms_of b) ++ lines8to10 prepay h d (sent_consumption d) (sent_charge d))))
 
-sup-room : (l1 l2 t : Bool) (today : Date) (h d : List ℕ) (b : Sought) (prepay : Bool) → first (list_for l1 l2 t Supplement today h d b prepay) ≡ Clear
+sup-room : (l1 l2 t : Bool) (today : Date) (h d : List ℕ) (b : Option Terms) (prepay : Bool) → first (list_for l1 l2 t Supplement today h d b prepay) ≡ Ok tt
     → eqb (terms_of b).sequence 999 ≡ false
 unfolding line4 line5 line6
 sup-room l1 l2 t today h d b prepay e =
@@ -102,8 +89,8 @@ sup-room l1 l2 t today h d b prepay e =
     (or-both (not (same_list (sequence_in d) (text "000"))) (eqb (terms_of b).sequence 999) o.1.1.1.1.1.1.1.1.1.0).1
 
 -- no line holds of an accepted group, and its amounts are the detail's
-pub accepted-clear : (t : Bool) (v : View) (g : Group) (amounts : Posted) → verdict_by t v g ≡ Accepted amounts
-    → (first (lines_by t v g) ≡ Clear) × (amounts_of (is_prepay (terms_of (sought v g)).product) (detail_of g) ≡ amounts)
+pub accepted-clear : (t : Bool) (v : View) (g : Group) (amounts : Posted) → verdict_by t v g ≡ Ok amounts
+    → (first (lines_by t v g) ≡ Ok tt) × (amounts_of (is_prepay (terms_of (sought v g)).product) (detail_of g) ≡ amounts)
 unfolding verdict_by verdict_on lines_by
 accepted-clear t v g amounts e = settle-clear (first (lines_by t v g)) _ amounts e
 
@@ -112,9 +99,9 @@ dated-posted : (amounts : Posted) (sup : Bool) (b : Bill) → dated_terms (posti
 unfolding dated_terms
 dated-posted amounts sup b = refl
 
-module _ (t : Bool) (k : Book) (g : Group) (b : Bill) (amounts : Posted) (v : verdict_by t (view k) g ≡ Accepted amounts)
-    (y : sought (view k) g ≡ sought.Bill b.terms) where
-  clears : (first (lines_by t (view k) g) ≡ Clear) × (amounts_of (is_prepay (terms_of (sought (view k) g)).product) (detail_of g) ≡ amounts)
+module _ (t : Bool) (k : Book) (g : Group) (b : Bill) (amounts : Posted) (v : verdict_by t (view k) g ≡ Ok amounts)
+    (y : sought (view k) g ≡ Some b.terms) where
+  clears : (first (lines_by t (view k) g) ≡ Ok tt) × (amounts_of (is_prepay (terms_of (sought (view k) g)).product) (detail_of g) ≡ amounts)
   clears = accepted-clear t (view k) g amounts v
 
   -- a SUP is accepted only while the sequence has room
@@ -122,7 +109,7 @@ module _ (t : Bool) (k : Book) (g : Group) (b : Bill) (amounts : Posted) (v : ve
   unfolding lines_by
   room e =
       let r : notification_of g ≡ Supplement = rw (sup-not-rsp g.header e) in
-      let c = subst (λ (m : Notification). first (list_for (line1 g) (line2 g) t m k.today g.header (detail_of g) (sought (view k) g) (is_prepay (terms_of (sought (view k) g)).product)) ≡ Clear) r clears.0 in
+      let c = subst (λ (m : Notification). first (list_for (line1 g) (line2 g) t m k.today g.header (detail_of g) (sought (view k) g) (is_prepay (terms_of (sought (view k) g)).product)) ≡ Ok tt) r clears.0 in
       let x = sup-room (line1 g) (line2 g) t k.today g.header (detail_of g) (sought (view k) g) _ c in
       eqb-false b.terms.sequence 999 (rw y at x)
 
@@ -138,10 +125,10 @@ module _ (t : Bool) (k : Book) (g : Group) (b : Bill) (amounts : Posted) (v : ve
       (λ e. rw e (ap (λ (x : Bool). x && true) (le-leb b.terms.sequence 999 a))))
 
 -- ---- the dates that line 6 reads
-pub dated-by : (today : Date) (f : Found) (b : Bill) → is_date today.0 ≡ true → InWidthsAt f b → Dated today (sought_by f b)
+pub dated-by : (today : Date) (f : Option ℕ) (b : Bill) → is_date today.0 ≡ true → InWidthsAt f b → Dated today (sought_by f b)
 unfolding in_widths
-dated-by today found.Nothing b h k = tt
-dated-by today (found.At p) b h k =
+dated-by today None b h k = tt
+dated-by today (Some p) b h k =
     (h, and_right (small_charge b) (dated_terms b.terms) (and_right (leb b.terms.sequence 999) (small_charge b && dated_terms b.terms) k))
 
 -- ---- the charges that come and go
@@ -149,20 +136,20 @@ small_of : (c : Bill) → in_widths c ≡ true → bill_charge c ≤ 10 ^ 13
 unfolding in_widths
 small_of c e = omega (arith, ltb-true (bill_charge c) (10 ^ 13) (and_left (small_charge c) (dated_terms c.terms) (and_right (leb c.terms.sequence 999) (small_charge c && dated_terms c.terms) e)))
 
-pub came-small : (t : Bool) (today : Date) (b : Sought) (g : Group) → came_by (verdict_on t today b g) ≤ 10 ^ 13
+pub came-small : (t : Bool) (today : Date) (b : Option Terms) (g : Group) → came_by (verdict_on t today b g) ≤ 10 ^ 13
 unfolding verdict_on
 came-small t today b g = go (first (lines_on t today b g))
   where
-    go : (c : Check) → came_by (settle c (amounts_of (is_prepay (terms_of b).product) (detail_of g))) ≤ 10 ^ 13
-    go Clear =
+    go : (c : Result ⊤ ErrorCode) → came_by (settle c (amounts_of (is_prepay (terms_of b).product) (detail_of g))) ≤ 10 ^ 13
+    go (Ok tt) =
         let m : fits_cents (charge_of (amounts_of (is_prepay (terms_of b).product) (detail_of g))) ≡ true = charge-small (is_prepay (terms_of b).product) (detail_of g) in
         omega (arith, ltb-true (charge_of (amounts_of (is_prepay (terms_of b).product) (detail_of g))).0 (10 ^ 13) m)
-    go (Stop n) = omega arith
+    go (Err n) = omega arith
 
-pub went-small : (t : Bool) (today : Date) (f : Found) (b : Bill) (g : Group) → InWidthsAt f b → went_by (verdict_on t today (sought_by f b) g) b ≤ 10 ^ 13
-went-small t today found.Nothing b g h = let q = nothing-rejects t today g in rw q.1 (omega arith)
-went-small t today (found.At p) b g h = go (verdict_on t today (sought_by (found.At p) b) g)
+pub went-small : (t : Bool) (today : Date) (f : Option ℕ) (b : Bill) (g : Group) → InWidthsAt f b → went_by (verdict_on t today (sought_by f b) g) b ≤ 10 ^ 13
+went-small t today None b g h = let q = nothing-rejects t today g in rw q.1 (omega arith)
+went-small t today (Some p) b g h = go (verdict_on t today (sought_by (Some p) b) g)
   where
-    go : (v : Verdict) → went_by v b ≤ 10 ^ 13
-    go (Accepted amounts) = small_of b h
-    go (Rejected n) = omega arith
+    go : (v : Result Posted ErrorCode) → went_by v b ≤ 10 ^ 13
+    go (Ok amounts) = small_of b h
+    go (Err n) = omega arith

@@ -13,15 +13,16 @@ use Rattle.ledger.specs.declared.Identity.{Identity}
 use Rattle.ledger.specs.Books.{Book, View, view}
 use Rattle.records.specs.Layout.{company_in, account_in, tracking_in, notice_in, record_count_in, key_in, is_rsp}
 use Rattle.file.specs.File.{Group, detail_of, asks_id, unfit, line1, line2, passes, alike, line3}
-use Rattle.verdict.specs.declared.Sought.{Sought}
-use Rattle.verdict.specs.declared.Verdict.{Verdict}
-use Rattle.verdict.specs.declared.Verdict.TheVariants.{Accepted, Rejected}
 use Rattle.records.specs.Tiers.{tier_consumptions, tier_charges}
 use Rattle.verdict.specs.Lines.{verdict_of}
 use Rattle.verdict.proofs.LinesRead.{Agree, reads-rsp, reads-sup}
 use Rattle.group.specs.Groups.{identity_of, notification_of, sought, sought_in, verdict_on, verdict_by, verdict, settled, verdict_here, taken, verdicts}
 use Rattle.group.specs.Reads.{SameHeader, SameDetail, SameGroup, Pairwise, NoLineReads}
 use Rattle.group.proofs.DecideLaws.{verdict-line1, verdict-line2, verdict-line3, verdict-rest}
+use Rattle.std.specs.Prelude.{Option, Result, Ok, Err}
+use Rattle.ledger.specs.declared.Terms.{Terms}
+use Rattle.ledger.specs.declared.Posted.{Posted}
+use Rattle.rules.specs.declared.ErrorCode.{ErrorCode}
 
 -- the groups agree on what is read; a SUP's Tracking ID "is read by line 1 only", which asks whether it differs from the detail's
 pub record SameRead (g g' : Group) : Type 0 where
@@ -71,7 +72,7 @@ same-line3 (o ∷ os) [] g g' a p = absurd p
 same-line3 (o ∷ os) (o' ∷ os') g g' a p = rw (same_alike g g' o o' a p.0, same-line3 os os' g g' a p.1)
 
 -- ---- the verdict
-module _ (t : Bool) (today : Date) (b : Sought) (g g' : Group) (a : SameRead g g') where
+module _ (t : Bool) (today : Date) (b : Option Terms) (g g' : Group) (a : SameRead g g') where
   same_rest : verdict_of (notification_of g) today g.header (detail_of g) b ≡ verdict_of (notification_of g') today g'.header (detail_of g') b
   same_rest =
       cases (is_rsp g.header)
@@ -96,10 +97,10 @@ reads v os os' g g' a p =
     ∙ same-verdict (line3 os' g') v.today (sought v g') g g' a
 
 -- ---- the groups of a file
-same-settled : (l : Book) (g g' : Group) (v : Verdict) → SameRead g g' → settled l g v ≡ settled l g' v
+same-settled : (l : Book) (g g' : Group) (v : Result Posted ErrorCode) → SameRead g g' → settled l g v ≡ settled l g' v
 unfolding settled
-same-settled l g g' (Accepted amounts) a = rw (same-sup g g' a, same-identity g g' a)
-same-settled l g g' (Rejected n) a = refl
+same-settled l g g' (Ok amounts) a = rw (same-sup g g' a, same-identity g g' a)
+same-settled l g g' (Err n) a = refl
 
 both : (P : Group → Group → Type 0) (xs xs' ys ys' : List Group) → Pairwise P xs xs' → Pairwise P ys ys' → Pairwise P (xs ++ ys) (xs' ++ ys')
 both P [] [] ys ys' p q = q
@@ -120,8 +121,8 @@ reads_all l before before' (g ∷ gs) (g' ∷ gs') p q =
     let here = both SameRead before before' (g ∷ []) (g' ∷ []) p (a, tt) in
     let more = reads_all (settled l g (verdict_here before l g gs)) (before ++ (g ∷ [])) (before' ++ (g' ∷ [])) gs gs' here q.1 in
     let rest = settled l g' (verdict_here before' l g' gs') in (
-      ap (λ (vs : List Verdict). verdict_here before l g gs ∷ vs) (more.0 ∙ ap (λ (m : Book). verdicts (before' ++ (g' ∷ [])) m gs') k)
-          ∙ ap (λ (x : Verdict). x ∷ verdicts (before' ++ (g' ∷ [])) rest gs') v,
+      ap (λ (vs : List (Result Posted ErrorCode)). verdict_here before l g gs ∷ vs) (more.0 ∙ ap (λ (m : Book). verdicts (before' ++ (g' ∷ [])) m gs') k)
+          ∙ ap (λ (x : Result Posted ErrorCode). x ∷ verdicts (before' ++ (g' ∷ [])) rest gs') v,
       more.1 ∙ ap (λ (m : Book). taken (before' ++ (g' ∷ [])) m gs') k,
     )
 

@@ -13,7 +13,6 @@ use Rattle.units.specs.Calendar.{is_date}
 use Rattle.ledger.specs.declared.Bill.{Bill}
 use Rattle.ledger.specs.declared.Ledger.{Ledger}
 use Rattle.ledger.specs.declared.LedgerHeader.{LedgerHeader}
-use Rattle.rules.specs.declared.Found.{Found}
 use Rattle.ledger.specs.declared.Identity.{Identity}
 use Rattle.rules.specs.Lists.{every, count, update}
 use Rattle.ledger.specs.Bills.{posting}
@@ -24,8 +23,6 @@ use Rattle.file.specs.File.{is_header, Group, leading, groups, asks_id, line3}
 use Rattle.file.specs.parts.Walk.{records_after, group_at, before, mark_at}
 use Rattle.file.proofs.FileLaws.{groups-header, groups-detail, groups-end, leading-header, leading-detail, leading-within, from_start}
 use Rattle.file.proofs.WalkLaws.{before-header, before-detail}
-use Rattle.verdict.specs.declared.Verdict.{Verdict}
-use Rattle.verdict.specs.declared.Verdict.TheVariants.{Accepted, Rejected}
 use Rattle.group.specs.declared.Tally.{Tally}
 use Rattle.group.specs.declared.TurnResult.{TurnResult}
 use Rattle.group.specs.Groups.{identity_of, verdict_on, verdict_by, verdict_here, settled, answer, taken, answers, verdicts, is_accepted, is_rejected}
@@ -36,6 +33,9 @@ use Rattle.group.proofs.DecideLaws.{by-duplicate}
 use Rattle.group.proofs.AcceptedLaws.{calm-posted, came-small, went-small}
 use Rattle.group.proofs.AnswerSizes.{answer-long}
 use Rattle.group.proofs.TurnLaws.{Comes, rejects, posts, comes, stored-book, verdict-is, ledger-is, answer-is, sums-is}
+use Rattle.std.specs.Prelude.{Option, Result, Ok, Err}
+use Rattle.ledger.specs.declared.Posted.{Posted}
+use Rattle.rules.specs.declared.ErrorCode.{ErrorCode}
 
 -- ---- the struct and its book
 pub book-stored : (l : Ledger) (k : Book) → book (stored l k) ≡ k
@@ -57,10 +57,10 @@ length-update p f (b ∷ bs) = go (p b) (length-update p f bs)
     go true e = refl
     go false e = ap suc e
 
-pub length-settled : (k : Book) (g : Group) (v : Verdict) → length (settled k g v).bills ≡ length k.bills
+pub length-settled : (k : Book) (g : Group) (v : Result Posted ErrorCode) → length (settled k g v).bills ≡ length k.bills
 unfolding settled
-length-settled k g (Accepted amounts) = length-update (of_id (identity_of g)) (posting amounts (asks_id g)) k.bills
-length-settled k g (Rejected n) = refl
+length-settled k g (Ok amounts) = length-update (of_id (identity_of g)) (posting amounts (asks_id g)) k.bills
+length-settled k g (Err n) = refl
 
 every_set : (q : Bill → Bool) (bs : List Bill) (p : ℕ) (b : Bill) → every q bs ≡ true → q b ≡ true → every q (set bs p b) ≡ true
 every_set q [] p b a e = refl
@@ -69,7 +69,7 @@ every_set q (x ∷ bs) (suc p) b a e = rw (and_left (q x) (every q bs) a) (every
 
 -- ---- one group
 module _ (t : Bool) (l : Ledger) (g : Group) where
-  abbrev v : Verdict
+  abbrev v : Result Posted ErrorCode
   v = verdict_by t (view (book l)) g
 
   calm-kept : l.count ≤ length l.bills → every in_widths (live l) ≡ true → every in_widths (settled (book l) g v).bills ≡ true
@@ -86,15 +86,15 @@ module _ (t : Bool) (l : Ledger) (g : Group) where
   unfolding settled
   numbers_up = go v
     where
-      go : (w : Verdict) → ((settled (book l) g w).tracking ≤ l.next_tracking + 1) × ((settled (book l) g w).confirmation ≤ l.next_confirmation + 1)
-      go (Accepted amounts) = (by (asks_id g), omega arith)
+      go : (w : Result Posted ErrorCode) → ((settled (book l) g w).tracking ≤ l.next_tracking + 1) × ((settled (book l) g w).confirmation ≤ l.next_confirmation + 1)
+      go (Ok amounts) = (by (asks_id g), omega arith)
         where
           by : (b : Bool) → l.next_tracking + cond b 1 0 ≤ l.next_tracking + 1
           by true = omega arith
           by false = omega arith
-      go (Rejected n) = (omega arith, omega arith)
+      go (Err n) = (omega arith, omega arith)
 
-count-cons : (q : Verdict → Bool) (v : Verdict) (vs : List Verdict) → count q (v ∷ vs) ≡ cond (q v) 1 0 + count q vs
+count-cons : (q : Result Posted ErrorCode → Bool) (v : Result Posted ErrorCode) (vs : List (Result Posted ErrorCode)) → count q (v ∷ vs) ≡ cond (q v) 1 0 + count q vs
 count-cons q v vs = go (q v)
   where
     go : (b : Bool) → cond b (suc (count q vs)) (count q vs) ≡ cond b 1 0 + count q vs
@@ -208,7 +208,7 @@ module _ (s : List ℕ) (n : ℕ) (l : Ledger) (writes : Bool) (out₀ : List �
   walk-room e room z = omega (arith, room z, w.wrote.kept, w.room, leading-header s i n h e)
 
   -- ---- a record that is a header: what its turn asks and leaves, where its bill was found at f, and p is the place
-  module _ (f : Found) (fe : f ≡ place_of (identity_at s i n) (live k)) (p : ℕ) (pe : p ≡ place_for f k.count) where
+  module _ (f : Option ℕ) (fe : f ≡ place_of (identity_at s i n) (live k)) (p : ℕ) (pe : p ≡ place_for f k.count) where
     pub walk-calm : InWidthsAt f (bill_at k p)
     walk-calm = spot-calm k f p (omega (arith, w.places, w.few)) w.bills (spots k w.few (identity_at s i n) f p fe pe)
 
@@ -221,7 +221,7 @@ module _ (s : List ℕ) (n : ℕ) (l : Ledger) (writes : Bool) (out₀ : List �
       abbrev kb : Book
       kb = book k
 
-      abbrev now : Verdict
+      abbrev now : Result Posted ErrorCode
       now = verdict_by t (view kb) g
 
       abbrev after_turn : Ledger
@@ -260,25 +260,25 @@ module _ (s : List ℕ) (n : ℕ) (l : Ledger) (writes : Bool) (out₀ : List �
       unfolding taken
       books-step =
           ap (taken (before s n i) kb) groups-are
-          ∙ ap (λ (x : Verdict). taken ahead (settled kb g x) (rest s n (i + 1))) (sym same)
+          ∙ ap (λ (x : Result Posted ErrorCode). taken ahead (settled kb g x) (rest s n (i + 1))) (sym same)
           ∙ sym (ap₂ (λ (x : List Group) (y : Book). taken x y (rest s n (i + 1))) (before-header s n i e) book-is)
 
       verdicts-step : verdicts (before s n i) kb (rest s n i) ≡ now ∷ verdicts (before s n (i + 1)) (book after_turn) (rest s n (i + 1))
       unfolding verdicts
       verdicts-step =
           ap (verdicts (before s n i) kb) groups-are
-          ∙ ap (λ (x : Verdict). x ∷ verdicts ahead (settled kb g x) (rest s n (i + 1))) (sym same)
-          ∙ ap (λ (x : List Verdict). now ∷ x) (sym (ap₂ (λ (x : List Group) (y : Book). verdicts x y (rest s n (i + 1))) (before-header s n i e) book-is))
+          ∙ ap (λ (x : Result Posted ErrorCode). x ∷ verdicts ahead (settled kb g x) (rest s n (i + 1))) (sym same)
+          ∙ ap (λ (x : List (Result Posted ErrorCode)). now ∷ x) (sym (ap₂ (λ (x : List Group) (y : Book). verdicts x y (rest s n (i + 1))) (before-header s n i e) book-is))
 
       -- one verdict more is counted
-      counts_step : (q : Verdict → Bool) → count q (verdicts (before s n i) kb (rest s n i)) ≡ cond (q now) 1 0 + count q (verdicts (before s n (i + 1)) (book after_turn) (rest s n (i + 1)))
+      counts_step : (q : Result Posted ErrorCode → Bool) → count q (verdicts (before s n i) kb (rest s n i)) ≡ cond (q now) 1 0 + count q (verdicts (before s n (i + 1)) (book after_turn) (rest s n (i + 1)))
       counts_step q = ap (count q) verdicts-step ∙ count-cons q now (verdicts (before s n (i + 1)) (book after_turn) (rest s n (i + 1)))
 
       answers-step : answers (before s n i) kb (rest s n i) ≡ told ++ answers (before s n (i + 1)) (book after_turn) (rest s n (i + 1))
       unfolding answers
       answers-step =
           ap (answers (before s n i) kb) groups-are
-          ∙ ap (λ (x : Verdict). answer (view kb) g x ++ answers ahead (settled kb g x) (rest s n (i + 1))) (sym same)
+          ∙ ap (λ (x : Result Posted ErrorCode). answer (view kb) g x ++ answers ahead (settled kb g x) (rest s n (i + 1))) (sym same)
           ∙ ap₂ (λ (x y : List ℕ). x ++ y) (sym (answer-is k w.places w.few s i n t f p fe pe))
           (sym (ap₂ (λ (x : List Group) (y : Book). answers x y (rest s n (i + 1))) (before-header s n i e) book-is))
 
@@ -319,7 +319,7 @@ module _ (s : List ℕ) (n : ℕ) (l : Ledger) (writes : Bool) (out₀ : List �
           })
 
 -- ---- a turn on the struct, from what its parts answered
-module _ (l : Ledger) (c : Tally) (fine : FitForTurn l c) (s : List ℕ) (i n : ℕ) (id : Identity) (ie : id ≡ identity_at s i n) (f : Found)
+module _ (l : Ledger) (c : Tally) (fine : FitForTurn l c) (s : List ℕ) (i n : ℕ) (id : Identity) (ie : id ≡ identity_at s i n) (f : Option ℕ)
     (fe : f ≡ place_of id (live l)) (p : ℕ) (pe : p ≡ place_for f l.count) (b : Bill) (be : b ≡ bill_at l p) where
   finds : f ≡ place_of (identity_at s i n) (live l)
   finds = fe ∙ ap (λ (x : Identity). place_of x (live l)) ie

@@ -12,8 +12,6 @@ use Rattle.ledger.specs.declared.Bill.{Bill}
 use Rattle.ledger.specs.declared.Identity.{Identity}
 use Rattle.ledger.specs.declared.Ledger.{Ledger}
 use Rattle.ledger.specs.declared.Posted.{Posted}
-use Rattle.rules.specs.declared.Found.{Found}
-use Rattle.rules.specs.declared.Found.TheVariants as found
 use Rattle.rules.specs.Lists.{update}
 use Rattle.ledger.specs.Bills.{posting, blank_bill}
 use Rattle.ledger.specs.Books.{book, live, view, of_id, place_of, stored, bill_charge, total_of}
@@ -21,36 +19,36 @@ use Rattle.ledger.specs.parts.Places.{bill_at, header_of, updated, place_for}
 use Rattle.rules.proofs.ListLaws.{sum-set}
 use Rattle.file.specs.File.{Group, asks_id, line1}
 use Rattle.file.specs.parts.Walk.{group_at}
-use Rattle.verdict.specs.declared.Sought.{Sought}
-use Rattle.verdict.specs.declared.Sought.TheVariants as sought
-use Rattle.verdict.specs.declared.Verdict.{Verdict}
-use Rattle.verdict.specs.declared.Verdict.TheVariants.{Accepted, Rejected}
 use Rattle.group.specs.Groups.{identity_of, sought, lines_by, verdict_on, verdict_by, settled, answer}
 use Rattle.group.specs.parts.Turns.{identity_at, sought_by, bill_by, header_by, answer_at, came_by, went_by}
 use Rattle.group.proofs.FoundLaws.{Held, nowhere, somewhere, held, sought-is}
 use Rattle.group.proofs.DecideLaws.{by-bill, same_name}
-use Rattle.group.proofs.AcceptedLaws.{nothing-rejects, clear-off, accepted-clear}
+use Rattle.group.proofs.AcceptedLaws.{nothing-rejects, accepted-clear}
+use Rattle.rules.proofs.RuleLaws.{clear-off}
+use Rattle.std.specs.Prelude.{Option, Some, Result, Ok, Err}
+use Rattle.ledger.specs.declared.Terms.{Terms}
+use Rattle.rules.specs.declared.ErrorCode.{ErrorCode}
 
 -- what comes of a group on a ledger
 pub data Comes (t : Bool) (l : Ledger) (g : Group) : Type 0 where
-  rejects : (n : ℕ) → verdict_by t (view (book l)) g ≡ Rejected n → Comes t l g
-  posts : (p : ℕ) (amounts : Posted) → p < l.count → verdict_by t (view (book l)) g ≡ Accepted amounts → place_of (identity_of g) (live l) ≡ found.At p
-      → sought (view (book l)) g ≡ sought.Bill (bill_at l p).terms
+  rejects : (n : ErrorCode) → verdict_by t (view (book l)) g ≡ Err n → Comes t l g
+  posts : (p : ℕ) (amounts : Posted) → p < l.count → verdict_by t (view (book l)) g ≡ Ok amounts → place_of (identity_of g) (live l) ≡ Some p
+      → sought (view (book l)) g ≡ Some (bill_at l p).terms
       → ((f : Bill → Bill) → update (of_id (identity_of g)) f (live l) ≡ set (live l) p (f (bill_at l p))) → Comes t l g
 
 pub comes : (t : Bool) (l : Ledger) (g : Group) → Comes t l g
 unfolding verdict_by
 comes t l g = go (held l (identity_of g))
   where
-    by : (p : ℕ) → p < l.count → place_of (identity_of g) (live l) ≡ found.At p → sought (view (book l)) g ≡ sought.Bill (bill_at l p).terms
+    by : (p : ℕ) → p < l.count → place_of (identity_of g) (live l) ≡ Some p → sought (view (book l)) g ≡ Some (bill_at l p).terms
         → ((f : Bill → Bill) → update (of_id (identity_of g)) f (live l) ≡ set (live l) p (f (bill_at l p)))
-        → (v : Verdict) → verdict_by t (view (book l)) g ≡ v → Comes t l g
-    by p h x y z (Accepted amounts) e = posts p amounts h e x y z
-    by p h x y z (Rejected n) e = rejects n e
+        → (v : Result Posted ErrorCode) → verdict_by t (view (book l)) g ≡ v → Comes t l g
+    by p h x y z (Ok amounts) e = posts p amounts h e x y z
+    by p h x y z (Err n) e = rejects n e
 
     go : Held l (identity_of g) → Comes t l g
     go (nowhere x y) =
-        let q = nothing-rejects t l.today g in rejects q.0 (ap (λ (b : Sought). verdict_on t l.today b g) y ∙ q.1)
+        let q = nothing-rejects t l.today g in rejects q.0 (ap (λ (b : Option Terms). verdict_on t l.today b g) y ∙ q.1)
     go (somewhere p h x y z) = by p h x y z (verdict_by t (view (book l)) g) refl
 
 -- a struct whose count is in range holds its book, and past it what it held
@@ -68,12 +66,12 @@ stored-set l p b h k =
     ∙ take-append-drop l.count (set l.bills p b)
 
 -- ---- the turn of the group whose header is record i, where its bill was found at f, and p is the place
-module _ (l : Ledger) (long : length l.bills ≡ 128) (few : l.count ≤ 128) (s : List ℕ) (i n : ℕ) (t : Bool) (f : Found) (p : ℕ)
+module _ (l : Ledger) (long : length l.bills ≡ 128) (few : l.count ≤ 128) (s : List ℕ) (i n : ℕ) (t : Bool) (f : Option ℕ) (p : ℕ)
     (e : f ≡ place_of (identity_at s i n) (live l)) (q : p ≡ place_for f l.count) where
   abbrev g : Group
   g = group_at s i n
 
-  abbrev v : Verdict
+  abbrev v : Result Posted ErrorCode
   v = verdict_by t (view (book l)) g
 
   fits : l.count ≤ length l.bills
@@ -90,11 +88,11 @@ module _ (l : Ledger) (long : length l.bills ≡ 128) (few : l.count ≤ 128) (s
   verdict-is = by-bill t l.today (sought_by f (bill_at l p)) g (sought (view (book l)) g) same-sought
 
   -- a bill that is posted to stands at the place
-  posts-at : (j : ℕ) (amounts : Posted) → j < l.count → v ≡ Accepted amounts → place_of (identity_of g) (live l) ≡ found.At j → p ≡ j
+  posts-at : (j : ℕ) (amounts : Posted) → j < l.count → v ≡ Ok amounts → place_of (identity_of g) (live l) ≡ Some j → p ≡ j
   unfolding lines_by
   posts-at j amounts h x y =
       let o = clear-off (lines_by t (view (book l)) g) (accepted-clear t (view (book l)) g amounts x).0 in
-      let z : f ≡ found.At j = e ∙ ap (λ (id : Identity). place_of id (live l)) (same_name s i n o.0) ∙ y in
+      let z : f ≡ Some j = e ∙ ap (λ (id : Identity). place_of id (live l)) (same_name s i n o.0) ∙ y in
       q ∙ rw (z, lt-ltb j 128 (omega arith))
 
   held-long : length (live l) ≡ l.count

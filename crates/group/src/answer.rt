@@ -8,11 +8,11 @@ ghost use Rattle.file.specs.parts.Walk.{group_at};
 ghost use Rattle.group.specs.parts.Turns.{if_written, answer_at};
 
 use crate::GroupAt;
-use ledger::{Bill, LedgerHeader};
+use ledger::{Bill, LedgerHeader, Posted};
 use notices::acf::Acf;
 use notices::rej::Rej;
 use records::RECORD_SIZE;
-use verdict::Verdict;
+use rules::ErrorCode;
 
 // What the ACF to a group says, where b is the bill at its place.
 fn acf_of(b: Bill, h: LedgerHeader) -> Acf
@@ -45,7 +45,7 @@ pub fn answer(
     writes: bool,
     s: &[u8],
     g: GroupAt,
-    v: Verdict,
+    v: Result<Posted, ErrorCode>,
     b: Bill,
     h: LedgerHeader,
 ) -> usize
@@ -56,14 +56,14 @@ pub fn answer(
     let today = h.today;
     let confirmation = h.confirmation;
     match v {
-        Verdict::Accepted(_) => {
+        Ok(_) => {
             if writes {
                 write_acf(out, at, s, g.header, acf_of(b, h));
                 return RECORD_SIZE;
             }
             RECORD_SIZE
         }
-        Verdict::Rejected(code) => {
+        Err(code) => {
             let k = file::detail_count(s, g.header, g.records);
             if writes {
                 let x = Rej {

@@ -5,45 +5,45 @@ ghost use Rattle.group.specs.Groups.{is_accepted, is_rejected};
 ghost use Rattle.group.specs.parts.Turns.{came_by, went_by, no_tally, tallied, WithinFile};
 
 use crate::Tally;
-use ledger::Bill;
-use verdict::Verdict;
+use ledger::{Bill, Posted};
+use rules::ErrorCode;
 
-fn one_accepted(v: Verdict) -> u64
+fn one_accepted(v: Result<Posted, ErrorCode>) -> u64
     ensures { (result ≡ cond (is_accepted v) 1 0) × (result ≤ 1) }
 {
     match v {
-        Verdict::Accepted(_) => 1,
-        Verdict::Rejected(_) => 0,
+        Ok(_) => 1,
+        Err(_) => 0,
     }
 }
 
-fn one_rejected(v: Verdict) -> u64
+fn one_rejected(v: Result<Posted, ErrorCode>) -> u64
     ensures { (result ≡ cond (is_rejected v) 1 0) × (result ≤ 1) }
 {
     match v {
-        Verdict::Accepted(_) => 0,
-        Verdict::Rejected(_) => 1,
+        Ok(_) => 0,
+        Err(_) => 1,
     }
 }
 
 // The charge that a group posts.
-fn one_came(v: Verdict) -> u64
+fn one_came(v: Result<Posted, ErrorCode>) -> u64
     ensures { result ≡ came_by v }
 {
     match v {
-        Verdict::Accepted(amounts) => amounts.charge().0,
-        Verdict::Rejected(_) => 0,
+        Ok(amounts) => amounts.charge().0,
+        Err(_) => 0,
     }
 }
 
 // The charge that it replaces.
-fn one_went(v: Verdict, b: Bill) -> u64
+fn one_went(v: Result<Posted, ErrorCode>, b: Bill) -> u64
     ensures { result ≡ went_by v b }
 {
     let posted = b.posted;
     match v {
-        Verdict::Accepted(_) => posted.charge().0,
-        Verdict::Rejected(_) => 0,
+        Ok(_) => posted.charge().0,
+        Err(_) => 0,
     }
 }
 
@@ -61,7 +61,7 @@ pub fn none() -> Tally
 }
 
 // One group more, whose answer has so many bytes and before which b stood at its place.
-pub fn add(c: Tally, v: Verdict, b: Bill, size: usize) -> Tally
+pub fn add(c: Tally, v: Result<Posted, ErrorCode>, b: Bill, size: usize) -> Tally
     requires { WithinFile c × (size ≤ file_size) × (came_by v ≤ 10 ^ 13) × (went_by v b ≤ 10 ^ 13) }
     ensures { result ≡ tallied c v b size }
 {

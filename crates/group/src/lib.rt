@@ -13,12 +13,10 @@ ghost use Rattle.verdict.specs.parts.Dated.{Dated};
 ghost use Rattle.group.specs.Groups.{verdict_on};
 ghost use Rattle.group.specs.parts.Turns.{identity_in, identity_at, sought_by, InWidthsAt, CanPost, ids_by, bill_by, WithinFile, TurnLeaves};
 
-use file::Form;
-use ledger::{Bill, Identity, LedgerHeader, Update};
+use ledger::{Bill, Identity, LedgerHeader, Posted, Terms, Update};
 use records::{FILE_RECORDS, RECORD_SIZE};
-use rules::Found;
+use rules::ErrorCode;
 use units::Date;
-use verdict::{Notification, Sought, Verdict};
 
 // A group of a file: the record that is its header, how many records the file has, and whether the group gets BR14.
 #[derive(Clone, Copy)]
@@ -52,8 +50,8 @@ fn identity_of(h: &[u8], d: &[u8]) -> Identity
     ensures { result ≡ identity_in h.now d.now }
 {
     Identity {
-        account: records::account(h).value(),
-        key: records::key(d).value(),
+        account: records::account(h).unwrap_or(0),
+        key: records::key(d).unwrap_or(0),
     }
 }
 
@@ -73,24 +71,14 @@ pub fn identity_at(s: &[u8], i: usize, n: usize) -> Identity
 }
 
 // Lines 1 to 10 for the group whose header is record i; duplicate says what line 3 asks, b is the bill it names.
-pub fn verdict_at(s: &[u8], i: usize, n: usize, duplicate: bool, b: Sought, today: Date) -> Verdict
+pub fn verdict_at(s: &[u8], i: usize, n: usize, duplicate: bool, b: Option<Terms>, today: Date) -> Result<Posted, ErrorCode>
     requires i_lt_n { (i < n) × (n * record_size ≤ length s.now) }
     requires dated { Dated today b }
     ensures { result ≡ verdict_on duplicate today b (group_at s.now i n) }
 {
-    let form = file::form_at(s, i, n);
-    let notification = match form {
-        Form::Broken => {
-            return Verdict::Rejected(17);
-        }
-        Form::Unknown => {
-            return Verdict::Rejected(19);
-        }
-        Form::Response => Notification::Response,
-        Form::Supplement => Notification::Supplement,
-    };
+    let notification = file::form_at(s, i, n)?;
     if duplicate {
-        return Verdict::Rejected(14);
+        return Err(ErrorCode::Br14);
     }
     let a = i * RECORD_SIZE;
     let m = (i + 1) * RECORD_SIZE;
@@ -110,34 +98,34 @@ pub fn marks(s: &[u8], n: usize) -> [bool; FILE_RECORDS]
 }
 
 // The bill that was found, where b stands at its place.
-pub fn sought_by(f: Found, b: Bill) -> Sought
+pub fn sought_by(f: Option<usize>, b: Bill) -> Option<Terms>
     ensures { result ≡ sought_by f b }
 {
     let t = b.terms;
     match f {
-        Found::At(_) => Sought::Bill(t),
-        Found::Nothing => Sought::Nothing,
+        Some(_) => Some(t),
+        None => None,
     }
 }
 
 // How many Tracking IDs a group takes.
-fn ids_used(v: Verdict, sup: bool) -> u64
+fn ids_used(v: Result<Posted, ErrorCode>, sup: bool) -> u64
     ensures { (result ≡ ids_by v sup) × (result ≤ 1) }
 {
     match v {
-        Verdict::Rejected(_) => 0,
-        Verdict::Accepted(_) => { if sup { 1 } else { 0 } }
+        Err(_) => 0,
+        Ok(_) => { if sup { 1 } else { 0 } }
     }
 }
 
 // What a verdict leaves of the bill at its place.
-fn post(v: Verdict, sup: bool, b: Bill) -> Bill
+fn post(v: Result<Posted, ErrorCode>, sup: bool, b: Bill) -> Bill
     requires { CanPost v b }
     ensures { result ≡ bill_by v sup b }
 {
     match v {
-        Verdict::Rejected(_) => b,
-        Verdict::Accepted(amounts) => b.post(amounts, sup),
+        Err(_) => b,
+        Ok(amounts) => b.post(amounts, sup),
     }
 }
 
@@ -149,7 +137,7 @@ pub fn turn(
     s: &[u8],
     g: GroupAt,
     h: LedgerHeader,
-    f: Found,
+    f: Option<usize>,
     b: Bill,
 ) -> TurnResult
     requires header_lt_records { (g.header < g.records) × (g.records * record_size ≤ length s.now) × (g.records ≤ file_records) × (writes ≡ true → c.written + (g.records - g.header) * record_size ≤ length out.old) }

@@ -16,17 +16,17 @@ use Rattle.ledger.specs.Books.{Book, view, bill_terms, of_id}
 use Rattle.ledger.specs.Sound.{is_next, sound_bill, holds_id, distinct, sound}
 use Rattle.ledger.proofs.SoundLaws.{BookFacts, book-facts, facts-sound}
 use Rattle.file.specs.File.{Group, asks_id, line3}
-use Rattle.verdict.specs.declared.Sought.TheVariants as sought
-use Rattle.verdict.specs.declared.Verdict.{Verdict}
-use Rattle.verdict.specs.declared.Verdict.TheVariants.{Accepted, Rejected}
 use Rattle.group.specs.Groups.{identity_of, sought_in, verdict_by, settled, verdict_here, taken}
 use Rattle.group.proofs.GroupWalk.{length-settled}
 use Rattle.groups.proofs.SoundKept.{sound-posted}
+use Rattle.std.specs.Prelude.{Some, Result, Ok, Err}
+use Rattle.ledger.specs.declared.Posted.{Posted}
+use Rattle.rules.specs.declared.ErrorCode.{ErrorCode}
 
 -- ---- the bills
 -- every bill stays sound if the one that is sought does
 pub bills-kept : (id : Identity) (f : Bill → Bill) (bs : List Bill) → every sound_bill bs ≡ true
-    → ((b : Bill) → sought_in id (map bill_terms bs) ≡ sought.Bill b.terms → sound_bill b ≡ true → sound_bill (f b) ≡ true)
+    → ((b : Bill) → sought_in id (map bill_terms bs) ≡ Some b.terms → sound_bill b ≡ true → sound_bill (f b) ≡ true)
     → every sound_bill (update (of_id id) f bs) ≡ true
 bills-kept id f [] a q = refl
 bills-kept id f (b ∷ bs) a q =
@@ -61,8 +61,8 @@ module _ (t : Bool) (k : Book) (g : Group) (f : BookFacts k) (c : k.confirmation
   unfolding settled
   settled-facts = go (verdict_by t (view k) g) refl
     where
-      go : (v : Verdict) → verdict_by t (view k) g ≡ v → BookFacts (settled k g v)
-      go (Rejected m) e =
+      go : (v : Result Posted ErrorCode) → verdict_by t (view k) g ≡ v → BookFacts (settled k g v)
+      go (Err m) e =
           record {
             today = f.today;
             tracking = f.tracking;
@@ -71,12 +71,12 @@ module _ (t : Bool) (k : Book) (g : Group) (f : BookFacts k) (c : k.confirmation
             bills = f.bills;
             once = f.once;
           }
-      go (Accepted amounts) e =
+      go (Ok amounts) e =
           record {
             today = f.today;
             tracking = next-by (asks_id g) k.tracking f.tracking n;
             confirmation = next_up k.confirmation f.confirmation c;
-            few = omega (arith, length-settled k g (Accepted amounts), f.few);
+            few = omega (arith, length-settled k g (Ok amounts), f.few);
             bills =
                 bills-kept (identity_of g) (posting amounts (asks_id g)) k.bills f.bills
                 (λ b y. sound-posted t k g b amounts e y);
@@ -84,15 +84,15 @@ module _ (t : Bool) (k : Book) (g : Group) (f : BookFacts k) (c : k.confirmation
           }
 
 -- ---- the groups of a file
-pub confirmation-up : (k : Book) (g : Group) (v : Verdict) → (settled k g v).confirmation ≡ k.confirmation + 1
+pub confirmation-up : (k : Book) (g : Group) (v : Result Posted ErrorCode) → (settled k g v).confirmation ≡ k.confirmation + 1
 unfolding settled
-confirmation-up k g (Accepted amounts) = refl
-confirmation-up k g (Rejected m) = refl
+confirmation-up k g (Ok amounts) = refl
+confirmation-up k g (Err m) = refl
 
-pub tracking-up : (k : Book) (g : Group) (v : Verdict) → (settled k g v).tracking ≤ k.tracking + cond (asks_id g) 1 0
+pub tracking-up : (k : Book) (g : Group) (v : Result Posted ErrorCode) → (settled k g v).tracking ≤ k.tracking + cond (asks_id g) 1 0
 unfolding settled
-tracking-up k g (Accepted amounts) = omega arith
-tracking-up k g (Rejected m) = omega arith
+tracking-up k g (Ok amounts) = omega arith
+tracking-up k g (Err m) = omega arith
 
 pub count-step : (b : Bool) (n : ℕ) → cond b (suc n) n ≡ cond b 1 0 + n
 count-step true n = omega arith

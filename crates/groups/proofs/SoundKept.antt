@@ -20,31 +20,29 @@ use Rattle.ledger.specs.Sound.{sound_terms, balanced, sound_amounts, sound_bill}
 use Rattle.ledger.proofs.SoundLaws.{terms-facts, facts-terms, moved_facts, bill-terms}
 use Rattle.records.specs.Layout.{applied_in, owed_in}
 use Rattle.file.specs.File.{Group, detail_of, asks_id, line1, line2}
-use Rattle.rules.specs.declared.Check.TheVariants.{Clear}
-use Rattle.verdict.specs.declared.Notification.{Notification}
-use Rattle.verdict.specs.declared.Notification.TheVariants.{Response, Supplement}
-use Rattle.verdict.specs.declared.Sought.{Sought}
-use Rattle.verdict.specs.declared.Sought.TheVariants as sought
-use Rattle.verdict.specs.declared.Verdict.TheVariants.{Accepted}
+use Rattle.records.specs.declared.Notification.{Notification}
+use Rattle.records.specs.declared.Notification.TheVariants.{Response, Supplement}
 use Rattle.rules.specs.Rules.{first}
 use Rattle.verdict.specs.Lines.{terms_of, line4, line5, line6, line7, line8, line9, line10, sent_charge, amounts_of}
 use Rattle.group.specs.Groups.{notification_of, sought, lines_by, verdict_by}
-use Rattle.group.proofs.AcceptedLaws.{list_for, clear-off, accepted-clear, room}
+use Rattle.group.proofs.AcceptedLaws.{list_for, accepted-clear, room}
+use Rattle.rules.proofs.RuleLaws.{clear-off}
+use Rattle.std.specs.Prelude.{Option, Some, Ok}
 
 open-alive : (today : Date) (t : Terms) → not (is_open today t) ≡ false → t.cancelled ≡ false
 open-alive today t e = not-true t.cancelled (and_left (not t.cancelled) (leb today.0 t.latest.scheduled.0) (not-false (is_open today t) e))
 
 -- no group is accepted for a cancelled bill
-pub alive : (l1 l2 t : Bool) (k : Notification) (today : Date) (h d : List ℕ) (b : Sought) (prepay : Bool)
-    → first (list_for l1 l2 t k today h d b prepay) ≡ Clear → (terms_of b).cancelled ≡ false
+pub alive : (l1 l2 t : Bool) (k : Notification) (today : Date) (h d : List ℕ) (b : Option Terms) (prepay : Bool)
+    → first (list_for l1 l2 t k today h d b prepay) ≡ Ok tt → (terms_of b).cancelled ≡ false
 unfolding line4 line5 line6
 alive l1 l2 t Response today h d b prepay e =
     open-alive today (terms_of b) (clear-off (list_for l1 l2 t Response today h d b prepay) e).1.1.1.1.1.0
 alive l1 l2 t Supplement today h d b prepay e = (clear-off (list_for l1 l2 t Supplement today h d b prepay) e).1.1.1.1.1.0
 
 -- Prepay: applied plus owed is the charge
-paid : (l1 l2 t : Bool) (k : Notification) (today : Date) (h d : List ℕ) (b : Sought)
-    → first (list_for l1 l2 t k today h d b true) ≡ Clear
+paid : (l1 l2 t : Bool) (k : Notification) (today : Date) (h d : List ℕ) (b : Option Terms)
+    → first (list_for l1 l2 t k today h d b true) ≡ Ok tt
     → eqb (value (field_of (applied_in d)) + value (field_of (owed_in d))) (sent_charge d) ≡ true
 unfolding line4 line5 line6 line7 line8 line9 line10
 paid l1 l2 t Response today h d b e =
@@ -74,9 +72,9 @@ terms-posted b amounts true h r =
 terms-posted b amounts false h r = h
 
 -- an accepted group leaves the bill that it is about sound
-module _ (t : Bool) (k : Book) (g : Group) (b : Bill) (amounts : Posted) (v : verdict_by t (view k) g ≡ Accepted amounts)
-    (y : sought (view k) g ≡ sought.Bill b.terms) where
-  abbrev named : Sought
+module _ (t : Bool) (k : Book) (g : Group) (b : Bill) (amounts : Posted) (v : verdict_by t (view k) g ≡ Ok amounts)
+    (y : sought (view k) g ≡ Some b.terms) where
+  abbrev named : Option Terms
   named = sought (view k) g
 
   abbrev after : Terms
@@ -85,7 +83,7 @@ module _ (t : Bool) (k : Book) (g : Group) (b : Bill) (amounts : Posted) (v : ve
   abbrev prepaid : Bool
   prepaid = is_prepay (terms_of named).product
 
-  clear_at : first (list_for (line1 g) (line2 g) t (notification_of g) k.today g.header (detail_of g) named prepaid) ≡ Clear
+  clear_at : first (list_for (line1 g) (line2 g) t (notification_of g) k.today g.header (detail_of g) named prepaid) ≡ Ok tt
   unfolding lines_by
   clear_at = (accepted-clear t (view k) g amounts v).0
 
@@ -95,10 +93,10 @@ module _ (t : Bool) (k : Book) (g : Group) (b : Bill) (amounts : Posted) (v : ve
   settled-sum : prepaid ≡ true → eqb (value (field_of (applied_in (detail_of g))) + value (field_of (owed_in (detail_of g)))) (sent_charge (detail_of g)) ≡ true
   settled-sum e =
       paid (line1 g) (line2 g) t (notification_of g) k.today g.header (detail_of g) named
-      (subst (λ (x : Bool). first (list_for (line1 g) (line2 g) t (notification_of g) k.today g.header (detail_of g) named x) ≡ Clear) e clear_at)
+      (subst (λ (x : Bool). first (list_for (line1 g) (line2 g) t (notification_of g) k.today g.header (detail_of g) named x) ≡ Ok tt) e clear_at)
 
   product_is : is_prepay after.product ≡ prepaid
-  product_is = sym (ap (λ (x : Sought). is_prepay (terms_of x).product) y)
+  product_is = sym (ap (λ (x : Option Terms). is_prepay (terms_of x).product) y)
 
   amounts-kept : sound_amounts after amounts ≡ true
   amounts-kept =

@@ -11,13 +11,12 @@ ghost use Rattle.groups.specs.parts.Standing.{StandsIn};
 
 use group::{GroupAt, Tally};
 use ledger::{Bill, Identity, Ledger, LedgerHeader};
-use rules::Found;
 
 // What a group or a call reads of a ledger: the ledger but for its bills, the place of its bill if it has one, the place that its bill has or gets, and what stands there.
 #[derive(Clone, Copy)]
 pub struct Standing {
     pub header: LedgerHeader,
-    pub found: Found,
+    pub found: Option<usize>,
     pub place: usize,
     pub bill: Bill,
 }

@@ -12,26 +12,26 @@ use Rattle.ledger.specs.Bills.{is_prepay, is_open, charge_of}
 use Rattle.ledger.specs.Books.{View}
 use Rattle.records.specs.Layout.{is_rsp}
 use Rattle.file.specs.File.{Group, detail_of, line1, line2}
-use Rattle.rules.specs.declared.Check.TheVariants.{Clear}
-use Rattle.verdict.specs.declared.Notification.{Notification}
-use Rattle.verdict.specs.declared.Notification.TheVariants.{Response}
-use Rattle.verdict.specs.declared.Sought.{Sought}
-use Rattle.verdict.specs.declared.Verdict.TheVariants.{Accepted}
+use Rattle.records.specs.declared.Notification.{Notification}
+use Rattle.records.specs.declared.Notification.TheVariants.{Response}
 use Rattle.rules.specs.Rules.{first}
 use Rattle.verdict.specs.Lines.{is_nothing, terms_of, line4, line5, line6, sent_charge, amounts_of}
 use Rattle.group.specs.Groups.{notification_of, sought, lines_by, verdict_by}
-use Rattle.group.proofs.AcceptedLaws.{list_for, clear-off, accepted-clear}
+use Rattle.group.proofs.AcceptedLaws.{list_for, accepted-clear}
+use Rattle.rules.proofs.RuleLaws.{clear-off}
 use Rattle.groups.proofs.SoundKept.{alive}
+use Rattle.std.specs.Prelude.{Option, Ok}
+use Rattle.ledger.specs.declared.Terms.{Terms}
 
 -- there is such a bill
-exists : (l1 l2 t : Bool) (k : Notification) (today : Date) (h d : List ℕ) (b : Sought) (prepay : Bool)
-    → first (list_for l1 l2 t k today h d b prepay) ≡ Clear → is_nothing b ≡ false
+exists : (l1 l2 t : Bool) (k : Notification) (today : Date) (h d : List ℕ) (b : Option Terms) (prepay : Bool)
+    → first (list_for l1 l2 t k today h d b prepay) ≡ Ok tt → is_nothing b ≡ false
 unfolding line4
 exists l1 l2 t k today h d b prepay e = (clear-off (list_for l1 l2 t k today h d b prepay) e).1.1.1.0
 
 -- an RSP comes at or before the Scheduled Date
-in-time : (l1 l2 t : Bool) (today : Date) (h d : List ℕ) (b : Sought) (prepay : Bool)
-    → first (list_for l1 l2 t Response today h d b prepay) ≡ Clear → today.0 ≤ (terms_of b).latest.scheduled.0
+in-time : (l1 l2 t : Bool) (today : Date) (h d : List ℕ) (b : Option Terms) (prepay : Bool)
+    → first (list_for l1 l2 t Response today h d b prepay) ≡ Ok tt → today.0 ≤ (terms_of b).latest.scheduled.0
 unfolding line4 line5 line6
 in-time l1 l2 t today h d b prepay e =
     let u = terms_of b in
@@ -43,11 +43,11 @@ unfolding amounts_of
 charge-of true d = refl
 charge-of false d = refl
 
-module _ (t : Bool) (v : View) (g : Group) (amounts : Posted) (e : verdict_by t v g ≡ Accepted amounts) where
+module _ (t : Bool) (v : View) (g : Group) (amounts : Posted) (e : verdict_by t v g ≡ Ok amounts) where
   abbrev product : Bool
   product = is_prepay (terms_of (sought v g)).product
 
-  clears : first (list_for (line1 g) (line2 g) t (notification_of g) v.today g.header (detail_of g) (sought v g) product) ≡ Clear
+  clears : first (list_for (line1 g) (line2 g) t (notification_of g) v.today g.header (detail_of g) (sought v g) product) ≡ Ok tt
   unfolding lines_by
   clears = (accepted-clear t v g amounts e).0
 
@@ -61,7 +61,7 @@ module _ (t : Bool) (v : View) (g : Group) (amounts : Posted) (e : verdict_by t 
   accepted-in-time r =
       let k : notification_of g ≡ Response = rw r in
       in-time (line1 g) (line2 g) t v.today g.header (detail_of g) (sought v g) product
-      (subst (λ (m : Notification). first (list_for (line1 g) (line2 g) t m v.today g.header (detail_of g) (sought v g) product) ≡ Clear) k clears)
+      (subst (λ (m : Notification). first (list_for (line1 g) (line2 g) t m v.today g.header (detail_of g) (sought v g) product) ≡ Ok tt) k clears)
 
   pub accepted-charge : (charge_of amounts).0 ≡ sent_charge (detail_of g)
   accepted-charge =

@@ -18,10 +18,6 @@ use Rattle.ledger.specs.Sound.{holds_id}
 use Rattle.ledger.proofs.SoundLaws.{BookFacts}
 use Rattle.file.specs.File.{Group, file_groups, detail_of, asks_id, line3}
 use Rattle.file.proofs.WalkLaws.{has-append}
-use Rattle.rules.specs.declared.Check.TheVariants.{Clear}
-use Rattle.verdict.specs.declared.Sought.TheVariants as sought
-use Rattle.verdict.specs.declared.Verdict.{Verdict}
-use Rattle.verdict.specs.declared.Verdict.TheVariants.{Accepted, Rejected}
 use Rattle.rules.specs.Rules.{first}
 use Rattle.verdict.specs.Lines.{is_nothing, sent_charge}
 use Rattle.group.specs.Groups.{identity_of, sought_in, sought, verdict_by, settled, verdict_here, taken}
@@ -38,6 +34,8 @@ use Rattle.history.specs.History.{Posting, History, last_charge, counted_charge,
 use Rattle.history.specs.Claim.{All}
 use Rattle.history.proofs.Accepted.{accepted-exists, accepted-alive, accepted-charge}
 use Rattle.history.proofs.UpdateLaws.{identity-same, has-map, map-append, all_append, map-update, all-update}
+use Rattle.std.specs.Prelude.{Some, Result, Ok, Err}
+use Rattle.rules.specs.declared.ErrorCode.{ErrorCode}
 
 -- the history of a ledger, with these postings
 abbrev pub hist : Book → List Posting → History
@@ -87,16 +85,16 @@ removal-sums a ps (b ∷ bs) q = (
 
 -- ---- a group
 -- the history's view after a group is the ledger's
-settled-now : (l : Book) (ps : List Posting) (g : Group) (v : Verdict) → (decided (hist l ps) g v).now ≡ view (settled l g v)
+settled-now : (l : Book) (ps : List Posting) (g : Group) (v : Result Posted ErrorCode) → (decided (hist l ps) g v).now ≡ view (settled l g v)
 unfolding settled decided
-settled-now l ps g (Accepted amounts) =
+settled-now l ps g (Ok amounts) =
     λ i. record {
       today = l.today;
       tracking = l.tracking + cond (asks_id g) 1 0;
       confirmation = l.confirmation + 1;
       bills = sym (map-update (identity_of g) (posting amounts (asks_id g)) (raised (asks_id g)) (λ b. refl) l.bills) i;
     }
-settled-now l ps g (Rejected m) =
+settled-now l ps g (Err m) =
     λ i. record {
       today = l.today;
       tracking = add-zero l.tracking i;
@@ -112,8 +110,8 @@ decided-now t l h g e =
 
 module _ (t : Bool) (l : Book) (ps : List Posting) (g : Group) (f : Follows l (hist l ps)) (c : l.confirmation < 1000000000)
     (n : l.tracking + cond (asks_id g) 1 0 ≤ 1000000000) where
-  facts : (v : Verdict) → verdict_by t (view l) g ≡ v → BookFacts (settled l g v)
-  facts v e = subst (λ (w : Verdict). BookFacts (settled l g w)) e (settled-facts t l g f.sound c n)
+  facts : (v : Result Posted ErrorCode) → verdict_by t (view l) g ≡ v → BookFacts (settled l g v)
+  facts v e = subst (λ (w : Result Posted ErrorCode). BookFacts (settled l g w)) e (settled-facts t l g f.sound c n)
 
   abbrev named : Identity
   named = identity_of g
@@ -122,14 +120,14 @@ module _ (t : Bool) (l : Book) (ps : List Posting) (g : Group) (f : Follows l (h
   paid = record { identity = identity_of g; charge = sent_charge (detail_of g) }
 
   -- the bill that the group is about takes the group's charge
-  takes : (amounts : Posted) → verdict_by t (view l) g ≡ Accepted amounts → (b : Bill) → of_id named b ≡ true
-      → sought_in named (map bill_terms l.bills) ≡ sought.Bill b.terms → Agrees (paid ∷ ps) (posting amounts (asks_id g) b)
+  takes : (amounts : Posted) → verdict_by t (view l) g ≡ Ok amounts → (b : Bill) → of_id named b ≡ true
+      → sought_in named (map bill_terms l.bills) ≡ Some b.terms → Agrees (paid ∷ ps) (posting amounts (asks_id g) b)
   takes amounts e b t' y =
       let alive : b.terms.cancelled ≡ false = rw y at (accepted-alive t (view l) g amounts e) in
       rw (alive, t') (accepted-charge t (view l) g amounts e)
 
   -- a bill that is not held is not the group's
-  other : (amounts : Posted) → verdict_by t (view l) g ≡ Accepted amounts → (u : Terms) → holds_id u.identity l.bills ≡ false
+  other : (amounts : Posted) → verdict_by t (view l) g ≡ Ok amounts → (u : Terms) → holds_id u.identity l.bills ≡ false
       → last_charge u (paid ∷ ps) ≡ 0
   other amounts e u o =
       cases (is_of named u)
@@ -139,23 +137,23 @@ module _ (t : Bool) (l : Book) (ps : List Posting) (g : Group) (f : Follows l (h
       absurd (true≢false (sym x ∙ accepted-exists t (view l) g amounts e)))
       (λ s. rw s (f.unposted u o))
 
-  group-moves : (v : Verdict) → verdict_by t (view l) g ≡ v → Follows (settled l g v) (decided (hist l ps) g v)
+  group-moves : (v : Result Posted ErrorCode) → verdict_by t (view l) g ≡ v → Follows (settled l g v) (decided (hist l ps) g v)
   unfolding settled decided
-  group-moves (Accepted amounts) e =
+  group-moves (Ok amounts) e =
       record {
-        now = settled-now l ps g (Accepted amounts);
+        now = settled-now l ps g (Ok amounts);
         sums =
             all-update named (Agrees ps) (Agrees (paid ∷ ps)) (posting amounts (asks_id g)) l.bills f.sound.once
             (λ b s y q. takes amounts e b s y) (λ b s q. rw s q) f.sums;
         unposted = λ u o. other amounts e u (sym (holds_kept named (posting amounts (asks_id g)) (λ b. refl) u.identity l.bills) ∙ o);
-        sound = facts (Accepted amounts) e;
+        sound = facts (Ok amounts) e;
       }
-  group-moves (Rejected m) e =
+  group-moves (Err m) e =
       record {
-        now = settled-now l ps g (Rejected m);
+        now = settled-now l ps g (Err m);
         sums = f.sums;
         unposted = f.unposted;
-        sound = facts (Rejected m) e;
+        sound = facts (Err m) e;
       }
 
 pub group-follows : (t : Bool) (l : Book) (h : History) (g : Group) → Follows l h → l.confirmation < 1000000000
@@ -223,7 +221,7 @@ module _ (l : Book) (ps : List Posting) (f : Follows l (hist l ps)) where
       no-charge true e = refl
       no-charge false e = e
 
-  request-follows : (r : Request) (room : ℕ) → first (causes (view l) (request r room)) ≡ Clear
+  request-follows : (r : Request) (room : ℕ) → first (causes (view l) (request r room)) ≡ Ok tt
       → Follows (next l (request r room)) (h_next (hist l ps) (request r room))
   unfolding next h_next causes
   request-follows r room e =
@@ -235,7 +233,7 @@ module _ (l : Book) (ps : List Posting) (f : Follows l (hist l ps)) where
       (change-follows r.identity (renewed (latest_of r l.tracking)) (renews r l.tracking) (λ b. refl) (λ b. refl) again (rw h at s)))
       (λ h. rw (has-map r.identity l.bills, h) (add-follows (new_bill r l.tracking) refl h (rw h at s)))
 
-  removal-follows : (a : AccountRemoval) → first (causes (view l) (removal a)) ≡ Clear → Follows (next l (removal a)) (h_next (hist l ps) (removal a))
+  removal-follows : (a : AccountRemoval) → first (causes (view l) (removal a)) ≡ Ok tt → Follows (next l (removal a)) (h_next (hist l ps) (removal a))
   unfolding next h_next causes
   removal-follows a e =
       record {
@@ -247,7 +245,7 @@ module _ (l : Book) (ps : List Posting) (f : Follows l (hist l ps)) where
         sound = next-facts l (removal a) f.sound e;
       }
 
-  pub next-follows : (c : Call) → first (causes (view l) c) ≡ Clear → Follows (next l c) (h_next (hist l ps) c)
+  pub next-follows : (c : Call) → first (causes (view l) c) ≡ Ok tt → Follows (next l c) (h_next (hist l ps) c)
   unfolding next h_next causes
   next-follows (request r room) e = request-follows r room e
   next-follows (calendar q hs room) e = request-follows (worked_out q hs l.today) room (clear-dated (view l) q hs room e)

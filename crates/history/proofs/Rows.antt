@@ -16,10 +16,6 @@ use Rattle.ledger.specs.Books.{Book, view, bill_terms}
 use Rattle.ledger.specs.Sound.{sound_bill, holds_id}
 use Rattle.ledger.proofs.SoundLaws.{terms-facts, bill-terms}
 use Rattle.file.specs.File.{Group, file_groups, asks_id, line3}
-use Rattle.rules.specs.declared.Check.{Check}
-use Rattle.rules.specs.declared.Check.TheVariants.{Clear, Stop}
-use Rattle.verdict.specs.declared.Verdict.{Verdict}
-use Rattle.verdict.specs.declared.Verdict.TheVariants.{Accepted, Rejected}
 use Rattle.rules.specs.Rules.{first}
 use Rattle.verdict.specs.Lines.{is_nothing, terms_of}
 use Rattle.group.specs.Groups.{identity_of, sought_in, sought, settled, answer, verdict_by, verdict_here, taken, answers, is_accepted}
@@ -37,6 +33,10 @@ use Rattle.history.proofs.WrittenLaws.{bil-assigns, cxl-assigns, none-assigned, 
 use Rattle.history.proofs.Accepted.{accepted-exists}
 use Rattle.history.proofs.Follow.{Follows, group-follows}
 use Rattle.history.proofs.Simulation.{cause-is, step_follows}
+use Rattle.std.specs.Prelude.{Result, Ok, Err, ⊤}
+use Rattle.ledger.specs.declared.Posted.{Posted}
+use Rattle.rules.specs.declared.Cause.{Cause}
+use Rattle.rules.specs.declared.ErrorCode.{ErrorCode}
 
 -- n, n + 1, .. : k numbers
 unfoldable pub range : ℕ → ℕ → List ℕ
@@ -99,16 +99,16 @@ dated id (b ∷ bs) a n =
     (λ e. rw e (terms-facts b.terms (bill-terms b (and_left (sound_bill b) (every sound_bill bs) a))).scheduled)
     (λ e. rw e (dated id bs (and_right (sound_bill b) (every sound_bill bs) a) (rw e at n)))
 
-group-dated : (t : Bool) (l : Book) (h : History) (g : Group) → Follows l h → (v : Verdict) → verdict_by t (view l) g ≡ v → is_accepted v ≡ true
+group-dated : (t : Bool) (l : Book) (h : History) (g : Group) → Follows l h → (v : Result Posted ErrorCode) → verdict_by t (view l) g ≡ v → is_accepted v ≡ true
     → is_date (terms_of (sought (view l) g)).latest.scheduled.0 ≡ true
-group-dated t l h g f (Accepted amounts) e a = dated (identity_of g) l.bills f.sound.bills (accepted-exists t (view l) g amounts e)
-group-dated t l h g f (Rejected n) e a = absurd (mathlib.Core.Bool.false≢true a)
+group-dated t l h g f (Ok amounts) e a = dated (identity_of g) l.bills f.sound.bills (accepted-exists t (view l) g amounts e)
+group-dated t l h g f (Err n) e a = absurd (mathlib.Core.Bool.false≢true a)
 
-row-group : (l : Book) (g : Group) (v : Verdict) → Row l.tracking (given_to l.tracking g v) (settled l g v).tracking
+row-group : (l : Book) (g : Group) (v : Result Posted ErrorCode) → Row l.tracking (given_to l.tracking g v) (settled l g v).tracking
 unfolding settled
-row-group l g (Accepted amounts) =
+row-group l g (Ok amounts) =
     cases (asks_id g) (λ e. rw e (row_one l.tracking)) (λ e. rw e (rw (add-zero l.tracking) (row-none l.tracking)))
-row-group l g (Rejected n) = row-none l.tracking
+row-group l g (Err n) = row-none l.tracking
 
 row-groups : (before gs : List Group) (l : Book) (h : History) → Follows l h → All Formed gs → l.confirmation + length gs ≤ 1000000000
     → l.tracking + count asks_id gs ≤ 1000000000 → Row l.tracking (assigned_in (answers before l gs)) (taken before l gs).tracking
@@ -130,7 +130,7 @@ row-groups before (g ∷ gs) l h f w c n =
 
 -- ---- the calls
 -- the Tracking ID of the BIL is the next one
-row-request : (l : Book) (r : Request) (room : ℕ) → first (causes (view l) (request r room)) ≡ Clear
+row-request : (l : Book) (r : Request) (room : ℕ) → first (causes (view l) (request r room)) ≡ Ok tt
     → Row l.tracking (assigned_in (next_written l (request r room))) (next l (request r room)).tracking
 unfolding next_written next causes
 row-request l r room e =
@@ -140,7 +140,7 @@ row-request l r room e =
     (λ k. rw k (row_is l.tracking (l.tracking + 1) _ (l.tracking ∷ []) (bil-assigns _ (omega arith)) (row_one l.tracking)))
     (λ k. rw k (row_is l.tracking (l.tracking + 1) _ (l.tracking ∷ []) (bil-assigns _ (omega arith)) (row_one l.tracking)))
 
-row_next : (l : Book) (h : History) (c : Call) → Follows l h → first (causes (view l) c) ≡ Clear
+row_next : (l : Book) (h : History) (c : Call) → Follows l h → first (causes (view l) c) ≡ Ok tt
     → Row l.tracking (assigned_in (next_written l c)) (next l c).tracking
 unfolding next_written next causes
 row_next l h (request r room) f e = row-request l r room e
@@ -158,9 +158,9 @@ row_step : (l : Book) (h : History) (c : Call) → Follows l h → Row l.trackin
 unfolding step outcome
 row_step l h c f = rw (cause-is l h c f) (go (first (causes (view l) c)) refl)
   where
-    go : (v : Check) → first (causes (view l) c) ≡ v → Row l.tracking (assigned_in (outcome l c v).written) (outcome l c v).ledger.tracking
-    go Clear e = row_next l h c f e
-    go (Stop n) e = row_is l.tracking l.tracking (assigned_in []) [] none-assigned (row-none l.tracking)
+    go : (v : Result ⊤ Cause) → first (causes (view l) c) ≡ v → Row l.tracking (assigned_in (outcome l c v).written) (outcome l c v).ledger.tracking
+    go (Ok tt) e = row_next l h c f e
+    go (Err n) e = row_is l.tracking l.tracking (assigned_in []) [] none-assigned (row-none l.tracking)
 
 pub row-all : (cs : List Call) (l : Book) (h : History) → Follows l h → Row l.tracking (assigned (outcomes l cs)) (after l cs).tracking
 unfolding assigned outcomes after

@@ -8,14 +8,14 @@ use Rattle.rules.specs.Lists.{sum}
 use Rattle.ledger.specs.Books.{Book, View, view, bill_terms, total_of}
 use Rattle.ledger.specs.Sound.{sound}
 use Rattle.ledger.proofs.SoundLaws.{facts-sound}
-use Rattle.rules.specs.declared.Check.{Check}
-use Rattle.rules.specs.declared.Check.TheVariants.{Clear, Stop}
 use Rattle.rules.specs.Rules.{first}
 use Rattle.causes.specs.Causes.{Call, causes}
 use Rattle.calls.specs.Machine.{cause, next, total, Outcome, outcome, step, after, outcomes}
 use Rattle.history.specs.History.{Posting, History, counted_charge, history_sum, h_cause, h_move, h_step, h_after, h_causes, Decided, call_decisions, h_decisions}
 use Rattle.history.specs.Claim.{All, changes}
 use Rattle.history.proofs.Follow.{hist, Agrees, Follows, along, same_view, next-follows}
+use Rattle.std.specs.Prelude.{Result, Ok, Err, ⊤}
+use Rattle.rules.specs.declared.Cause.{Cause}
 
 -- ---- a call
 pub cause-is : (l : Book) (h : History) (c : Call) → Follows l h → cause l c ≡ first (causes (view l) c)
@@ -34,9 +34,9 @@ step_follows l h c f =
     f₀ : Follows l (hist l h.postings)
     f₀ = same_view l h f
 
-    go : (v : Check) → first (causes (view l) c) ≡ v → Follows (outcome l c v).ledger (h_move (hist l h.postings) c v)
-    go Clear e = next-follows l h.postings f₀ c e
-    go (Stop n) e = f₀
+    go : (v : Result ⊤ Cause) → first (causes (view l) c) ≡ v → Follows (outcome l c v).ledger (h_move (hist l h.postings) c v)
+    go (Ok tt) e = next-follows l h.postings f₀ c e
+    go (Err n) e = f₀
 
 pub after-follows : (cs : List Call) (l : Book) (h : History) → Follows l h → Follows (after l cs) (h_after h cs)
 unfolding after h_after
@@ -53,11 +53,11 @@ unfolding history_sum
 total-history l h f = sums-total h.postings l.bills f.sums ∙ ap (λ (v : View). sum (counted_charge h.postings) v.bills) (sym f.now)
 
 -- ---- the total is the sum of the changes
-outcome-change : (l : Book) (c : Call) (v : Check) → pos (total l) +ℤ (outcome l c v).change ≡ pos (total (outcome l c v).ledger)
+outcome-change : (l : Book) (c : Call) (v : Result ⊤ Cause) → pos (total l) +ℤ (outcome l c v).change ≡ pos (total (outcome l c v).ledger)
 unfolding outcome
-outcome-change l c Clear =
+outcome-change l c (Ok tt) =
     +ℤ_comm (pos (total l)) (pos (total (next l c)) -ℤ pos (total l)) ∙ -ℤ-+ℤ_cancel (pos (total (next l c))) (pos (total l))
-outcome-change l c (Stop n) = +ℤ_idr (pos (total l))
+outcome-change l c (Err n) = +ℤ_idr (pos (total l))
 
 pub changes-total : (cs : List Call) (l : Book) → pos (total l) +ℤ changes (outcomes l cs) ≡ pos (total (after l cs))
 unfolding changes after outcomes step
@@ -68,10 +68,10 @@ changes-total (c ∷ cs) l =
     ∙ changes-total cs (step l c).ledger
 
 -- ---- what each call comes to
-outcome-result : (l : Book) (c : Call) (v : Check) → (outcome l c v).result ≡ v
+outcome-result : (l : Book) (c : Call) (v : Result ⊤ Cause) → (outcome l c v).result ≡ v
 unfolding outcome
-outcome-result l c Clear = refl
-outcome-result l c (Stop n) = refl
+outcome-result l c (Ok tt) = refl
+outcome-result l c (Err n) = refl
 
 step-result : (l : Book) (h : History) (c : Call) → Follows l h → (step l c).result ≡ h_cause h c
 unfolding step

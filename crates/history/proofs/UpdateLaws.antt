@@ -12,9 +12,9 @@ use Rattle.rules.specs.Lists.{has, update}
 use Rattle.ledger.specs.Bills.{is_of}
 use Rattle.ledger.specs.Books.{of_id, bill_terms}
 use Rattle.ledger.specs.Sound.{holds_id, distinct}
-use Rattle.verdict.specs.declared.Sought.TheVariants as sought
 use Rattle.group.specs.Groups.{sought_in}
 use Rattle.history.specs.Claim.{All}
+use Rattle.std.specs.Prelude.{Some}
 
 pub identity-same : (id : Identity) (t : Terms) → is_of id t ≡ true → t.identity ≡ id
 identity-same id t e =
@@ -54,7 +54,7 @@ module _ (id : Identity) where
 
   -- what holds of each bill, where the bill that is sought changes and the others stay
   pub all-update : (Q Q' : Bill → Type 0) (f : Bill → Bill) (bs : List Bill) → distinct bs ≡ true
-      → ((b : Bill) → of_id id b ≡ true → sought_in id (map bill_terms bs) ≡ sought.Bill b.terms → Q b → Q' (f b))
+      → ((b : Bill) → of_id id b ≡ true → sought_in id (map bill_terms bs) ≡ Some b.terms → Q b → Q' (f b))
       → ((b : Bill) → of_id id b ≡ false → Q b → Q' b)
       → All Q bs → All Q' (update (of_id id) f bs)
   unfolding distinct

@@ -22,14 +22,15 @@ use Rattle.notices.specs.declared.rej.Rej.{Rej}
 use Rattle.notices.specs.Answers.{acf, rej_header, rej_detail, rej_details, rej}
 use Rattle.notices.proofs.AnswerLaws.{length-acf, length-rej-header, length-rej-detail}
 use Rattle.file.specs.File.{records, Group, asks_id}
-use Rattle.verdict.specs.declared.Verdict.{Verdict}
-use Rattle.verdict.specs.declared.Verdict.TheVariants.{Accepted, Rejected}
 use Rattle.verdict.specs.Lines.{terms_of}
 use Rattle.group.specs.Groups.{sought, answer, is_accepted}
 use Rattle.history.specs.Claim.{All}
 use Rattle.history.specs.Written.{keep, is_acf, assigns, assigned_in, acfs_in}
 use Rattle.history.proofs.WrittenRecordLaws.{records-cons, records-none, Whole, Formed}
 use Rattle.history.proofs.NoticeReads.{bil-header-reads, bil-detail-reads, cxl-header-reads, cxl-detail-reads, bil-tracking, cxl-tracking, acf-tracking, acf-is-acf, acf-sup-assigns, acf-rsp-not, rej-header-notice, rej-detail-notice, rej-not-acf, rej-not-assigns}
+use Rattle.std.specs.Prelude.{Result, Ok, Err}
+use Rattle.ledger.specs.declared.Posted.{Posted}
+use Rattle.rules.specs.declared.ErrorCode.{ErrorCode}
 
 -- ---- those of the records that pass a test
 module _ (p : List ℕ → Bool) where
@@ -110,21 +111,21 @@ none-acf = kept-none is_acf
 
 -- ---- the answer to a group, and more bytes
 -- the ACF, if it is accepted
-abbrev pub acf_for : View → Group → Verdict → List (List ℕ)
-acf_for v g (Accepted amounts) = answer v g (Accepted amounts) ∷ []
-acf_for v g (Rejected n) = []
+abbrev pub acf_for : View → Group → Result Posted ErrorCode → List (List ℕ)
+acf_for v g (Ok amounts) = answer v g (Ok amounts) ∷ []
+acf_for v g (Err n) = []
 
-pub answer-acfs : (v : View) (g : Group) (c : Verdict) (ys : List ℕ) → Formed g → acfs_in (answer v g c ++ ys) ≡ acf_for v g c ++ acfs_in ys
+pub answer-acfs : (v : View) (g : Group) (c : Result Posted ErrorCode) (ys : List ℕ) → Formed g → acfs_in (answer v g c ++ ys) ≡ acf_for v g c ++ acfs_in ys
 unfolding acfs_in kept answer
-answer-acfs v g (Accepted amounts) ys f =
+answer-acfs v g (Ok amounts) ys f =
     let h : 321 ≤ length g.header = omega (arith, f.header) in
     kept_in is_acf _ ys (length-acf g.header h _) (acf-is-acf g.header _ h)
-answer-acfs v g (Rejected n) ys f = kept-rej is_acf rej-not-acf g _ ys f
+answer-acfs v g (Err n) ys f = kept-rej is_acf rej-not-acf g _ ys f
 
 -- the Tracking ID, if it is an accepted SUP
-abbrev pub given_to : ℕ → Group → Verdict → List ℕ
-given_to id g (Accepted amounts) = cond (asks_id g) (id ∷ []) []
-given_to id g (Rejected n) = []
+abbrev pub given_to : ℕ → Group → Result Posted ErrorCode → List ℕ
+given_to id g (Ok amounts) = cond (asks_id g) (id ∷ []) []
+given_to id g (Err n) = []
 
 -- an ACF and more bytes, by its Notification Code
 module _ (g : Group) (a : Acf) (ys : List ℕ) (f : Formed g) where
@@ -144,12 +145,12 @@ module _ (g : Group) (a : Acf) (ys : List ℕ) (f : Formed g) where
       (kept_out assigns (acf g.header a) ys (length-acf g.header whole a)
       (acf-rsp-not g.header a whole f.record_type (rw e (date-some _ d)) (rw e (date-fits _ d))))
 
-pub answer-assigns : (v : View) (g : Group) (c : Verdict) (ys : List ℕ) → Formed g
+pub answer-assigns : (v : View) (g : Group) (c : Result Posted ErrorCode) (ys : List ℕ) → Formed g
     → (is_accepted c ≡ true → is_date (terms_of (sought v g)).latest.scheduled.0 ≡ true) → v.tracking + cond (asks_id g) 1 0 ≤ 1000000000
     → assigned_in (answer v g c ++ ys) ≡ given_to v.tracking g c ++ assigned_in ys
 unfolding assigned_in kept answer
-answer-assigns v g (Accepted amounts) ys f d t =
+answer-assigns v g (Ok amounts) ys f d t =
     cases (asks_id g)
     (λ e. let q : v.tracking + 1 ≤ 1000000000 = rw e at t in sup-assigns g _ ys f e (omega arith) ∙ rw e)
     (λ e. rsp-assigns g _ ys f e (d refl) ∙ rw e)
-answer-assigns v g (Rejected n) ys f d t = ap (map id_in) (kept-rej assigns rej-not-assigns g _ ys f)
+answer-assigns v g (Err n) ys f d t = ap (map id_in) (kept-rej assigns rej-not-assigns g _ ys f)

@@ -1,5 +1,5 @@
 -- "Proved of the rules": cases (a) to (l) over real records, as one table: what is given, and what comes of it. Assumes nothing.
-use Rattle.std.specs.Prelude.{ℕ, zero, suc, ◌≡◌, Bool, true, false, cond, List, [], ◌∷◌, map, ◌++◌, ℤ, pos, negsuc, replicate}
+use Rattle.std.specs.Prelude.{ℕ, zero, suc, ◌≡◌, Bool, true, false, cond, List, [], ◌∷◌, map, ◌++◌, ℤ, pos, negsuc, replicate, Result, Ok, Err, ⊤}
 use Rattle.fields.specs.Text.{text}
 use Rattle.fields.specs.Digits.{digits}
 use Rattle.units.specs.Calendar.{is_date, date_of}
@@ -12,15 +12,16 @@ use Rattle.ledger.specs.Bills.{product_byte, cents}
 use Rattle.ledger.specs.Books.{Book}
 use Rattle.notices.specs.declared.Alike.{Alike}
 use Rattle.notices.specs.Notices.{alike_fields, spaces_from}
-use Rattle.rules.specs.declared.Check.{Check}
-use Rattle.rules.specs.declared.Check.TheVariants.{Clear, Stop}
-use Rattle.verdict.specs.declared.Verdict.{Verdict}
-use Rattle.verdict.specs.declared.Verdict.TheVariants.{Accepted, Rejected}
 use Rattle.causes.specs.declared.Request.{Request}
 use Rattle.causes.specs.Causes.{Call, request, file, cancel, close}
 use Rattle.causes.specs.Requests.{new_bill}
 use Rattle.calls.specs.Machine.{Outcome, fresh, after, outcomes}
 use Rattle.history.specs.Claim.{assigned}
+use Rattle.ledger.specs.declared.Posted.{Posted}
+use Rattle.rules.specs.declared.Cause.{Cause}
+use Rattle.rules.specs.declared.ErrorCode.{ErrorCode}
+use Rattle.rules.specs.declared.Cause.TheVariants.{LedgerFull}
+use Rattle.rules.specs.declared.ErrorCode.TheVariants.{Br09, Br14, Br20, Br25}
 
 -- ---- a supplier's file
 -- what a group of the table's bill holds; the tier consumptions 3 and 4 are 0
@@ -139,18 +140,18 @@ pub data Case : Type 0 where
 
 -- what calls come to: their results, verdicts and changes, the Tracking IDs assigned, the bills' sequences at the end
 pub record Came : Type 0 where
-  pub results : List Check
-  pub verdicts : List (List Verdict)
+  pub results : List (Result ⊤ Cause)
+  pub verdicts : List (List (Result Posted ErrorCode))
   pub changes : List ℤ
   pub assigned : List ℕ
   pub sequences : List ℕ
 
 -- a date or not, or what calls come to
-pub data Result : Type 0 where
-  is_one : Bool → Result
-  came : Came → Result
+pub data CaseResult : Type 0 where
+  is_one : Bool → CaseResult
+  came : Came → CaseResult
 
-unfoldable pub result_of : Case → Result
+unfoldable pub result_of : Case → CaseResult
 result_of (date d) = is_one (is_date d)
 result_of (calls l cs) =
     came
@@ -164,18 +165,18 @@ result_of (calls l cs) =
 
 pub record Row : Type 0 where
   pub given : Case
-  pub result : Result
+  pub result : CaseResult
 
 -- the row of these calls on a ledger: their results, verdicts and changes, the Tracking IDs assigned, the bills' sequences at the end
-abbrev pub row : Book → List Call → List Check → List (List Verdict) → List ℤ → List ℕ → List ℕ → Row
+abbrev pub row : Book → List Call → List (Result ⊤ Cause) → List (List (Result Posted ErrorCode)) → List ℤ → List ℕ → List ℕ → Row
 row l cs results verdicts changes assigned sequences =
     record {
       given = calls l cs;
       result = came (record { results = results; verdicts = verdicts; changes = changes; assigned = assigned; sequences = sequences });
     }
 
-abbrev pub ready : ℕ → Verdict
-ready charge = Accepted (posted.BillReady (cents charge))
+abbrev pub ready : ℕ → Result Posted ErrorCode
+ready charge = Ok (posted.BillReady (cents charge))
 
 unfoldable pub table : List Row
 table =
@@ -184,31 +185,31 @@ table =
     ∷ record { given = date 19000229; result = is_one false }
     -- (b) RSP on its Scheduled Date is accepted; (d) 85 = 60 + 25 passes
     ∷ row start (ask product.BillReady ∷ close (date_of 20171116) ∷ send (rsp 4250 ∷ []) ∷ [])
-    (Clear ∷ Clear ∷ Clear ∷ []) ([] ∷ [] ∷ (ready 4250 ∷ []) ∷ []) (pos 0 ∷ pos 0 ∷ pos 4250 ∷ []) (1 ∷ []) (1 ∷ [])
+    (Ok tt ∷ Ok tt ∷ (Ok tt) ∷ []) ([] ∷ [] ∷ (ready 4250 ∷ []) ∷ []) (pos 0 ∷ pos 0 ∷ pos 4250 ∷ []) (1 ∷ []) (1 ∷ [])
     -- (c) a day later BR09
     ∷ row start (ask product.BillReady ∷ close (date_of 20171117) ∷ send (rsp 4250 ∷ []) ∷ [])
-    (Clear ∷ Clear ∷ Clear ∷ []) ([] ∷ [] ∷ (Rejected 9 ∷ []) ∷ []) (pos 0 ∷ pos 0 ∷ pos 0 ∷ []) (1 ∷ []) (1 ∷ [])
+    (Ok tt ∷ Ok tt ∷ (Ok tt) ∷ []) ([] ∷ [] ∷ (Err Br09 ∷ []) ∷ []) (pos 0 ∷ pos 0 ∷ pos 0 ∷ []) (1 ∷ []) (1 ∷ [])
     -- (e) 60 + 24 is BR25
     ∷ row start (ask product.BillReady ∷ send (short ∷ []) ∷ [])
-    (Clear ∷ Clear ∷ []) ([] ∷ (Rejected 25 ∷ []) ∷ []) (pos 0 ∷ pos 0 ∷ []) (1 ∷ []) (1 ∷ [])
+    (Ok tt ∷ Ok tt ∷ []) ([] ∷ (Err Br25 ∷ []) ∷ []) (pos 0 ∷ pos 0 ∷ []) (1 ∷ []) (1 ∷ [])
     -- (f) Prepay 4250 with 4000 and 250 passes
     ∷ row start (ask product.Prepay ∷ send (prepaid 250 ∷ []) ∷ [])
-    (Clear ∷ Clear ∷ []) ([] ∷ (Accepted (posted.Prepay (cents 4250) (cents 4000) (cents 250)) ∷ []) ∷ []) (pos 0 ∷ pos 4250 ∷ []) (1 ∷ []) (1 ∷ [])
+    (Ok tt ∷ Ok tt ∷ []) ([] ∷ (Ok (posted.Prepay (cents 4250) (cents 4000) (cents 250)) ∷ []) ∷ []) (pos 0 ∷ pos 4250 ∷ []) (1 ∷ []) (1 ∷ [])
     -- (g) with 251 BR20
     ∷ row start (ask product.Prepay ∷ send (prepaid 251 ∷ []) ∷ [])
-    (Clear ∷ Clear ∷ []) ([] ∷ (Rejected 20 ∷ []) ∷ []) (pos 0 ∷ pos 0 ∷ []) (1 ∷ []) (1 ∷ [])
+    (Ok tt ∷ Ok tt ∷ []) ([] ∷ (Err Br20 ∷ []) ∷ []) (pos 0 ∷ pos 0 ∷ []) (1 ∷ []) (1 ∷ [])
     -- (h) 4250 replaced by 4000 returns -250, (i) a cancel then -4000
     ∷ row start (ask product.BillReady ∷ send (rsp 4250 ∷ []) ∷ send (rsp 4000 ∷ []) ∷ cancel bill 642 ∷ [])
-    (Clear ∷ Clear ∷ Clear ∷ Clear ∷ []) ([] ∷ (ready 4250 ∷ []) ∷ (ready 4000 ∷ []) ∷ [] ∷ []) (pos 0 ∷ pos 4250 ∷ negsuc 249 ∷ negsuc 3999 ∷ []) (1 ∷ 2 ∷ []) (1 ∷ [])
+    (Ok tt ∷ Ok tt ∷ (Ok tt) ∷ Ok tt ∷ []) ([] ∷ (ready 4250 ∷ []) ∷ (ready 4000 ∷ []) ∷ [] ∷ []) (pos 0 ∷ pos 4250 ∷ negsuc 249 ∷ negsuc 3999 ∷ []) (1 ∷ 2 ∷ []) (1 ∷ [])
     -- (j) two RSPs of one bill in a file: both BR14, change 0
     ∷ row start (ask product.BillReady ∷ send (rsp 4250 ∷ rsp 4000 ∷ []) ∷ [])
-    (Clear ∷ Clear ∷ []) ([] ∷ (Rejected 14 ∷ Rejected 14 ∷ []) ∷ []) (pos 0 ∷ pos 0 ∷ []) (1 ∷ []) (1 ∷ [])
+    (Ok tt ∷ Ok tt ∷ []) ([] ∷ (Err Br14 ∷ Err Br14 ∷ []) ∷ []) (pos 0 ∷ pos 0 ∷ []) (1 ∷ []) (1 ∷ [])
     -- (k) an accepted SUP: 001 becomes 002
     ∷ row start (ask product.BillReady ∷ close (date_of 20171117) ∷ send (sup ∷ []) ∷ [])
-    (Clear ∷ Clear ∷ Clear ∷ []) ([] ∷ [] ∷ (ready 4250 ∷ []) ∷ []) (pos 0 ∷ pos 0 ∷ pos 4250 ∷ []) (1 ∷ 2 ∷ []) (2 ∷ [])
+    (Ok tt ∷ Ok tt ∷ (Ok tt) ∷ []) ([] ∷ [] ∷ (ready 4250 ∷ []) ∷ []) (pos 0 ∷ pos 0 ∷ pos 4250 ∷ []) (1 ∷ 2 ∷ []) (2 ∷ [])
     -- (l) the 128th bill is taken, the 129th is 3
     ∷ row (holding 127) (request (other 5000) 642 ∷ request (other 5001) 642 ∷ [])
-    (Clear ∷ Stop 3 ∷ []) ([] ∷ [] ∷ []) (pos 0 ∷ pos 0 ∷ []) (500 ∷ []) (replicate 128 1)
+    (Ok tt ∷ Err LedgerFull ∷ []) ([] ∷ [] ∷ []) (pos 0 ∷ pos 0 ∷ []) (500 ∷ []) (replicate 128 1)
     ∷ []
 
 -- a row of the table holds

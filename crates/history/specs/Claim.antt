@@ -1,11 +1,10 @@
 -- Demand 3: "a single claim about a whole list" of calls that follow a fresh that succeeded, refused ones too. Assumes nothing.
-use Rattle.std.specs.Prelude.{ℕ, ◌+◌, ◌≤◌, ◌<◌, ◌≡◌, Bool, true, false, List, [], ◌∷◌, map, ◌++◌, length, get_or, ℤ, pos, ◌+ℤ◌}
+use Rattle.std.specs.Prelude.{ℕ, ◌+◌, ◌≤◌, ◌<◌, ◌≡◌, Bool, true, false, List, [], ◌∷◌, map, ◌++◌, length, get_or, ℤ, pos, ◌+ℤ◌, Ok}
 use Rattle.ledger.specs.declared.Ledger.{Ledger}
 use Rattle.rules.specs.Lists.{count}
 use Rattle.ledger.specs.Books.{Book, book, view}
 use Rattle.ledger.specs.Sound.{sound}
 use Rattle.records.specs.Layout.{is_rsp}
-use Rattle.rules.specs.declared.Check.TheVariants.{Clear}
 use Rattle.rules.specs.Rules.{first}
 use Rattle.verdict.specs.Lines.{is_nothing, terms_of}
 use Rattle.group.specs.Groups.{sought, answer, is_accepted}
@@ -72,7 +71,7 @@ pub record Claims (l : Book) (h : History) (cs : List Call) : Type 0 where
   pub kept : sound (after l cs) ≡ true
 
 abbrev pub SumFromHistory : Type 0
-SumFromHistory = (s : Start) → first (fresh_causes s) ≡ Clear → (cs : List Call) → Claims (fresh s) (begun s) cs
+SumFromHistory = (s : Start) → first (fresh_causes s) ≡ Ok tt → (cs : List Call) → Claims (fresh s) (begun s) cs
 
 -- ---- the same of the calls by value, after a fresh on any ledger: they do what the machine does, and of that the claim holds
 pub record ByValue (l : Ledger) (h : History) (cs : List Call) : Type 0 where
@@ -80,4 +79,4 @@ pub record ByValue (l : Ledger) (h : History) (cs : List Call) : Type 0 where
   pub claims : Claims (book l) h cs
 
 abbrev pub SumByValue : Type 0
-SumByValue = (l : Ledger) (s : Start) → first (fresh_causes s) ≡ Clear → (cs : List Call) → ByValue (fresh_called l s).ledger (begun s) cs
+SumByValue = (l : Ledger) (s : Start) → first (fresh_causes s) ≡ Ok tt → (cs : List Call) → ByValue (fresh_called l s).ledger (begun s) cs

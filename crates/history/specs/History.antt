@@ -1,21 +1,16 @@
 -- "From fresh's arguments and that list alone the history works out today, the next numbers, the bills with every field but the posted
 -- amounts, and a list of postings": it reads causes and verdicts on its own bills, with the machine's words for a bill's fields, and moves by its own
 -- definitions. Assumes nothing.
-use Rattle.std.specs.Prelude.{ℕ, ◌+◌, Bool, true, false, cond, List, [], ◌∷◌, ◌++◌, eqb}
+use Rattle.std.specs.Prelude.{ℕ, ◌+◌, Bool, true, false, cond, List, [], ◌∷◌, ◌++◌, eqb, Some, None, Result, Ok, Err, ⊤}
 use Rattle.units.specs.Calendar.{date_of}
 use Rattle.calendar.specs.BusinessDays.{business_day, number_in}
 use Rattle.ledger.specs.declared.Identity.{Identity}
 use Rattle.ledger.specs.declared.Latest.{Latest}
-use Rattle.ledger.specs.declared.Removal.TheVariants.{Never, On}
 use Rattle.ledger.specs.declared.Terms.{Terms}
 use Rattle.rules.specs.Lists.{has, sum, update}
 use Rattle.ledger.specs.Bills.{is_of, moved, product_of}
 use Rattle.ledger.specs.Books.{View}
 use Rattle.file.specs.File.{Group, file_groups, detail_of, asks_id}
-use Rattle.rules.specs.declared.Check.{Check}
-use Rattle.rules.specs.declared.Check.TheVariants.{Clear, Stop}
-use Rattle.verdict.specs.declared.Verdict.{Verdict}
-use Rattle.verdict.specs.declared.Verdict.TheVariants.{Accepted, Rejected}
 use Rattle.rules.specs.Rules.{first}
 use Rattle.verdict.specs.Lines.{sent_charge}
 use Rattle.group.specs.Groups.{identity_of, verdict}
@@ -25,6 +20,9 @@ use Rattle.causes.specs.declared.CalendarRequest.{CalendarRequest}
 use Rattle.causes.specs.declared.AccountRemoval.{AccountRemoval}
 use Rattle.causes.specs.Causes.{Call, request, calendar, file, cancel, close, removal, causes}
 use Rattle.causes.specs.Requests.{code_of}
+use Rattle.ledger.specs.declared.Posted.{Posted}
+use Rattle.rules.specs.declared.Cause.{Cause}
+use Rattle.rules.specs.declared.ErrorCode.{ErrorCode}
 
 -- "postings, each a bill and a charge"
 pub record Posting : Type 0 where
@@ -74,7 +72,7 @@ added r tracking =
       requests = 1;
       cancelled = false;
       latest = asks r tracking;
-      removal = Never;
+      removal = None;
     }
 
 abbrev pub renews : Request → ℕ → Terms → Terms
@@ -92,7 +90,7 @@ abbrev pub with_removal : AccountRemoval → List Terms → List Terms
 with_removal a [] = []
 with_removal a (t ∷ ts) =
     cond (eqb t.identity.account a.account)
-    (moved t.sequence t.requests t.cancelled t.latest (On a.date) t ∷ with_removal a ts)
+    (moved t.sequence t.requests t.cancelled t.latest (Some a.date) t ∷ with_removal a ts)
     (t ∷ with_removal a ts)
 
 -- a view with other numbers and bills
@@ -101,22 +99,22 @@ onward v tracking confirmation bills =
     record { today = v.today; tracking = v.tracking + tracking; confirmation = v.confirmation + confirmation; bills = bills }
 
 -- ---- "a file decides its groups in order, each accepted one adding a posting"
-unfoldable pub decided : History → Group → Verdict → History
-decided h g (Accepted amounts) =
+unfoldable pub decided : History → Group → Result Posted ErrorCode → History
+decided h g (Ok amounts) =
     record {
       now = onward h.now (cond (asks_id g) 1 0) 1 (update (is_of (identity_of g)) (raised (asks_id g)) h.now.bills);
       postings = record { identity = identity_of g; charge = sent_charge (detail_of g) } ∷ h.postings;
     }
-decided h g (Rejected n) = record { now = onward h.now 0 1 h.now.bills; postings = h.postings }
+decided h g (Err n) = record { now = onward h.now 0 1 h.now.bills; postings = h.postings }
 
 -- a group as the history decides it, with the history's view when it is decided
 pub record Decided : Type 0 where
   pub now : View
   pub group : Group
-  pub verdict : Verdict
+  pub verdict : Result Posted ErrorCode
 
 -- before were decided, and gs are to come
-abbrev pub verdict_now : List Group → History → Group → List Group → Verdict
+abbrev pub verdict_now : List Group → History → Group → List Group → Result Posted ErrorCode
 verdict_now before h g gs = verdict h.now (before ++ gs) g
 
 unfoldable pub decided_all : List Group → History → List Group → History
@@ -180,23 +178,23 @@ h_next h (removal a) =
     }
 
 -- what "Causes, read on these and without the ledger part of 2", say of a call
-abbrev pub h_cause : History → Call → Check
+abbrev pub h_cause : History → Call → Result ⊤ Cause
 h_cause h c = first (causes h.now c)
 
 -- "A call to which Causes .. gives a number changes nothing."
-unfoldable pub h_move : History → Call → Check → History
-h_move h c Clear = h_next h c
-h_move h c (Stop n) = h
+unfoldable pub h_move : History → Call → Result ⊤ Cause → History
+h_move h c (Ok tt) = h_next h c
+h_move h c (Err n) = h
 
 unfoldable pub h_step : History → Call → History
 h_step h c = h_move h c (h_cause h c)
 
 -- the groups that a call decides: those of a file to which the causes give no number
-unfoldable pub call_decisions : History → Call → Check → List Decided
+unfoldable pub call_decisions : History → Call → Result ⊤ Cause → List Decided
 call_decisions h (request r room) v = []
 call_decisions h (calendar q hs room) v = []
-call_decisions h (file s room) Clear = decisions [] h (file_groups s)
-call_decisions h (file s room) (Stop n) = []
+call_decisions h (file s room) (Ok tt) = decisions [] h (file_groups s)
+call_decisions h (file s room) (Err n) = []
 call_decisions h (cancel id room) v = []
 call_decisions h (close d) v = []
 call_decisions h (removal a) v = []
@@ -208,7 +206,7 @@ h_after h [] = h
 h_after h (c ∷ cs) = h_after (h_step h c) cs
 
 -- what the causes say of each
-unfoldable pub h_causes : History → List Call → List Check
+unfoldable pub h_causes : History → List Call → List (Result ⊤ Cause)
 h_causes h [] = []
 h_causes h (c ∷ cs) = h_cause h c ∷ h_causes (h_step h c) cs
 

@@ -7,8 +7,8 @@ ghost use Rattle.holidays.specs.Lines.{date_in, digit_in, holidays_of};
 ghost use Rattle.holidays.specs.DayLine.{number_width, refusal_line, day_line, day_room, day_of};
 ghost use Rattle.holidays.specs.parts.FirstLine.{first_line};
 
-use calendar::Day;
 use units::Date;
+use rules::Cause;
 
 // The bytes of the longest line that is printed.
 pub const DAY_ROOM: usize = 11;
@@ -20,8 +20,7 @@ fn date_in(line: &[u8]) -> u64
     if line.len() != 8 {
         return 0;
     }
-    let f = fields::read_digits(line);
-    f.value()
+    fields::read_digits(line).unwrap_or(0)
 }
 
 // The number of one digit, 10 where the bytes are anything else.
@@ -90,23 +89,23 @@ fn put_refusal(out: &mut [u8], n: u64) -> usize
 }
 
 // Writes the line of a date that was worked out, or of the refusal, and answers its length.
-fn put_day(out: &mut [u8], d: Day) -> usize
+fn put_day(out: &mut [u8], d: Result<Date, Cause>) -> usize
     requires { day_room ≤ length out.old }
     ensures value { result ≡ length (day_line d) }
     ensures out_after { out.new ≡ put out.old 0 (day_line d) }
 {
     match d {
-        Day::On(date) => {
+        Ok(date) => {
             fields::put_digits(out, 0, 8, date.0);
             fields::put_bytes(out, 8, b"\n");
             9
         }
-        Day::Refused(n) => put_refusal(out, n),
+        Err(cause) => put_refusal(out, cause.number()),
     }
 }
 
 // What is worked out of the bytes of DATE and NUMBER and of the holidays' lines. One line more than the most is taken: so many are refused.
-fn day_of(date: &[u8], number: &[u8], s: &[u8]) -> Day
+fn day_of(date: &[u8], number: &[u8], s: &[u8]) -> Result<Date, Cause>
     ensures { result ≡ day_of date.now number.now s.now }
 {
     let mut holidays = [0u64; calendar::MOST_HOLIDAYS + 1];

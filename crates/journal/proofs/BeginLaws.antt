@@ -10,8 +10,6 @@ use borrow.Author.Tests.{ne_eqb}
 use Rattle.fields.proofs.BoolLaws.{cases}
 use Rattle.fields.specs.Put.{part}
 use Rattle.ledger.specs.Books.{Book}
-use Rattle.rules.specs.declared.Check.{Check}
-use Rattle.rules.specs.declared.Check.TheVariants.{Clear, Stop}
 use Rattle.rules.specs.Rules.{first}
 use Rattle.units.specs.declared.Date.{Date}
 use Rattle.ledger.specs.declared.Identity.{Identity}
@@ -29,6 +27,8 @@ use Rattle.journal.specs.Journal.{Entry, Parsed, on_head, parse_up_to, parse, ca
 use Rattle.journal.proofs.HeadLaws.{tag_in, length_in, WholeAt, whole_is}
 use Rattle.journal.proofs.MadeLaws.{Taken}
 use Rattle.journal.proofs.JournalLaws.{parse-cut, parse-bad, parse-whole}
+use Rattle.std.specs.Prelude.{Result, Ok, Err, ⊤}
+use Rattle.rules.specs.declared.Cause.{Cause}
 
 -- ---- lists of entries and of calls, one behind the other
 pub makes-append : (k : Book) (es fs : List Entry) → after_entries k (es ++ fs) ≡ after_entries (after_entries k es) fs
@@ -134,21 +134,21 @@ makes-after k (e ∷ es) h =
 -- ---- how a journal begins: no entry is whole, or the first is a fresh that is taken; then the ledger is that of the calls after it
 pub data Begins (s : List ℕ) : Type 0 where
   nothing : (parse 0 s).entries ≡ [] → Begins s
-  begins : (start : Start) (bytes : List ℕ) (es : List Entry) → first (fresh_causes start) ≡ Clear
+  begins : (start : Start) (bytes : List ℕ) (es : List Entry) → first (fresh_causes start) ≡ Ok tt
       → (parse 0 s).entries ≡ record { body = body.Fresh start; bytes = bytes } ∷ es
       → journal_ledger s ≡ after (fresh start) (calls_of es)
       → Begins s
 
 -- a fresh that is taken
 data Starts (b : Body) : Type 0 where
-  starts : (start : Start) → first (fresh_causes start) ≡ Clear → b ≡ body.Fresh start → Starts b
+  starts : (start : Start) → first (fresh_causes start) ≡ Ok tt → b ≡ body.Fresh start → Starts b
 
 starts_by : (b : Body) → fresh_taken b ≡ true → Starts b
 starts_by (body.Fresh s) h = go (first (fresh_causes s)) refl
   where
-    go : (c : Check) → first (fresh_causes s) ≡ c → Starts (body.Fresh s)
-    go Clear e = starts s e refl
-    go (Stop n) e = absurd (false≢true (rw e at h))
+    go : (c : Result ⊤ Cause) → first (fresh_causes s) ≡ c → Starts (body.Fresh s)
+    go (Ok tt) e = starts s e refl
+    go (Err n) e = absurd (false≢true (rw e at h))
 starts_by (body.Request r) h = absurd (false≢true h)
 starts_by body.File h = absurd (false≢true h)
 starts_by (body.Cancel id) h = absurd (false≢true h)

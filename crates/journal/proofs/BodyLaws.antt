@@ -14,31 +14,28 @@ use Rattle.fields.proofs.BoolLaws.{cases}
 use Rattle.fields.specs.Digits.{number, numeric}
 use Rattle.fields.specs.Put.{part}
 use Rattle.fields.specs.Field.{field_of}
-use Rattle.fields.specs.declared.Field.{Field}
-use Rattle.fields.specs.declared.Field.TheVariants as field
 use Rattle.fields.proofs.HoldLaws.{field-isnt}
 use Rattle.ledger.specs.declared.Identity.{Identity}
 use Rattle.causes.specs.Causes.{code_field}
-use Rattle.journal.specs.declared.IdentityField.{IdentityField}
-use Rattle.journal.specs.declared.IdentityField.TheVariants.{Numeric, NotNumeric}
 use Rattle.journal.specs.parts.Fields.{identity_field_of}
 use Rattle.journal.specs.Entries.{good_length}
+use Rattle.std.specs.Prelude.{Option, Some, None}
 
 -- ---- what was read of a field says of its bytes
 -- it was read as not numeric
-pub field-refused : (xs : List ℕ) {f : Field} → f ≡ field_of xs → f ≡ field.NotNumeric → numeric xs ≡ false
+pub field-refused : (xs : List ℕ) {f : Option ℕ} → f ≡ field_of xs → f ≡ None → numeric xs ≡ false
 field-refused xs e told = field-isnt xs (sym e ∙ told)
 
 -- an account and a key were read as an identity, or as not numeric
 module _ (xs ys : List ℕ) where
-  pub identity-is : (id : Identity) → identity_field_of xs ys ≡ Numeric id → ((numeric xs && numeric ys) ≡ true) × (id ≡ record { account = number xs; key = number ys })
+  pub identity-is : (id : Identity) → identity_field_of xs ys ≡ Some id → ((numeric xs && numeric ys) ≡ true) × (id ≡ record { account = number xs; key = number ys })
   unfolding identity_field_of
   identity-is id e =
       cases (numeric xs && numeric ys)
       (λ t. let h = rw t at e in (t, cc))
       (λ t. let h = rw t at e in let z : ◌≡◌ {A = ℕ} 0 1 = cc in absurd (omega arith))
 
-  pub identity-refused : {f : IdentityField} → f ≡ identity_field_of xs ys → f ≡ NotNumeric → (numeric xs && numeric ys) ≡ false
+  pub identity-refused : {f : Option Identity} → f ≡ identity_field_of xs ys → f ≡ None → (numeric xs && numeric ys) ≡ false
   unfolding identity_field_of
   identity-refused e told =
       cases (numeric xs && numeric ys)

@@ -7,8 +7,6 @@ use Rattle.units.specs.declared.Date.{Date}
 use Rattle.ledger.specs.declared.Ledger.{Ledger}
 use Rattle.ledger.specs.Books.{Book, book}
 use Rattle.ledger.specs.Sound.{sound_ledger}
-use Rattle.rules.specs.declared.Check.{Check}
-use Rattle.rules.specs.declared.Check.TheVariants.{Clear, Stop}
 use Rattle.rules.specs.Rules.{first}
 use Rattle.causes.specs.declared.AccountRemoval.{AccountRemoval}
 use Rattle.causes.specs.Causes.{Call, request, file, cancel, close, removal, fresh_causes}
@@ -20,10 +18,12 @@ use Rattle.journal.specs.declared.Body.{Body}
 use Rattle.journal.specs.declared.Body.TheVariants as body
 use Rattle.journal.specs.Journal.{call_of, after_entry}
 use Rattle.journal.specs.EntryCalls.{entry_called, entry_written, written_by}
+use Rattle.std.specs.Prelude.{Result, Ok, Err, ⊤}
+use Rattle.rules.specs.declared.Cause.{Cause}
 
 -- a fresh that is taken; other bodies make calls, which are taken or refused
 abbrev pub Taken : Body → Type 0
-Taken (body.Fresh s) = first (fresh_causes s) ≡ Clear
+Taken (body.Fresh s) = first (fresh_causes s) ≡ Ok tt
 Taken (body.Request r) = Unit {0}
 Taken body.File = Unit {0}
 Taken (body.Cancel id) = Unit {0}
@@ -49,17 +49,17 @@ module _ (l : Ledger) (h : sound_ledger l ≡ true) where
   unfolding outcomes step outcome next_written
   close-written d = go (cause (book l) (close d))
     where
-      go : (v : Check) → [] ≡ (outcome (book l) (close d) v).written ++ []
-      go Clear = refl
-      go (Stop n) = refl
+      go : (v : Result ⊤ Cause) → [] ≡ (outcome (book l) (close d) v).written ++ []
+      go (Ok tt) = refl
+      go (Err n) = refl
 
   removal-written : (a : AccountRemoval) → [] ≡ written_by (outcomes (book l) (removal a ∷ []))
   unfolding outcomes step outcome next_written
   removal-written a = go (cause (book l) (removal a))
     where
-      go : (v : Check) → [] ≡ (outcome (book l) (removal a) v).written ++ []
-      go Clear = refl
-      go (Stop n) = refl
+      go : (v : Result ⊤ Cause) → [] ≡ (outcome (book l) (removal a) v).written ++ []
+      go (Ok tt) = refl
+      go (Err n) = refl
 
   pub made-book : (b : Body) (bytes : List ℕ) → Taken b → book (entry_called 64200 l b bytes).ledger ≡ after_entry b bytes (book l)
   unfolding fresh_called fresh_by

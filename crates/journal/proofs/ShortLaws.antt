@@ -7,8 +7,6 @@ use native.Mathlib.Omega.{arith}
 use lib.ListN.{length}
 use Rattle.ledger.specs.declared.Ledger.{Ledger}
 use Rattle.ledger.specs.Books.{book}
-use Rattle.rules.specs.declared.Check.{Check}
-use Rattle.rules.specs.declared.Check.TheVariants.{Clear, Stop}
 use Rattle.rules.specs.Rules.{first}
 use Rattle.causes.specs.declared.Start.{Start}
 use Rattle.causes.specs.Causes.{Call, request, file, cancel, close, removal, fresh_causes}
@@ -20,24 +18,26 @@ use Rattle.calls.proofs.FileCallLaws.{written-within}
 use Rattle.journal.specs.declared.Body.{Body}
 use Rattle.journal.specs.declared.Body.TheVariants as body
 use Rattle.journal.specs.EntryCalls.{entry_called, entry_written, length_of}
+use Rattle.std.specs.Prelude.{Result, Ok, Err, ⊤}
+use Rattle.rules.specs.declared.Cause.{Cause}
 
 -- a call writes no more than was lent to it
 call-short : (l : Ledger) (c : Call) → length_of (called l c).answer ≤ room_of c
 unfolding called answer_by
 call-short l c = go (cause_in l c) refl
   where
-    go : (v : Check) → cause_in l c ≡ v → length_of (answer_by (step_in l c) v) ≤ room_of c
-    go Clear e =
+    go : (v : Result ⊤ Cause) → cause_in l c ≡ v → length_of (answer_by (step_in l c) v) ≤ room_of c
+    go (Ok tt) e =
         omega (arith, ap length (written-clear l c e), written-within (book l) c (sym (cause-in l c (clear-sound l c e)) ∙ e))
-    go (Stop n) e = omega arith
+    go (Err n) e = omega arith
 
 fresh-short : (l : Ledger) (s : Start) → length_of (fresh_called l s).answer ≤ 64200
 unfolding fresh_called fresh_by
 fresh-short l s = go (first (fresh_causes s))
   where
-    go : (v : Check) → length_of (fresh_by l s v).answer ≤ 64200
-    go Clear = omega arith
-    go (Stop n) = omega arith
+    go : (v : Result ⊤ Cause) → length_of (fresh_by l s v).answer ≤ 64200
+    go (Ok tt) = omega arith
+    go (Err n) = omega arith
 
 pub made-short : (l : Ledger) (b : Body) (bytes : List ℕ) → length_of (entry_called 64200 l b bytes).answer ≤ 64200
 made-short l (body.Fresh s) bytes = fresh-short l s
@@ -53,17 +53,17 @@ call_length : (l : Ledger) (c : Call) → length (step_in l c).written ≡ lengt
 unfolding step_in called answer_by outcome
 call_length l c = go (cause_in l c)
   where
-    go : (v : Check) → length (outcome (book l) c v).written ≡ length_of (answer_by (outcome (book l) c v) v)
-    go Clear = refl
-    go (Stop n) = refl
+    go : (v : Result ⊤ Cause) → length (outcome (book l) c v).written ≡ length_of (answer_by (outcome (book l) c v) v)
+    go (Ok tt) = refl
+    go (Err n) = refl
 
 fresh-length : (l : Ledger) (s : Start) → 0 ≡ length_of (fresh_called l s).answer
 unfolding fresh_called fresh_by
 fresh-length l s = go (first (fresh_causes s))
   where
-    go : (v : Check) → 0 ≡ length_of (fresh_by l s v).answer
-    go Clear = refl
-    go (Stop n) = refl
+    go : (v : Result ⊤ Cause) → 0 ≡ length_of (fresh_by l s v).answer
+    go (Ok tt) = refl
+    go (Err n) = refl
 
 pub made-length : (room : ℕ) (l : Ledger) (b : Body) (bytes : List ℕ) → length (entry_written room l b bytes) ≡ length_of (entry_called room l b bytes).answer
 made-length room l (body.Fresh s) bytes = fresh-length l s

@@ -1,10 +1,8 @@
 -- "A journal entry is a one-byte tag, a two-byte length (high byte first) and the body, in ASCII fields". Assumes nothing.
-use Rattle.std.specs.Prelude.{ℕ, ◌+◌, ◌*◌, Bool, true, false, cond, not, ◌&&◌, List, eqb, leb, ltb, length, get_or}
+use Rattle.std.specs.Prelude.{ℕ, ◌+◌, ◌*◌, Bool, true, false, cond, not, ◌&&◌, List, eqb, leb, ltb, length, get_or, Result, Ok, Err, ⊤}
 use Rattle.fields.specs.Digits.{number, numeric}
 use Rattle.fields.specs.Put.{part, positions}
 use Rattle.units.specs.declared.Date.{Date}
-use Rattle.rules.specs.declared.Check.{Check}
-use Rattle.rules.specs.declared.Check.TheVariants.{Clear, Stop}
 use Rattle.rules.specs.Rules.{first}
 use Rattle.causes.specs.declared.Request.{Request}
 use Rattle.causes.specs.Causes.{code_field, fresh_causes}
@@ -15,6 +13,7 @@ use Rattle.journal.specs.declared.Head.TheVariants.{Cut, Bad, Whole}
 use Rattle.journal.specs.declared.Frame.{Frame}
 use Rattle.journal.specs.declared.Frame.TheVariants.{Nothing, Sized}
 use Rattle.records.specs.Limits.{file_size}
+use Rattle.rules.specs.declared.Cause.{Cause}
 
 -- ---- the bodies: a field of digits is a number; a body with another field there is refused (2)
 -- the bytes at positions a to b hold digits only
@@ -100,9 +99,9 @@ abbrev pub in_turn : ℕ → ℕ → Bool
 in_turn seen tag = cond (eqb seen 0) (eqb tag 0) (not (eqb tag 0))
 
 -- "An empty journal or refused fresh counts as a bad entry": a fresh against which there is no cause
-abbrev is_clear : Check → Bool
-is_clear Clear = true
-is_clear (Stop n) = false
+abbrev is_clear : Result ⊤ Cause → Bool
+is_clear (Ok tt) = true
+is_clear (Err n) = false
 
 abbrev pub fresh_taken : Body → Bool
 fresh_taken (body.Fresh s) = is_clear (first (fresh_causes s))

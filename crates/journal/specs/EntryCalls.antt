@@ -1,10 +1,8 @@
 -- The calls of a journal's entries on the struct, and the notices that they write. Assumes nothing.
-use Rattle.std.specs.Prelude.{ℕ, List, [], ◌∷◌, ◌++◌}
+use Rattle.std.specs.Prelude.{ℕ, List, [], ◌∷◌, ◌++◌, Result, Ok, Err}
 use Rattle.ledger.specs.declared.Ledger.{Ledger}
 use Rattle.ledger.specs.Books.{Book, empty_ledger}
 use Rattle.calls.specs.declared.Called.{Called}
-use Rattle.calls.specs.declared.Answer.{Answer}
-use Rattle.calls.specs.declared.Answer.TheVariants.{Done, Refused}
 use Rattle.causes.specs.Causes.{Call, request, file, cancel, close, removal}
 use Rattle.calls.specs.Machine.{Outcome, outcomes, called, step_in}
 use Rattle.calls.specs.Days.{fresh_called}
@@ -12,6 +10,9 @@ use Rattle.journal.specs.declared.Body.{Body}
 use Rattle.journal.specs.declared.Body.TheVariants as body
 use Rattle.journal.specs.Journal.{Entry, after_entry, call_of, parse, first_book}
 use Rattle.records.specs.Limits.{file_size}
+use Rattle.rules.specs.declared.Cause.{Cause}
+use Rattle.calls.specs.declared.Returned.{Returned}
+use Rattle.rules.specs.declared.Cause.TheVariants.{BadArgument}
 
 -- what an entry's call gives back, where its output has so much room
 abbrev pub entry_called : ℕ → Ledger → Body → List ℕ → Called
@@ -21,7 +22,7 @@ entry_called room l body.File bytes = called l (file bytes room)
 entry_called room l (body.Cancel id) bytes = called l (cancel id room)
 entry_called room l (body.Close d) bytes = called l (close d)
 entry_called room l (body.Removal a) bytes = called l (removal a)
-entry_called room l body.Unread bytes = record { ledger = l; answer = Refused 2 }
+entry_called room l body.Unread bytes = record { ledger = l; answer = Err BadArgument }
 
 -- and the bytes that it writes
 abbrev pub entry_written : ℕ → Ledger → Body → List ℕ → List ℕ
@@ -34,9 +35,9 @@ entry_written room l (body.Removal a) bytes = []
 entry_written room l body.Unread bytes = []
 
 -- how many bytes an answer says were written
-abbrev pub length_of : Answer → ℕ
-length_of (Done r) = r.written
-length_of (Refused n) = 0
+abbrev pub length_of : Result Returned Cause → ℕ
+length_of (Ok r) = r.written
+length_of (Err n) = 0
 
 -- the struct that entries leave, each on the one that the entry before left: "Each call's output there is 64,200 bytes"
 unfoldable pub ledger_after_entries : Ledger → List Entry → Ledger

@@ -8,10 +8,8 @@ ghost use Rattle.journal.specs.parts.Fields.{identity_field_of};
 ghost use Rattle.journal.specs.Entries.{fresh_body, request_body, cancel_body, close_body, removal_body, body_of, good_length, in_turn, whole_of, head_by, head_of, frame_of};
 
 use causes::{AccountRemoval, Request, Start};
-use fields::Field;
 use ledger::Identity;
 use records::layout;
-use rules::Check;
 use units::{Ccf, Date};
 
 // How many entries a journal has at most.
@@ -44,26 +42,14 @@ pub enum Frame {
     Sized(u8, usize),
 }
 
-// What an account and the key behind it hold: the identity, where both hold digits only.
-#[derive(Clone, Copy)]
-enum IdentityField {
-    Numeric(Identity),
-    NotNumeric,
-}
-
-// Reads the account from index `at` on, and the key behind it.
-fn read_identity(s: &[u8], at: usize) -> IdentityField
+// Reads the account from index `at` on, and the key behind it: the identity, where both hold digits only.
+fn read_identity(s: &[u8], at: usize) -> Option<Identity>
     requires { at + 16 ≤ length s.now }
     ensures { result ≡ identity_field_of (part s.now at 12) (part s.now (at + 12) 4) }
 {
-    let Field::Number(account) = fields::read_field(s, at, layout::ACCOUNT_WIDTH) else {
-        return IdentityField::NotNumeric;
-    };
-    let Field::Number(key) = fields::read_field(s, at + layout::ACCOUNT_WIDTH, layout::KEY_WIDTH)
-    else {
-        return IdentityField::NotNumeric;
-    };
-    IdentityField::Numeric(Identity { account, key })
+    let account = fields::read_field(s, at, layout::ACCOUNT_WIDTH)?;
+    let key = fields::read_field(s, at + layout::ACCOUNT_WIDTH, layout::KEY_WIDTH)?;
+    Some(Identity { account, key })
 }
 
 // The body of a fresh: today, Tracking, Confirmation.
@@ -71,13 +57,13 @@ fn fresh_body(s: &[u8]) -> Body
     requires { 26 ≤ length s.now }
     ensures { result ≡ fresh_body s.now }
 {
-    let Field::Number(today) = fields::read_field(s, 0, 8) else {
+    let Some(today) = fields::read_field(s, 0, 8) else {
         return Body::Unread;
     };
-    let Field::Number(tracking) = fields::read_field(s, 8, 9) else {
+    let Some(tracking) = fields::read_field(s, 8, 9) else {
         return Body::Unread;
     };
-    let Field::Number(confirmation) = fields::read_field(s, 17, 9) else {
+    let Some(confirmation) = fields::read_field(s, 17, 9) else {
         return Body::Unread;
     };
     Body::Fresh(Start {
@@ -92,19 +78,19 @@ fn request_body(s: &[u8]) -> Body
     requires { 56 ≤ length s.now }
     ensures { result ≡ request_body s.now }
 {
-    let IdentityField::Numeric(identity) = read_identity(s, 5) else {
+    let Some(identity) = read_identity(s, 5) else {
         return Body::Unread;
     };
-    let Field::Number(billing) = fields::read_field(s, 22, 8) else {
+    let Some(billing) = fields::read_field(s, 22, 8) else {
         return Body::Unread;
     };
-    let Field::Number(from) = fields::read_field(s, 30, 8) else {
+    let Some(from) = fields::read_field(s, 30, 8) else {
         return Body::Unread;
     };
-    let Field::Number(consumption) = fields::read_field(s, 38, 10) else {
+    let Some(consumption) = fields::read_field(s, 38, 10) else {
         return Body::Unread;
     };
-    let Field::Number(scheduled) = fields::read_field(s, 48, 8) else {
+    let Some(scheduled) = fields::read_field(s, 48, 8) else {
         return Body::Unread;
     };
     Body::Request(Request {
@@ -123,7 +109,7 @@ fn cancel_body(s: &[u8]) -> Body
     requires { 16 ≤ length s.now }
     ensures { result ≡ cancel_body s.now }
 {
-    let IdentityField::Numeric(identity) = read_identity(s, 0) else {
+    let Some(identity) = read_identity(s, 0) else {
         return Body::Unread;
     };
     Body::Cancel(identity)
@@ -134,7 +120,7 @@ fn close_body(s: &[u8]) -> Body
     requires { 8 ≤ length s.now }
     ensures { result ≡ close_body s.now }
 {
-    let Field::Number(today) = fields::read_field(s, 0, 8) else {
+    let Some(today) = fields::read_field(s, 0, 8) else {
         return Body::Unread;
     };
     Body::Close(Date(today))
@@ -145,10 +131,10 @@ fn removal_body(s: &[u8]) -> Body
     requires { 20 ≤ length s.now }
     ensures { result ≡ removal_body s.now }
 {
-    let Field::Number(account) = fields::read_field(s, 0, layout::ACCOUNT_WIDTH) else {
+    let Some(account) = fields::read_field(s, 0, layout::ACCOUNT_WIDTH) else {
         return Body::Unread;
     };
-    let Field::Number(date) = fields::read_field(s, layout::ACCOUNT_WIDTH, 8) else {
+    let Some(date) = fields::read_field(s, layout::ACCOUNT_WIDTH, 8) else {
         return Body::Unread;
     };
     Body::Removal(AccountRemoval {
@@ -191,8 +177,8 @@ fn fresh_head(b: Body, end: usize) -> Head
     };
     let check = causes::checks::fresh_check(start);
     match check {
-        Check::Stop(_) => Head::Bad,
-        Check::Clear => Head::Whole(b, end),
+        Err(_) => Head::Bad,
+        Ok(()) => Head::Whole(b, end),
     }
 }
 

@@ -1,5 +1,5 @@
 -- A bill: what it holds, what its amounts count for, its state, and how it changes. Assumes nothing.
-use Rattle.std.specs.Prelude.{ℕ, ◌+◌, Bool, true, false, cond, not, ◌&&◌, ◌||◌, List, [], ◌∷◌, leb, eqb, length, get_or}
+use Rattle.std.specs.Prelude.{ℕ, ◌+◌, Bool, true, false, cond, not, ◌&&◌, ◌||◌, List, [], ◌∷◌, leb, eqb, length, get_or, Option, Some, None}
 use Rattle.fields.specs.Digits.{is_digit}
 use Rattle.units.specs.declared.Cents.{Cents}
 use Rattle.units.specs.declared.Date.{Date}
@@ -10,8 +10,6 @@ use Rattle.ledger.specs.declared.Product.TheVariants as product
 use Rattle.ledger.specs.declared.Posted.{Posted}
 use Rattle.ledger.specs.declared.Posted.TheVariants as posted
 use Rattle.ledger.specs.declared.Latest.{Latest}
-use Rattle.ledger.specs.declared.Removal.{Removal}
-use Rattle.ledger.specs.declared.Removal.TheVariants.{Never, On}
 use Rattle.ledger.specs.declared.Terms.{Terms}
 use Rattle.ledger.specs.declared.Bill.{Bill}
 use Rattle.ledger.specs.declared.State.{State}
@@ -87,7 +85,7 @@ owed_of (posted.Prepay charge applied owed) = owed
 
 -- ---- how it changes
 -- terms with this sequence, count of requests, mark, latest request and removal date: whatever changes a bill's terms says so by this
-abbrev pub moved : ℕ → ℕ → Bool → Latest → Removal → Terms → Terms
+abbrev pub moved : ℕ → ℕ → Bool → Latest → Option Date → Terms → Terms
 moved sequence requests cancelled latest removal t =
     record {
       identity = t.identity;
@@ -113,7 +111,7 @@ first_bill id code p latest =
             requests = 1;
             cancelled = false;
             latest = latest;
-            removal = Never;
+            removal = None;
           };
       posted = posted.None;
     }
@@ -146,7 +144,7 @@ cancelled_bill b =
 
 -- paper 2 of document 02: "a removal call sets it .., replacing any earlier one"
 abbrev pub removed_terms : Date → Terms → Terms
-removed_terms date t = moved t.sequence t.requests t.cancelled t.latest (On date) t
+removed_terms date t = moved t.sequence t.requests t.cancelled t.latest (Some date) t
 
 abbrev pub removed_bill : Date → Bill → Bill
 removed_bill date b = record { terms = removed_terms date b.terms; posted = b.posted }
@@ -171,7 +169,7 @@ blank_bill =
                   from = record { 0 = 0 };
                   scheduled = record { 0 = 0 };
                 };
-            removal = Never;
+            removal = None;
           };
       posted = posted.None;
     }

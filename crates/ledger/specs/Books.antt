@@ -1,6 +1,6 @@
 -- The ledger as a book: "today, the next Tracking ID, the next Confirmation Number .. and up to 128 bills in order of first request".
 -- Assumes nothing.
-use Rattle.std.specs.Prelude.{ℕ, Bool, cond, List, map, ◌++◌, length, take, drop, replicate}
+use Rattle.std.specs.Prelude.{ℕ, Bool, cond, List, map, ◌++◌, length, take, drop, replicate, Option}
 use Rattle.units.specs.declared.Date.{Date}
 use Rattle.units.specs.Units.{fits_cents}
 use Rattle.ledger.specs.declared.Identity.{Identity}
@@ -8,7 +8,6 @@ use Rattle.ledger.specs.declared.Terms.{Terms}
 use Rattle.ledger.specs.declared.Bill.{Bill}
 use Rattle.ledger.specs.declared.Ledger.{Ledger}
 use Rattle.ledger.specs.declared.LedgerHeader.{LedgerHeader}
-use Rattle.rules.specs.declared.Found.{Found}
 use Rattle.rules.specs.Lists.{sum, find}
 use Rattle.ledger.specs.Bills.{is_of, is_of_account, charge_of, removed_bill, blank_bill}
 use Rattle.ledger.specs.Limits.{ledger_places}
@@ -71,7 +70,7 @@ abbrev pub removed_of : ℕ → Date → Bill → Bill
 removed_of account date b = cond (of_account account b) (removed_bill date b) b
 
 -- the place of the bill with this identity
-abbrev pub place_of : Identity → List Bill → Found
+abbrev pub place_of : Identity → List Bill → Option ℕ
 place_of id bs = find (of_id id) 0 bs
 
 -- the charge that a bill counts for, and whether it is in its width

@@ -1,7 +1,7 @@
 -- "A ledger is sound if every field is in its width and range, dates are dates, the count of requests is from 1 to the sequence (at most
 -- 999), no identity stands twice, amounts fit the product, a cancelled bill has none, and applied plus owed is the charge."
 -- Assumes nothing.
-use Rattle.std.specs.Prelude.{ℕ, ◌+◌, Bool, true, not, ◌&&◌, List, [], ◌∷◌, leb, eqb, length}
+use Rattle.std.specs.Prelude.{ℕ, ◌+◌, Bool, true, not, ◌&&◌, List, [], ◌∷◌, leb, eqb, length, Option, Some, None}
 use Rattle.fields.specs.Digits.{fits}
 use Rattle.units.specs.declared.Cents.{Cents}
 use Rattle.units.specs.Units.{fits_cents, fits_ccf}
@@ -9,8 +9,6 @@ use Rattle.units.specs.Calendar.{is_date}
 use Rattle.ledger.specs.declared.Identity.{Identity}
 use Rattle.ledger.specs.declared.Posted.{Posted}
 use Rattle.ledger.specs.declared.Posted.TheVariants as posted
-use Rattle.ledger.specs.declared.Removal.{Removal}
-use Rattle.ledger.specs.declared.Removal.TheVariants.{Never, On}
 use Rattle.ledger.specs.declared.Terms.{Terms}
 use Rattle.ledger.specs.declared.Bill.{Bill}
 use Rattle.ledger.specs.declared.Ledger.{Ledger}
@@ -18,15 +16,16 @@ use Rattle.rules.specs.Lists.{all, every, has}
 use Rattle.ledger.specs.Bills.{is_rate_code, code_bytes, is_prepay}
 use Rattle.ledger.specs.Books.{Book, book, of_id}
 use Rattle.ledger.specs.Limits.{ledger_places, last_sequence, last_number, used_up}
+use Rattle.units.specs.declared.Date.{Date}
 
 -- a next number: "1 to 999,999,999; 1,000,000,000 when used up"
 abbrev pub is_next : ℕ → Bool
 is_next n = leb 1 n && leb n used_up
 
 -- "dates are dates": the removal date of paper 2 of document 02, if it is not empty
-abbrev pub sound_removal : Removal → Bool
-sound_removal Never = true
-sound_removal (On d) = is_date d.0
+abbrev pub sound_removal : Option Date → Bool
+sound_removal None = true
+sound_removal (Some d) = is_date d.0
 
 -- a bill's fields but its posted amounts: widths, ranges and dates
 unfoldable pub terms_tests : Terms → List Bool

@@ -6,7 +6,7 @@ ghost use Rattle.ledger.specs.Bills.{code_bytes, is_prepay, product_byte, charge
 ghost use Rattle.ledger.specs.Books.{removed_of};
 ghost use Rattle.ledger.specs.Limits.{last_sequence};
 
-use crate::{Bill, Identity, Latest, Posted, Product, RateCode, Removal, State, Terms};
+use crate::{Bill, Identity, Latest, Posted, Product, RateCode, State, Terms};
 use units::{Ccf, Cents, Date};
 
 // Writes a rate code.
@@ -119,7 +119,7 @@ impl Terms {
             requests: self.requests,
             cancelled: self.cancelled,
             latest,
-            removal: Removal::On(date),
+            removal: Some(date),
         }
     }
 }
@@ -150,7 +150,7 @@ impl Bill {
                     from: zero,
                     scheduled: zero,
                 },
-                removal: Removal::Never,
+                removal: None,
             },
             posted: Posted::None,
         }
@@ -169,7 +169,7 @@ impl Bill {
                 requests: 1,
                 cancelled: false,
                 latest,
-                removal: Removal::Never,
+                removal: None,
             },
             posted: Posted::None,
         }

@@ -7,7 +7,6 @@ ghost use Rattle.ledger.specs.parts.Places.{updated, within, place_for};
 ghost use Rattle.ledger.specs.Limits.{ledger_places};
 
 use crate::{Bill, Identity, Ledger, Update};
-use rules::Found;
 use units::{Cents, Date};
 
 impl Ledger {
@@ -26,7 +25,7 @@ impl Ledger {
     }
 
     // The place of the bill with this identity.
-    pub fn find(self, id: Identity) -> Found
+    pub fn find(self, id: Identity) -> Option<usize>
         requires { self.count ≤ ledger_places }
         ensures { result ≡ place_of id (live self) }
     {
@@ -35,11 +34,11 @@ impl Ledger {
         while i < n {
             let b = self.bills[i];
             if b.terms.is_of(id) {
-                return Found::At(i);
+                return Some(i);
             }
             i += 1;
         }
-        Found::Nothing
+        None
     }
 
     // The ledger with a header, and a bill at a place.
@@ -76,12 +75,12 @@ fn within(i: usize) -> usize
 }
 
 // A place of the array: the one that was found, else the next free one, else the last.
-pub fn bill_place(f: Found, count: usize) -> usize
+pub fn bill_place(f: Option<usize>, count: usize) -> usize
     ensures { (result ≡ place_for f count) × (result < ledger_places) }
 {
     match f {
-        Found::At(p) => within(p),
-        Found::Nothing => within(count),
+        Some(p) => within(p),
+        None => within(count),
     }
 }
 

@@ -58,13 +58,6 @@ pub enum Posted {
     },
 }
 
-// When a bill's account was removed, if it was: paper 2 of document 02.
-#[derive(Clone, Copy)]
-pub enum Removal {
-    Never,
-    On(Date),
-}
-
 // What a bill has from its latest request.
 #[derive(Clone, Copy)]
 pub struct Latest {
@@ -85,7 +78,8 @@ pub struct Terms {
     pub requests: u64,
     pub cancelled: bool,
     pub latest: Latest,
-    pub removal: Removal,
+    // When the account was removed, if it was: paper 2 of document 02.
+    pub removal: Option<Date>,
 }
 
 #[derive(Clone, Copy)]

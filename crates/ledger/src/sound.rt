@@ -3,8 +3,8 @@ ghost use Rattle.std.specs.Prelude.{◌≡◌};
 ghost use Rattle.ledger.specs.Bills.{is_letter, is_rate_code, code_bytes};
 ghost use Rattle.ledger.specs.Sound.{is_next, sound_removal, sound_terms, balanced, sound_amounts, sound_bill};
 
-use crate::{Bill, Posted, RateCode, Removal, Terms};
-use units::Cents;
+use crate::{Bill, Posted, RateCode, Terms};
+use units::{Cents, Date};
 
 fn is_letter(x: u8) -> bool
     ensures { result ≡ is_letter x }
@@ -31,15 +31,13 @@ pub fn is_next(n: u64) -> bool
     (1 <= n) & (n <= crate::USED_UP)
 }
 
-impl Removal {
-    // Whether it is empty or a date.
-    pub fn sound(self) -> bool
-        ensures { result ≡ sound_removal self }
-    {
-        match self {
-            Removal::Never => true,
-            Removal::On(d) => d.valid(),
-        }
+// Whether a removal date is empty or a date.
+pub fn is_sound_removal(removal: Option<Date>) -> bool
+    ensures { result ≡ sound_removal removal }
+{
+    match removal {
+        None => true,
+        Some(d) => d.valid(),
     }
 }
 
@@ -64,7 +62,7 @@ impl Terms {
             & latest.billing.valid()
             & latest.from.valid()
             & latest.scheduled.valid()
-            & removal.sound()
+            & is_sound_removal(removal)
     }
 }
 

@@ -11,6 +11,7 @@ ghost use Rattle.lookups.specs.Lookups.{amounts_in};
 use causes::{Request, Start};
 use ledger::{Identity, Ledger};
 use lookups::Amounts;
+use rules::Cause;
 use streams::output;
 use units::{Ccf, Date};
 
@@ -20,19 +21,19 @@ fn day(first: Ledger, s: Start, q: Request, d: Date, out: &mut [u8]) -> Ledger
         × (out.new ≡ put out.old 0 (step_in (fresh_called first s).ledger (request q (length out.old))).written) }
 {
     let mut l = first;
-    clearing::fresh(&mut l, s);
-    clearing::request_bill(&mut l, q, out);
-    clearing::close_day(&mut l, d);
+    let _ = clearing::fresh(&mut l, s);
+    let _ = clearing::request_bill(&mut l, q, out);
+    let _ = clearing::close_day(&mut l, d);
     l
 }
 
 // A supplier file whose answers go to out, on a ledger that the call is lent, and then the amounts of a bill.
-fn answer_day(first: Ledger, s: &[u8], id: Identity, out: &mut [u8]) -> Amounts
+fn answer_day(first: Ledger, s: &[u8], id: Identity, out: &mut [u8]) -> Result<Amounts, Cause>
     ensures { (result ≡ amounts_in (called first (file s.now (length out.old))).ledger id)
         × (out.new ≡ put out.old 0 (step_in first (file s.now (length out.old))).written) }
 {
     let mut l = first;
-    clearing::take_file(&mut l, s, out);
+    let _ = clearing::take_file(&mut l, s, out);
     clearing::amounts_of(&l, id)
 }
 
@@ -57,11 +58,11 @@ fn show_answer(rt: HostRuntime, l: Ledger, id: Identity) {
     let mut acf = [32u8; records::RECORD_SIZE];
     fields::put_part(&mut acf, 0, &out, 0, records::RECORD_SIZE);
     let _ = output::write_all(&mut rt.stdout(), &acf);
-    let Amounts::Posted { charge, .. } = a else {
+    let Ok(amounts) = a else {
         return;
     };
     let mut line = [10u8; 14];
-    fields::put_digits(&mut line, 0, 13, charge.0);
+    fields::put_digits(&mut line, 0, 13, amounts.charge.0);
     let _ = output::write_all(&mut rt.stdout(), &line);
 }
 

@@ -12,8 +12,6 @@ use lib.ListN.{length, get_or, drop}
 use lib.Seq.{drop-cons, drop-length, slice, slice-cons}
 use borrow.Author.Tests.{leb-true, leb-false, lt-ltb, le-ltb}
 use Rattle.fields.proofs.BoolLaws.{cases}
-use Rattle.rules.specs.declared.Found.{Found}
-use Rattle.rules.specs.declared.Found.TheVariants.{At, Nothing}
 use Rattle.rules.specs.Lists.{has, find}
 use Rattle.rules.proofs.ListLaws.{has-none, has_some, find_none, find_first, slice-end}
 use Rattle.units.specs.declared.Date.{Date}
@@ -22,6 +20,7 @@ use Rattle.ledger.specs.Bills.{blank_bill}
 use Rattle.lookups.specs.declared.DueFirst.{DueFirst}
 use Rattle.lookups.specs.Lookups.{is_open_of, due, is_due_before, is_earliest}
 use Rattle.lookups.specs.parts.Walk.{none_due, is_sooner, due_with, due_after, found_due}
+use Rattle.std.specs.Prelude.{Some, None}
 
 -- ---- one turn of a loop over the bills from i up to n, and its end
 module _ (account : ℕ) (today : Date) (n i : ℕ) (h : DueFirst) (bs : List Bill) where
@@ -159,10 +158,10 @@ module _ (account : ℕ) (today : Date) (bs : List Bill) where
         rw (t, n))
         (λ t. rw t)
 
-    pub leads-found : find (is_earliest account today bs) 0 bs ≡ At p
+    pub leads-found : find (is_earliest account today bs) 0 bs ≡ Some p
     leads-found =
         let m : 0 + p ≡ p = omega arith in
-        find_first (is_earliest account today bs) blank_bill 0 bs p l.below leads-earliest leads-first ∙ ap At m
+        find_first (is_earliest account today bs) blank_bill 0 bs p l.below leads-earliest leads-first ∙ ap Some m
 
   -- ---- what the walk found
   pub walk-found : found_due walk ≡ find (is_earliest account today bs) 0 bs
@@ -178,14 +177,14 @@ module _ (account : ℕ) (today : Date) (bs : List Bill) where
       (λ e. rw e (has-none (is_open_of account today) blank_bill bs (whole.none e)))
 
   -- the place that was found leads
-  pub found-leads : (p : ℕ) → find (is_earliest account today bs) 0 bs ≡ At p → Leads (length bs) p
+  pub found-leads : (p : ℕ) → find (is_earliest account today bs) 0 bs ≡ Some p → Leads (length bs) p
   found-leads p f =
       cases walk.held
       (λ e. let m : walk.place ≡ p = cc (leads-found walk.place (whole.some e).0) in subst (Leads (length bs)) m (whole.some e).0)
       (λ e. let z : ◌≡◌ {A = ℕ} 0 1 = cc (walk-found, e) in absurd (omega arith))
 
   -- where nothing was found there is no open bill of the account
-  pub none_found : find (is_earliest account today bs) 0 bs ≡ Nothing → has (is_open_of account today) bs ≡ false
+  pub none_found : find (is_earliest account today bs) 0 bs ≡ None → has (is_open_of account today) bs ≡ false
   none_found f =
       cases walk.held
       (λ e. let z : ◌≡◌ {A = ℕ} 0 1 = cc (walk-found, e) in absurd (omega arith))

@@ -7,18 +7,19 @@ use Rattle.fields.proofs.BoolLaws.{cases}
 use Rattle.ledger.specs.declared.Ledger.{Ledger}
 use Rattle.ledger.specs.Books.{live}
 use Rattle.ledger.specs.Sound.{sound_ledger}
-use Rattle.lookups.specs.declared.Place.TheVariants as place
 use Rattle.lookups.specs.Lookups.{open_causes, open_in}
 use Rattle.lookups.specs.parts.Walk.{none_due, due_after, place_due}
 use Rattle.lookups.proofs.EarliestLaws.{walk-found, walk-held}
+use Rattle.std.specs.Prelude.{Err}
+use Rattle.rules.specs.declared.Cause.TheVariants.{BadArgument}
 
 module _ (l : Ledger) (account : ℕ) where
-  pub open-unsound : sound_ledger l ≡ false → place.Refused 2 ≡ open_in l account
+  pub open-unsound : sound_ledger l ≡ false → Err BadArgument ≡ open_in l account
   unfolding open_in open_causes
   open-unsound e = rw e
 
   module _ (s : sound_ledger l ≡ true) where
-    pub open-wide : 1000000000000 ≤ account → place.Refused 2 ≡ open_in l account
+    pub open-wide : 1000000000000 ≤ account → Err BadArgument ≡ open_in l account
     unfolding open_in open_causes
     open-wide w = rw (s, le-ltb account 1000000000000 w)
 

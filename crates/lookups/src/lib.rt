@@ -9,25 +9,15 @@ ghost use Rattle.ledger.specs.Limits.{ledger_places};
 
 use causes::checks;
 use ledger::{Bill, Identity, Ledger, Posted};
-use rules::Found;
+use rules::Cause;
 use units::{Cents, Date};
 
-// The place of an open bill, or the number of the cause against it.
+// A bill's amounts.
 #[derive(Clone, Copy)]
-pub enum Place {
-    At(usize),
-    Refused(u64),
-}
-
-// A bill's amounts, or the number of the cause against them.
-#[derive(Clone, Copy)]
-pub enum Amounts {
-    Posted {
-        charge: Cents,
-        applied: Cents,
-        owed: Cents,
-    },
-    Refused(u64),
+pub struct Amounts {
+    pub charge: Cents,
+    pub applied: Cents,
+    pub owed: Cents,
 }
 
 pub fn is_open_of(b: Bill, account: u64, today: Date) -> bool
@@ -78,13 +68,13 @@ impl DueFirst {
     }
 
     // Its place, or 4 if there is none.
-    pub fn answer(self) -> Place
+    pub fn answer(self) -> Result<usize, Cause>
         ensures { result ≡ place_due self }
     {
         if self.held {
-            return Place::At(self.place);
+            return Ok(self.place);
         }
-        Place::Refused(4)
+        Err(Cause::NoSuchBill)
     }
 }
 
@@ -106,14 +96,14 @@ fn due_first(l: Ledger, account: u64) -> DueFirst
 }
 
 // The place of the open bill of an account that is due first; of equals it is the one first requested.
-pub fn open_bill_of(l: Ledger, account: u64) -> Place
+pub fn open_bill_of(l: Ledger, account: u64) -> Result<usize, Cause>
     ensures { result ≡ open_in l account }
 {
     if !sound_ledger::sound(l) {
-        return Place::Refused(2);
+        return Err(Cause::BadArgument);
     }
     if ledger::ACCOUNT_END <= account {
-        return Place::Refused(2);
+        return Err(Cause::BadArgument);
     }
     let first = due_first(l, account);
     first.answer()
@@ -123,7 +113,7 @@ pub fn open_bill_of(l: Ledger, account: u64) -> Place
 pub fn counted(p: Posted) -> Amounts
     ensures { result ≡ counted_by p }
 {
-    Amounts::Posted {
+    Amounts {
         charge: p.charge(),
         applied: p.applied(),
         owed: p.owed(),
@@ -131,20 +121,20 @@ pub fn counted(p: Posted) -> Amounts
 }
 
 // The amounts of the bill with this identity.
-pub fn amounts_of(l: Ledger, id: Identity) -> Amounts
+pub fn amounts_of(l: Ledger, id: Identity) -> Result<Amounts, Cause>
     ensures { result ≡ amounts_in l id }
 {
     if !sound_ledger::sound(l) {
-        return Amounts::Refused(2);
+        return Err(Cause::BadArgument);
     }
     if !checks::good_identity(id) {
-        return Amounts::Refused(2);
+        return Err(Cause::BadArgument);
     }
     let f = l.find(id);
-    let Found::At(p) = f else {
-        return Amounts::Refused(4);
+    let Some(p) = f else {
+        return Err(Cause::NoSuchBill);
     };
     let b = l.bills[p];
     let posted = b.posted;
-    counted(posted)
+    Ok(counted(posted))
 }

@@ -9,9 +9,9 @@ ghost use Rattle.lookups.specs.parts.Walk.{none_due, due_after};
 
 use causes::checks;
 use ledger::Identity;
-use lookups::{Amounts, DueFirst, Place};
+use lookups::{Amounts, DueFirst};
 use places::place;
-use rules::Found;
+use rules::Cause;
 use units::Date;
 
 // The open bill of an account that is due first, of the first n.
@@ -30,14 +30,14 @@ fn due_first(ws: &[u64], n: usize, account: u64, today: Date) -> DueFirst
 }
 
 // The place of the open bill of an account that is due first; of equals it is the one first requested.
-pub fn open_bill_in(ws: &[u64], account: u64) -> Place
+pub fn open_bill_in(ws: &[u64], account: u64) -> Result<usize, Cause>
     ensures { result ≡ open_in (ledger_of ws.now) account }
 {
     if !places::checks::sound(ws) {
-        return Place::Refused(2);
+        return Err(Cause::BadArgument);
     }
     if ledger::ACCOUNT_END <= account {
-        return Place::Refused(2);
+        return Err(Cause::BadArgument);
     }
     let h = place::header(ws);
     let n = h.count;
@@ -47,21 +47,21 @@ pub fn open_bill_in(ws: &[u64], account: u64) -> Place
 }
 
 // The amounts of the bill with this identity.
-pub fn amounts_in(ws: &[u64], id: Identity) -> Amounts
+pub fn amounts_in(ws: &[u64], id: Identity) -> Result<Amounts, Cause>
     ensures { result ≡ amounts_in (ledger_of ws.now) id }
 {
     if !places::checks::sound(ws) {
-        return Amounts::Refused(2);
+        return Err(Cause::BadArgument);
     }
     if !checks::good_identity(id) {
-        return Amounts::Refused(2);
+        return Err(Cause::BadArgument);
     }
     let h = place::header(ws);
     let f = place::find(ws, h.count, id);
-    let Found::At(p) = f else {
-        return Amounts::Refused(4);
+    let Some(p) = f else {
+        return Err(Cause::NoSuchBill);
     };
     let b = place::bill_at(ws, p);
     let posted = b.posted;
-    lookups::counted(posted)
+    Ok(lookups::counted(posted))
 }

@@ -3,7 +3,6 @@ use mathlib.Core.Path.{◌≡◌}
 use mathlib.Core.Bool.{true}
 use native.Mathlib.Omega.{arith}
 use Rattle.fields.specs.Field.{field_of}
-use Rattle.fields.specs.declared.Field.TheVariants.{Number}
 use Rattle.fields.proofs.DigitLaws.{field-digits}
 use Rattle.units.proofs.DateLaws.{date-fits}
 use Rattle.ledger.specs.Sound.{sound_terms}
@@ -12,16 +11,17 @@ use Rattle.notices.specs.declared.bil.Bil.{Bil}
 use Rattle.records.specs.Layout.{record_at, account_in, tracking_in, scheduled_in, key_in, billing_in, sequence_in, consumption_in, from_in}
 use Rattle.notices.specs.Notices.{bil}
 use Rattle.notices.proofs.PositionLaws.{bil-at}
+use Rattle.std.specs.Prelude.{Some}
 
 pub record BilReads (b : Bil) : Type 0 where
-  pub account : field_of (account_in (record_at (bil b) 0)) ≡ Number b.bill.terms.identity.account
-  pub tracking : field_of (tracking_in (record_at (bil b) 0)) ≡ Number b.bill.terms.latest.tracking
-  pub scheduled : field_of (scheduled_in (record_at (bil b) 0)) ≡ Number b.bill.terms.latest.scheduled.0
-  pub key : field_of (key_in (record_at (bil b) 1)) ≡ Number b.bill.terms.identity.key
-  pub billing : field_of (billing_in (record_at (bil b) 1)) ≡ Number b.bill.terms.latest.billing.0
-  pub sequence : field_of (sequence_in (record_at (bil b) 1)) ≡ Number b.bill.terms.sequence
-  pub consumption : field_of (consumption_in (record_at (bil b) 1)) ≡ Number b.bill.terms.latest.consumption.0
-  pub from : field_of (from_in (record_at (bil b) 1)) ≡ Number b.bill.terms.latest.from.0
+  pub account : field_of (account_in (record_at (bil b) 0)) ≡ Some b.bill.terms.identity.account
+  pub tracking : field_of (tracking_in (record_at (bil b) 0)) ≡ Some b.bill.terms.latest.tracking
+  pub scheduled : field_of (scheduled_in (record_at (bil b) 0)) ≡ Some b.bill.terms.latest.scheduled.0
+  pub key : field_of (key_in (record_at (bil b) 1)) ≡ Some b.bill.terms.identity.key
+  pub billing : field_of (billing_in (record_at (bil b) 1)) ≡ Some b.bill.terms.latest.billing.0
+  pub sequence : field_of (sequence_in (record_at (bil b) 1)) ≡ Some b.bill.terms.sequence
+  pub consumption : field_of (consumption_in (record_at (bil b) 1)) ≡ Some b.bill.terms.latest.consumption.0
+  pub from : field_of (from_in (record_at (bil b) 1)) ≡ Some b.bill.terms.latest.from.0
 
 pub bil-reads : (b : Bil) → sound_terms b.bill.terms ≡ true → BilReads b
 bil-reads b sound =

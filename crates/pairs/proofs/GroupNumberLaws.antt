@@ -17,12 +17,15 @@ use Rattle.fields.proofs.PutLaws.{length_part}
 use Rattle.fields.proofs.HoldLaws.{value-number, same_number}
 use Rattle.records.specs.Layout.{record_at, account_in, key_in, notice_in, is_rsp, is_sup}
 use Rattle.records.proofs.LayoutLaws.{long-record}
-use Rattle.file.specs.declared.Form.TheVariants.{Response, Supplement}
 use Rattle.file.specs.File.{is_header, Group, detail_of, line1, line2, form_of, passes, alike}
 use Rattle.file.specs.parts.Walk.{group_at}
 use Rattle.file.proofs.FileLaws.{header_is, only-detail}
 use Rattle.file.proofs.FormLaws.{one-detail, one-within, one-fit, fit-numeric}
 use Rattle.pairs.specs.parts.GroupNumbers.{code_number, named_by, group_number, number_at}
+use Rattle.records.specs.declared.Notification.{Notification}
+use Rattle.records.specs.declared.Notification.TheVariants.{Response, Supplement}
+use Rattle.rules.specs.declared.ErrorCode.{ErrorCode}
+use Rattle.std.specs.Prelude.{Result, Ok, Err}
 
 -- ---- three numbers as one
 abbrev whole : ℕ → ℕ → ℕ → ℕ
@@ -76,7 +79,7 @@ module _ (g : Group) (h : passes g ≡ true) where
   unfolding form_of
   code_is = rw (lines.0, lines.1) (go (is_rsp g.header))
     where
-      go : (r : Bool) → code_number (cond r Response Supplement) ≡ code_of r
+      go : (r : Bool) → code_number (cond r (Ok Response) (Ok Supplement)) ≡ code_of r
       go true = refl
       go false = refl
 

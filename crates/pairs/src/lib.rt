@@ -6,18 +6,17 @@ ghost use Rattle.records.specs.Limits.{record_size, file_records};
 ghost use Rattle.file.specs.parts.Walk.{group_at, mark_at};
 ghost use Rattle.pairs.specs.parts.GroupNumbers.{code_number, named_by, group_number, number_at, number_slot};
 
-use file::Form;
-use records::{FILE_RECORDS, RECORD_SIZE};
+use records::{FILE_RECORDS, Notification, RECORD_SIZE};
+use rules::ErrorCode;
 
 // A form's Notification Code as a number, 0 for none.
-fn code_number(form: Form) -> u64
+fn code_number(form: Result<Notification, ErrorCode>) -> u64
     ensures { (result ≡ code_number form) × (result ≤ 2) }
 {
     match form {
-        Form::Broken => 0,
-        Form::Unknown => 0,
-        Form::Response => 1,
-        Form::Supplement => 2,
+        Err(_) => 0,
+        Ok(Notification::Response) => 1,
+        Ok(Notification::Supplement) => 2,
     }
 }
 
@@ -26,8 +25,8 @@ fn named(h: &[u8], d: &[u8], code: u64) -> u64
     requires { (19 ≤ length h.now) × (45 ≤ length d.now) × (code ≤ 2) }
     ensures { result ≡ named_by h.now d.now code }
 {
-    let account = records::account(h).value();
-    let key = records::key(d).value();
+    let account = records::account(h).unwrap_or(0);
+    let key = records::key(d).unwrap_or(0);
     code * 10000000000000000 + (account * 10000 + key)
 }
 

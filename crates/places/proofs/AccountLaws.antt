@@ -5,16 +5,16 @@ use mathlib.Core.Bool.{true, false}
 use lib.Seq.{set-get_or}
 use Rattle.fields.proofs.BoolLaws.{cases}
 use Rattle.units.specs.declared.Date.{Date}
-use Rattle.ledger.specs.declared.Removal.TheVariants.{On}
 use Rattle.ledger.specs.declared.Bill.{Bill}
 use Rattle.ledger.specs.declared.Ledger.{Ledger}
 use Rattle.ledger.specs.Bills.{blank_bill}
 use Rattle.ledger.specs.Books.{with_bills, of_account, removed_of}
 use Rattle.ledger.specs.parts.Places.{bill_at, header_of, replaced}
 use Rattle.words.specs.Layout.{removal_said}
+use Rattle.std.specs.Prelude.{Some}
 
 module _ (account : ℕ) (date : Date) where
-  pub said-removed : (b : Bill) → removal_said (On date) ≡ true → removal_said b.terms.removal ≡ true
+  pub said-removed : (b : Bill) → removal_said (Some date) ≡ true → removal_said b.terms.removal ≡ true
       → removal_said (removed_of account date b).terms.removal ≡ true
   said-removed b h k = cases (of_account account b) (λ e. rw e h) (λ e. rw e k)
 

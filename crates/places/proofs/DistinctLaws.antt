@@ -12,13 +12,13 @@ use borrow.Author.Tests.{eqb-true, eqb-false, eq-eqb, ne_eqb}
 use Rattle.fields.proofs.BoolLaws.{and_left, and_right, cases}
 use Rattle.ledger.specs.declared.Identity.{Identity}
 use Rattle.ledger.specs.declared.Bill.{Bill}
-use Rattle.rules.specs.declared.Found.TheVariants.{At, Nothing}
 use Rattle.rules.specs.Lists.{every, has, find}
 use Rattle.ledger.specs.Bills.{blank_bill}
 use Rattle.ledger.specs.Books.{of_id}
 use Rattle.ledger.specs.Sound.{holds_id, distinct}
 use Rattle.rules.proofs.ListLaws.{every_append}
 use Rattle.places.specs.parts.Slots.{slots, identity_slot}
+use Rattle.std.specs.Prelude.{Some, None}
 
 -- ---- lists
 module _ {A : Type 0} (p : A → Bool) where
@@ -32,11 +32,11 @@ module _ {A : Type 0} (p : A → Bool) where
   has-none (x ∷ xs) (suc i) d f = rw (f 0 (omega arith)) (has-none xs i d (λ k h. f (suc k) (omega arith)))
 
   -- a search says whether some element passes
-  pub found-has : (n i : ℕ) (xs : List A) → find p n xs ≡ At i → has p xs ≡ true
+  pub found-has : (n i : ℕ) (xs : List A) → find p n xs ≡ Some i → has p xs ≡ true
   found-has n i [] e = let z : ◌≡◌ {A = ℕ} 0 1 = cc in absurd (omega arith)
   found-has n i (x ∷ xs) e = cases (p x) (λ f. rw f) (λ f. rw f (found-has (suc n) i xs (rw f at e)))
 
-  pub not_found : (n : ℕ) (xs : List A) → find p n xs ≡ Nothing → has p xs ≡ false
+  pub not_found : (n : ℕ) (xs : List A) → find p n xs ≡ None → has p xs ≡ false
   not_found n [] e = refl
   not_found n (x ∷ xs) e =
       cases (p x) (λ f. let g = rw f at e in let z : ◌≡◌ {A = ℕ} 0 1 = cc in absurd (omega arith)) (λ f. rw f (not_found (suc n) xs (rw f at e)))

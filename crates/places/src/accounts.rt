@@ -1,7 +1,6 @@
 // The bills of an account, on a ledger that is lent as words: whether there is one, and their removal date set.
-ghost use Rattle.std.specs.Prelude.{◌≡◌, true, ◌≤◌, ◌<◌, take};
+ghost use Rattle.std.specs.Prelude.{◌≡◌, true, ◌≤◌, ◌<◌, take, Some};
 ghost use Rattle.rules.specs.Lists.{has};
-ghost use Rattle.ledger.specs.declared.Removal.TheVariants.{On};
 ghost use Rattle.ledger.specs.Books.{of_account, removed_of};
 ghost use Rattle.ledger.specs.parts.Places.{bill_at, replaced, removed_first};
 ghost use Rattle.ledger.specs.Limits.{ledger_places};
@@ -30,7 +29,7 @@ pub fn has_account(ws: &[u64], n: usize, account: u64) -> bool
 
 // Sets the removal date of the bill at place p, if it is of the account.
 fn remove_at(ws: &mut [u64], p: usize, account: u64, date: Date)
-    requires { (holds_ledger ws.old ≡ true) × (p < ledger_places) × (removal_said (On date) ≡ true) }
+    requires { (holds_ledger ws.old ≡ true) × (p < ledger_places) × (removal_said (Some date) ≡ true) }
     ensures { (holds_ledger ws.new ≡ true) × (ledger_of ws.new ≡ replaced (ledger_of ws.old) p (removed_of account date (bill_at (ledger_of ws.old) p))) }
 {
     let at = HEADER_SIZE + PLACE_SIZE * p;
@@ -43,7 +42,7 @@ fn remove_at(ws: &mut [u64], p: usize, account: u64, date: Date)
 
 // Sets the removal date of those of the first n bills that are of the account.
 pub fn remove(ws: &mut [u64], n: usize, account: u64, date: Date)
-    requires { (holds_ledger ws.old ≡ true) × (n ≤ ledger_places) × (removal_said (On date) ≡ true) }
+    requires { (holds_ledger ws.old ≡ true) × (n ≤ ledger_places) × (removal_said (Some date) ≡ true) }
     ensures { (holds_ledger ws.new ≡ true) × (ledger_of ws.new ≡ removed_first n account date (ledger_of ws.old)) }
 {
     let mut i = 0;

@@ -10,7 +10,6 @@ ghost use Rattle.places.specs.parts.Slots.{slots, identity_slot};
 
 use crate::place;
 use ledger::{Identity, LedgerHeader, PLACES};
-use rules::Found;
 use words::{HEADER_SIZE, PLACE_SIZE};
 
 // How many slots there are, and by what a step of the account moves the slot: 10000, which is 329 past a multiple of the slots.
@@ -70,8 +69,8 @@ fn stands(ws: &[u64], n: usize, id: Identity) -> bool
 {
     let f = place::find(ws, n, id);
     match f {
-        Found::At(_) => true,
-        Found::Nothing => false,
+        Some(_) => true,
+        None => false,
     }
 }
 

@@ -7,7 +7,6 @@ ghost use Rattle.words.specs.Layout.{holds_ledger, ledger_of, removal_said};
 ghost use Rattle.ledger.specs.Limits.{ledger_places};
 
 use ledger::{Bill, Identity, LedgerHeader, Update, books};
-use rules::Found;
 use units::{Cents, Date};
 use words::{HEADER_SIZE, PLACE_SIZE};
 
@@ -52,7 +51,7 @@ pub fn put_bill(ws: &mut [u64], p: usize, b: Bill)
 }
 
 // The place of an identity among the first n.
-pub fn find(ws: &[u64], n: usize, id: Identity) -> Found
+pub fn find(ws: &[u64], n: usize, id: Identity) -> Option<usize>
     requires { (holds_ledger ws.now ≡ true) × (n ≤ ledger_places) }
     ensures { result ≡ find (of_id id) 0 (take n (ledger_of ws.now).bills) }
 {
@@ -63,11 +62,11 @@ pub fn find(ws: &[u64], n: usize, id: Identity) -> Found
         let at = HEADER_SIZE + PLACE_SIZE * i;
         let same = (ws[at] == account) & (ws[at + 1] == key);
         if same {
-            return Found::At(i);
+            return Some(i);
         }
         i += 1;
     }
-    Found::Nothing
+    None
 }
 
 // The sum of the posted charges of the first n bills.

@@ -11,7 +11,6 @@ ghost use Rattle.fields.specs.Field.{field_of};
 ghost use Rattle.records.specs.Layout.{company_in, rate_code_in, account_in, tracking_in, type_in, notice_in, record_count_in, balance_in, key_in, sequence_in, consumption_in, detail_charge_in, from_in, tier_rate_in, applied_in, owed_in};
 ghost use Rattle.records.specs.Tiers.{four_fields, tier_consumptions, tier_charges};
 
-use fields::Field;
 
 // How many bytes a record has, and a notice of two records; how many records a file has at most, and how many bytes.
 pub const RECORD_SIZE: usize = 321;
@@ -22,11 +21,15 @@ pub const FILE_RECORDS: usize = 200;
 
 pub const FILE_SIZE: usize = 64200;
 
-// A field of the four tiers: its four numbers, where each holds digits only.
+// A field's number in each of the four tiers.
 #[derive(Clone, Copy)]
-pub enum Tiers {
-    Numbers(u64, u64, u64, u64),
-    NotNumeric,
+pub struct Tiers(pub u64, pub u64, pub u64, pub u64);
+
+// The Notification Code of a supplier's group: RSP or SUP.
+#[derive(Clone, Copy, Debug, PartialEq, Eq)]
+pub enum Notification {
+    Response,
+    Supplement,
 }
 
 // Whether the field of `width` bytes from index `at` on holds `text`.
@@ -58,7 +61,7 @@ pub fn has_rate_code(r: &[u8], code: &[u8]) -> bool
 }
 
 // The account.
-pub fn account(r: &[u8]) -> Field
+pub fn account(r: &[u8]) -> Option<u64>
     requires { 19 ≤ length r.now }
     ensures { result ≡ field_of (account_in r.now) }
 {
@@ -102,7 +105,7 @@ pub fn has_record_count_01(h: &[u8]) -> bool
 }
 
 // The Prepaid Balance.
-pub fn balance(h: &[u8]) -> Field
+pub fn balance(h: &[u8]) -> Option<u64>
     requires { 73 ≤ length h.now }
     ensures { result ≡ field_of (balance_in h.now) }
 {
@@ -112,7 +115,7 @@ pub fn balance(h: &[u8]) -> Field
 // ---- detail
 
 // The Bill Key.
-pub fn key(d: &[u8]) -> Field
+pub fn key(d: &[u8]) -> Option<u64>
     requires { 45 ≤ length d.now }
     ensures { result ≡ field_of (key_in d.now) }
 {
@@ -128,7 +131,7 @@ pub fn has_sequence(d: &[u8], n: u64) -> bool
 }
 
 // The consumption.
-pub fn consumption(d: &[u8]) -> Field
+pub fn consumption(d: &[u8]) -> Option<u64>
     requires { 66 ≤ length d.now }
     ensures { result ≡ field_of (consumption_in d.now) }
 {
@@ -136,7 +139,7 @@ pub fn consumption(d: &[u8]) -> Field
 }
 
 // The charge.
-pub fn charge(d: &[u8]) -> Field
+pub fn charge(d: &[u8]) -> Option<u64>
     requires { 79 ≤ length d.now }
     ensures { result ≡ field_of (detail_charge_in d.now) }
 {
@@ -153,7 +156,7 @@ pub fn has_from_date(d: &[u8], date: &[u8]) -> bool
 }
 
 // The rate of tier 1.
-pub fn tier_1_rate(d: &[u8]) -> Field
+pub fn tier_1_rate(d: &[u8]) -> Option<u64>
     requires { 94 ≤ length d.now }
     ensures { result ≡ field_of (tier_rate_in d.now 88) }
 {
@@ -164,28 +167,28 @@ pub fn tier_1_rate(d: &[u8]) -> Field
     )
 }
 
-// The numbers of a tier's field in each of the four tiers: offset is where it stands in a tier.
-fn read_tiers(d: &[u8], offset: usize, width: usize) -> Tiers
+// The numbers of a tier's field in each of the four tiers, where each holds digits only: offset is where it stands in a tier.
+fn read_tiers(d: &[u8], offset: usize, width: usize) -> Option<Tiers>
     requires { (177 + offset + width ≤ length d.now) × (width ≤ 19) }
     ensures { result ≡ four_fields (field_of (part d.now (87 + offset) width)) (field_of (part d.now (117 + offset) width)) (field_of (part d.now (147 + offset) width)) (field_of (part d.now (177 + offset) width)) }
 {
-    let Field::Number(a) = fields::read_field(d, layout::TIER_1 + offset, width) else {
-        return Tiers::NotNumeric;
+    let Some(a) = fields::read_field(d, layout::TIER_1 + offset, width) else {
+        return None;
     };
-    let Field::Number(b) = fields::read_field(d, layout::TIER_2 + offset, width) else {
-        return Tiers::NotNumeric;
+    let Some(b) = fields::read_field(d, layout::TIER_2 + offset, width) else {
+        return None;
     };
-    let Field::Number(c) = fields::read_field(d, layout::TIER_3 + offset, width) else {
-        return Tiers::NotNumeric;
+    let Some(c) = fields::read_field(d, layout::TIER_3 + offset, width) else {
+        return None;
     };
-    let Field::Number(e) = fields::read_field(d, layout::TIER_4 + offset, width) else {
-        return Tiers::NotNumeric;
+    let Some(e) = fields::read_field(d, layout::TIER_4 + offset, width) else {
+        return None;
     };
-    Tiers::Numbers(a, b, c, e)
+    Some(Tiers(a, b, c, e))
 }
 
 // The consumptions of the four tiers.
-pub fn tier_consumptions(d: &[u8]) -> Tiers
+pub fn tier_consumptions(d: &[u8]) -> Option<Tiers>
     requires { 194 ≤ length d.now }
     ensures { result ≡ tier_consumptions d.now }
 {
@@ -193,7 +196,7 @@ pub fn tier_consumptions(d: &[u8]) -> Tiers
 }
 
 // The charges of the four tiers.
-pub fn tier_charges(d: &[u8]) -> Tiers
+pub fn tier_charges(d: &[u8]) -> Option<Tiers>
     requires { 207 ≤ length d.now }
     ensures { result ≡ tier_charges d.now }
 {
@@ -201,7 +204,7 @@ pub fn tier_charges(d: &[u8]) -> Tiers
 }
 
 // The amount applied.
-pub fn applied(d: &[u8]) -> Field
+pub fn applied(d: &[u8]) -> Option<u64>
     requires { 246 ≤ length d.now }
     ensures { result ≡ field_of (applied_in d.now) }
 {
@@ -209,7 +212,7 @@ pub fn applied(d: &[u8]) -> Field
 }
 
 // The amount owed.
-pub fn owed(d: &[u8]) -> Field
+pub fn owed(d: &[u8]) -> Option<u64>
     requires { 259 ≤ length d.now }
     ensures { result ≡ field_of (owed_in d.now) }
 {

@@ -18,13 +18,14 @@ use Rattle.journal.specs.EntryCalls.{notices_of, brn_of}
 use Rattle.entries.specs.declared.run.Ran.{Ran}
 use Rattle.entries.specs.parts.Running.{RanIn}
 use Rattle.entries.proofs.RanLaws.{ran-split, ran-within, all-notices, all-stopped, all_rest, all-count, journal-notices, journal-written, journal-bad}
-use Rattle.report.specs.declared.Report.TheVariants.{Written, TooSmall}
 use Rattle.report.specs.declared.brn_file.Fit.{Fit}
 use Rattle.report.specs.declared.brn_file.Fit.TheVariants.{Fits, Short}
 use Rattle.report.specs.NoticesOf.{notices_report, notices_written, ReportsNotices}
 use Rattle.report.specs.parts.Fits.{fit_of}
 use Rattle.room.specs.Room.{most_in}
 use Rattle.room.proofs.RoomLaws.{brn-within}
+use Rattle.std.specs.Prelude.{Ok, Err}
+use Rattle.rules.specs.declared.Cause.TheVariants.{OutputTooSmall}
 
 -- ---- whether they have room
 module _ (s : List ℕ) (room : ℕ) where
@@ -56,14 +57,14 @@ module _ (s : List ℕ) (room : ℕ) where
 
 -- ---- the answer
 pub too_small : (s out : List ℕ) (f : Fit) (bad : Bool) → f ≡ fit_of (length out) s → f ≡ Short bad
-    → ReportsNotices s out out (record { report = TooSmall; stopped = bad })
+    → ReportsNotices s out out (record { report = Err OutputTooSmall; stopped = bad })
 unfolding fit_of notices_report notices_written
 too_small s out f bad e h =
     let x = short-by s (length out) (ltb (length out) (length (brn_of s))) (is_bad s) bad (sym h ∙ e) in
     record { answer = rw x.0; stopped = x.1; bytes = rw x.0 (put-nil out 0) }
 
 given : (s out₀ out : List ℕ) (n : ℕ) (bad : Bool) → n ≡ length (brn_of s) → bad ≡ is_bad s → length (brn_of s) ≤ length out₀ → out ≡ put out₀ 0 (brn_of s)
-    → ReportsNotices s out₀ out (record { report = Written n; stopped = bad })
+    → ReportsNotices s out₀ out (record { report = Ok n; stopped = bad })
 unfolding notices_report notices_written
 given s out₀ out n bad all ends h o =
     let e : ltb (length out₀) (length (brn_of s)) ≡ false = le-ltb (length out₀) (length (brn_of s)) h in
@@ -77,14 +78,14 @@ pub record LastRun (s out₀ out last : List ℕ) (r q : Ran) : Type 0 where
   pub used : q.used ≤ length s - r.used
   pub given : (now : List ℕ) (bad : Bool) → now ≡ put out r.written (take q.written last)
       → bad ≡ ends_bad q.stopped (length s - r.used - q.used) q.seen
-      → ReportsNotices s out₀ now (record { report = Written (r.written + q.written); stopped = bad })
+      → ReportsNotices s out₀ now (record { report = Ok (r.written + q.written); stopped = bad })
 
 -- ---- one run into the output
 module _ (s ws₀ out₀ ws out : List ℕ) (r : Ran) (w : RanIn 0 true s ws₀ out₀ ws out r) (z : book (layout.ledger_of ws₀) ≡ first_book)
     (fits : length (brn_of s) ≤ length out₀) where
   -- a run that was not held up wrote them all
   pub all-given : r.full ≡ false → (bad : Bool) → bad ≡ ends_bad r.stopped (length s - r.used) r.seen
-      → ReportsNotices s out₀ out (record { report = Written r.written; stopped = bad })
+      → ReportsNotices s out₀ out (record { report = Ok r.written; stopped = bad })
   all-given e bad b =
       given s out₀ out r.written bad (journal-written true s ws₀ out₀ ws out r w z e) (b ∙ journal-bad true s ws₀ out₀ ws out r w z e) fits
       (w.bytes ∙ ap (put out₀ 0) (journal-notices true s ws₀ out₀ ws out r w z e))

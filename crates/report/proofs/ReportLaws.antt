@@ -13,8 +13,9 @@ use Rattle.table.specs.Table.{table_of}
 use Rattle.history.proofs.ClaimProof.{claim}
 use Rattle.journal.specs.Journal.{Entry, parse, after_entries, first_book, ends_bad, journal_ledger, is_bad, calls_of}
 use Rattle.journal.proofs.BeginLaws.{Begins, nothing, begins, journal-begins}
-use Rattle.report.specs.declared.Report.TheVariants.{Written, TooSmall}
 use Rattle.report.specs.Report.{posted_of, Claimed, empty, holds, report_of, reported, Reports}
+use Rattle.std.specs.Prelude.{Ok, Err}
+use Rattle.rules.specs.declared.Cause.TheVariants.{OutputTooSmall}
 
 -- ---- the claim
 bad-by : (a b c : Bool) → c ≡ true → (a || b || c) ≡ true
@@ -44,14 +45,14 @@ unfolding posted_of
 table_is s k bad e f = rw (e, f)
 
 module _ (s out₀ : List ℕ) (bad : Bool) (b : bad ≡ is_bad s) where
-  pub refused : length out₀ < 10970 → Reports s out₀ out₀ (record { report = TooSmall; stopped = bad })
+  pub refused : length out₀ < 10970 → Reports s out₀ out₀ (record { report = Err OutputTooSmall; stopped = bad })
   unfolding report_of reported
   refused h =
       let e = lt-ltb (length out₀) 10970 h in
       record { answer = rw e; stopped = b; bytes = rw e (put-nil out₀ 0); within = tt; claimed = claimed s }
 
   pub posted : (t out : List ℕ) (n : ℕ) → 10970 ≤ length out₀ → t ≡ posted_of s → n ≡ length t → out ≡ put out₀ 0 t → n ≤ 10970
-      → Reports s out₀ out (record { report = Written n; stopped = bad })
+      → Reports s out₀ out (record { report = Ok n; stopped = bad })
   unfolding report_of reported
   posted t out n h p q u w =
       let e = le-ltb (length out₀) 10970 h in

@@ -4,8 +4,9 @@ ghost use Rattle.journal.specs.EntryCalls.{brn_of};
 ghost use Rattle.report.specs.NoticesOf.{ReportsNotices};
 ghost use Rattle.report.specs.parts.Fits.{fit_of};
 
-use crate::{Report, Reported};
+use crate::Reported;
 use entries::run;
+use rules::Cause;
 
 // Twice what one entry may write: room for the last notices of a journal.
 const LAST_ROOM: usize = 2 * records::FILE_SIZE;
@@ -47,7 +48,7 @@ fn write_notices(src: &[u8], out: &mut [u8]) -> Reported
     let full = r.full;
     if !full {
         return Reported {
-            report: Report::Written(r.written),
+            report: Ok(r.written),
             stopped: journal::ends_bad(r.stopped, left, r.seen),
         };
     }
@@ -57,7 +58,7 @@ fn write_notices(src: &[u8], out: &mut [u8]) -> Reported
     let size = q.written;
     fields::put_bytes(out, r.written, &last[..size]);
     Reported {
-        report: Report::Written(r.written + size),
+        report: Ok(r.written + size),
         stopped: journal::ends_bad(q.stopped, left - q.used, q.seen),
     }
 }
@@ -69,7 +70,7 @@ pub fn post_notices(src: &[u8], out: &mut [u8]) -> Reported
     let f = fit_in(src, out.len());
     match f {
         Fit::Short(stopped) => Reported {
-            report: Report::TooSmall,
+            report: Err(Cause::OutputTooSmall),
             stopped,
         },
         Fit::Fits => write_notices(src, out),

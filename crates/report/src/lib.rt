@@ -7,18 +7,13 @@ ghost use Rattle.std.specs.Prelude.{◌≡◌, length};
 ghost use Rattle.report.specs.Report.{Reports};
 
 use entries::run;
+use rules::Cause;
 
-// So many bytes were written; or the output lent is too small: for a table one under 10,970 bytes, which the longest table has.
-#[derive(Clone, Copy)]
-pub enum Report {
-    Written(usize),
-    TooSmall,
-}
-
-// What came of writing a journal's table or its notices, and whether the journal ended bad (the table's `stopped,13`).
+// What came of writing a journal's table or its notices: how many bytes were written, or that the output lent is too small, for a table one under
+// 10,970 bytes, which the longest table has; and whether the journal ended bad (the table's `stopped,13`).
 #[derive(Clone, Copy)]
 pub struct Reported {
-    pub report: Report,
+    pub report: Result<usize, Cause>,
     pub stopped: bool,
 }
 
@@ -33,13 +28,13 @@ pub fn post_table(src: &[u8], out: &mut [u8]) -> Reported
     let stopped = journal::ends_bad(r.stopped, src.len() - r.used, r.seen);
     if out.len() < table::TABLE_ROOM {
         return Reported {
-            report: Report::TooSmall,
+            report: Err(Cause::OutputTooSmall),
             stopped,
         };
     }
     let n = table_in_words::write_words(out, &ws, stopped);
     Reported {
-        report: Report::Written(n),
+        report: Ok(n),
         stopped,
     }
 }

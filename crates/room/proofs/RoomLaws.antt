@@ -19,8 +19,6 @@ use Rattle.notices.specs.Notices.{bil, cxl}
 use Rattle.causes.specs.declared.Request.{Request}
 use Rattle.causes.specs.declared.AccountRemoval.{AccountRemoval}
 use Rattle.notices.proofs.NoticeLengths.{length-bil, length-cxl}
-use Rattle.rules.specs.declared.Check.{Check}
-use Rattle.rules.specs.declared.Check.TheVariants.{Clear, Stop}
 use Rattle.causes.specs.Causes.{Call, request, file, cancel, close, removal}
 use Rattle.calls.specs.Machine.{cause, next_written, outcome, step, outcomes}
 use Rattle.calls.proofs.FileCallLaws.{file-within}
@@ -35,6 +33,8 @@ use Rattle.journal.specs.Journal.{call_of, after_entry, on_head, parse_up_to, pa
 use Rattle.journal.specs.EntryCalls.{written_by, notices_of, brn_of}
 use Rattle.journal.proofs.HeadLaws.{tag_in, length_in, whole_is, whole-holds, whole-bytes}
 use Rattle.room.specs.Room.{most_of, most_on, most_up_to, most_in}
+use Rattle.std.specs.Prelude.{Result, Ok, Err, ⊤}
+use Rattle.rules.specs.declared.Cause.{Cause}
 
 -- ---- what one entry writes
 bil-long : (b : Bil) → length (bil b) ≤ 642
@@ -48,9 +48,9 @@ module _ (k : Book) where
   unfolding outcomes step outcome
   call-most c n h = go (cause k c)
     where
-      go : (v : Check) → length ((outcome k c v).written ++ []) ≤ n
-      go Clear = omega (arith, length-append (next_written k c) [])
-      go (Stop i) = omega arith
+      go : (v : Result ⊤ Cause) → length ((outcome k c v).written ++ []) ≤ n
+      go (Ok tt) = omega (arith, length-append (next_written k c) [])
+      go (Err i) = omega arith
 
   module _ (bytes : List ℕ) where
     -- a body that writes n bytes at most

@@ -5,11 +5,11 @@ use mathlib.Core.Bool.{Bool, true, false}
 use native.Mathlib.Omega.{arith}
 use native.Mathlib.Decide.{dec_le}
 use Rattle.fields.proofs.BoolLaws.{cases}
-use Rattle.rules.specs.declared.Found.TheVariants.{At, Nothing}
 use Rattle.rules.specs.Least.{least, least_up_to}
+use Rattle.std.specs.Prelude.{Some, None}
 
 module _ (p : ℕ → Bool) where
-  least-hit : (k n : ℕ) → p k ≡ true → least p k (suc n) ≡ At k
+  least-hit : (k n : ℕ) → p k ≡ true → least p k (suc n) ≡ Some k
   unfolding least
   least-hit k n h = rw (h, least)
 
@@ -26,7 +26,7 @@ module _ (p : ℕ → Bool) where
       let g = least_skip m (suc k) n (λ j a b. h j (omega arith) (omega arith)) in
       rw f (least-miss k (m + n) (h k (omega arith) (omega arith)) ∙ g ∙ ap (λ (j : ℕ). least p j n) (sym e))
 
-  least-found : (n k d : ℕ) → least p k n ≡ At d → (p d ≡ true) × (k ≤ d) × (d < k + n)
+  least-found : (n k d : ℕ) → least p k n ≡ Some d → (p d ≡ true) × (k ≤ d) × (d < k + n)
   unfolding least
   least-found zero k d e = let z : ◌≡◌ {A = ℕ} 0 1 = cc in absurd (omega arith)
   least-found (suc n) k d e =
@@ -37,7 +37,7 @@ module _ (p : ℕ → Bool) where
       (f.0, omega arith, omega arith))
 
   -- what stands before the number found does not pass
-  least-before : (n k d : ℕ) → least p k n ≡ At d → (e : ℕ) → k ≤ e → e < d → p e ≡ false
+  least-before : (n k d : ℕ) → least p k n ≡ Some d → (e : ℕ) → k ≤ e → e < d → p e ≡ false
   unfolding least
   least-before zero k d f e h l = let z : ◌≡◌ {A = ℕ} 0 1 = cc in absurd (omega arith)
   least-before (suc n) k d f e h l =
@@ -49,7 +49,7 @@ module _ (p : ℕ → Bool) where
         | no g ↦ least-before n (suc k) d (sym (least-miss k n t) ∙ f) e (omega arith) l
       ])
 
-  least-nothing : (n k : ℕ) → least p k n ≡ Nothing → (e : ℕ) → k ≤ e → e < k + n → p e ≡ false
+  least-nothing : (n k : ℕ) → least p k n ≡ None → (e : ℕ) → k ≤ e → e < k + n → p e ≡ false
   unfolding least
   least-nothing zero k f e h l = absurd (omega arith)
   least-nothing (suc n) k f e h l =
@@ -62,11 +62,11 @@ module _ (p : ℕ → Bool) where
       ])
 
   -- the first passes; there is none; those before b do not pass
-  pub up-to-hit : (a b : ℕ) → a ≤ b → p a ≡ true → least_up_to p a b ≡ At a
+  pub up-to-hit : (a b : ℕ) → a ≤ b → p a ≡ true → least_up_to p a b ≡ Some a
   unfolding least_up_to
   up-to-hit a b h t = let e : suc b - a ≡ suc (b - a) = omega arith in rw e (least-hit a (b - a) t)
 
-  pub up-to-none : (a b : ℕ) → b < a → least_up_to p a b ≡ Nothing
+  pub up-to-none : (a b : ℕ) → b < a → least_up_to p a b ≡ None
   unfolding least_up_to least
   up-to-none a b h = let e : suc b - a ≡ 0 = omega arith in rw e
 
@@ -78,16 +78,16 @@ module _ (p : ℕ → Bool) where
       rw s (least_skip (b - a) a (suc top - b) (λ e i j. f e i (omega arith)) ∙ ap (λ (j : ℕ). least p j (suc top - b)) t)
 
   -- what is found passes, and stands between a and b; what stands before it does not pass
-  pub up-to-found : (a b d : ℕ) → least_up_to p a b ≡ At d → (p d ≡ true) × (a ≤ d) × (d ≤ b)
+  pub up-to-found : (a b d : ℕ) → least_up_to p a b ≡ Some d → (p d ≡ true) × (a ≤ d) × (d ≤ b)
   unfolding least_up_to
   up-to-found a b d e = let f = least-found (suc b - a) a d e in (f.0, f.1, omega arith)
 
-  pub up-to-before : (a b d : ℕ) → least_up_to p a b ≡ At d → (e : ℕ) → a ≤ e → e < d → p e ≡ false
+  pub up-to-before : (a b d : ℕ) → least_up_to p a b ≡ Some d → (e : ℕ) → a ≤ e → e < d → p e ≡ false
   unfolding least_up_to
   up-to-before a b d f = least-before (suc b - a) a d f
 
   -- where nothing is found none passes
-  pub up-to-nothing : (a b : ℕ) → least_up_to p a b ≡ Nothing → (e : ℕ) → a ≤ e → e ≤ b → p e ≡ false
+  pub up-to-nothing : (a b : ℕ) → least_up_to p a b ≡ None → (e : ℕ) → a ≤ e → e ≤ b → p e ≡ false
   unfolding least_up_to
   up-to-nothing a b f e h l = least-nothing (suc b - a) a f e h (omega arith)
 

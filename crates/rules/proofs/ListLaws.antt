@@ -9,9 +9,8 @@ use native.Mathlib.Numerals.{add-one}
 use lib.ListN.{length, get_or, set, take, drop, take-append-drop}
 use lib.Seq.{slice, slice-cons, slice_empty, take-suc}
 use Rattle.fields.proofs.BoolLaws.{cases, and_left, and_right}
-use Rattle.rules.specs.declared.Found.{Found}
-use Rattle.rules.specs.declared.Found.TheVariants.{At, Nothing}
 use Rattle.rules.specs.Lists.{all, every, has, sum, find}
+use Rattle.std.specs.Prelude.{Option, Some, None}
 
 -- tests that all pass, one by one
 abbrev pub On : List Bool → Type 0
@@ -73,13 +72,13 @@ module _ {A : Type 0} where
   sum-set f (x ∷ xs) zero y d h = omega arith
   sum-set f (x ∷ xs) (suc i) y d h = let k : i < length xs = omega arith in omega (arith, sum-set f xs i y d k)
 
-below_by : (t : Bool) (n m i : ℕ) (r : Found) → (r ≡ At i → i < suc n + m) → cond t (At n) r ≡ At i → i < n + suc m
+below_by : (t : Bool) (n m i : ℕ) (r : Option ℕ) → (r ≡ Some i → i < suc n + m) → cond t (Some n) r ≡ Some i → i < n + suc m
 below_by true n m i r k e = let z : n ≡ i = cc in omega arith
 below_by false n m i r k e = omega (arith, k e)
 
 module _ {A : Type 0} where
   -- what a search finds is a place of the list
-  pub find-below : (p : A → Bool) (n : ℕ) (xs : List A) (i : ℕ) → find p n xs ≡ At i → i < n + length xs
+  pub find-below : (p : A → Bool) (n : ℕ) (xs : List A) (i : ℕ) → find p n xs ≡ Some i → i < n + length xs
   find-below p n [] i e = let z : ◌≡◌ {A = ℕ} 0 1 = cc in omega arith
   find-below p n (x ∷ xs) i e = below_by (p x) n (length xs) i (find p (suc n) xs) (find-below p (suc n) xs i) e
 
@@ -95,17 +94,17 @@ module _ {A : Type 0} (p : A → Bool) (d : A) where
   has_some (x ∷ xs) (suc q) h e =
       cases (p x) (λ t. rw t) (λ t. rw t (has_some xs q (omega arith) e))
 
-  pub find_none : (n : ℕ) (xs : List A) → ((q : ℕ) → q < length xs → p (get_or xs q d) ≡ false) → find p n xs ≡ Nothing
+  pub find_none : (n : ℕ) (xs : List A) → ((q : ℕ) → q < length xs → p (get_or xs q d) ≡ false) → find p n xs ≡ None
   find_none n [] f = refl
   find_none n (x ∷ xs) f = rw (f 0 (omega arith)) (find_none (suc n) xs (λ q h. f (suc q) (omega arith)))
 
   pub find_first : (n : ℕ) (xs : List A) (i : ℕ) → i < length xs → p (get_or xs i d) ≡ true → ((q : ℕ) → q < i → p (get_or xs q d) ≡ false)
-      → find p n xs ≡ At (n + i)
+      → find p n xs ≡ Some (n + i)
   find_first n [] i h e f = absurd (omega arith)
-  find_first n (x ∷ xs) zero h e f = rw e (ap At (omega arith))
+  find_first n (x ∷ xs) zero h e f = rw e (ap Some (omega arith))
   find_first n (x ∷ xs) (suc i) h e f =
       let m : suc n + i ≡ n + suc i = omega arith in
-      rw (f 0 (omega arith)) (find_first (suc n) xs i (omega arith) e (λ q k. f (suc q) (omega arith)) ∙ ap At m)
+      rw (f 0 (omega arith)) (find_first (suc n) xs i (omega arith) e (λ q k. f (suc q) (omega arith)) ∙ ap Some m)
 
 -- one turn of a loop over the elements from i up to n
 module _ {A : Type 0} (n i : ℕ) (xs : List A) (d : A) (h : i < n) (k : n ≤ length xs) where
@@ -118,7 +117,7 @@ module _ {A : Type 0} (n i : ℕ) (xs : List A) (d : A) (h : i < n) (k : n ≤ l
   pub has-miss : (p : A → Bool) → p (get_or xs i d) ≡ false → has p (slice i n xs) ≡ has p (slice (i + 1) n xs)
   has-miss p e = rw (slice-step, e)
 
-  pub find-hit : (p : A → Bool) → p (get_or xs i d) ≡ true → find p i (slice i n xs) ≡ At i
+  pub find-hit : (p : A → Bool) → p (get_or xs i d) ≡ true → find p i (slice i n xs) ≡ Some i
   find-hit p e = simp (slice-cons i n xs d h k, e)
 
   pub find-miss : (p : A → Bool) → p (get_or xs i d) ≡ false → find p i (slice i n xs) ≡ find p (i + 1) (slice (i + 1) n xs)

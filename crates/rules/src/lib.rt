@@ -68,9 +68,3 @@ impl ErrorCode {
         self as u64
     }
 }
-
-fn try_it(n: u64) -> Result<(), Cause>
-    ensures { result ≡ Ok tt }
-{
-    Ok(())
-}

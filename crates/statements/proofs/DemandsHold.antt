@@ -12,15 +12,11 @@ use Rattle.ledger.specs.Books.{Book}
 use Rattle.ledger.proofs.SoundLaws.{book-facts}
 use Rattle.notices.proofs.PositionLaws.{bil-at, cxl-at}
 use Rattle.notices.proofs.AnswerPositions.{acf-at, rej-at}
-use Rattle.rules.specs.declared.Check.{Check}
-use Rattle.rules.specs.declared.Check.TheVariants.{Clear, Stop}
 use Rattle.group.specs.Groups.{lines_by, verdict_on, verdict_by}
 use Rattle.group.proofs.FormCodes.{form-coded}
 use Rattle.group.proofs.GroupLinesRead.{no-line-reads}
 use Rattle.causes.specs.Causes.{Call}
 use Rattle.calls.specs.declared.Called.{Called}
-use Rattle.calls.specs.declared.Answer.{Answer}
-use Rattle.calls.specs.declared.Answer.TheVariants.{Done, Refused}
 use Rattle.calls.specs.Machine.{cause, room_of, outcome, step, cause_in}
 use Rattle.calls.proofs.CallLaws.{stopped}
 use Rattle.calls.proofs.CountLaws.{groups-returned}
@@ -41,9 +37,12 @@ use Rattle.statements.specs.Statements.{Refuses, Demand1, Demand2, Demand3, Dema
 use Rattle.statements.proofs.NoticeCalls.{notices-of-calls}
 use Rattle.statements.proofs.NoticeIds.{ids-once}
 use Rattle.statements.proofs.ExampleProof.{example-posted, example-written}
+use Rattle.std.specs.Prelude.{Result, Ok, Err, ⊤}
+use Rattle.rules.specs.declared.Cause.{Cause}
+use Rattle.calls.specs.declared.Returned.{Returned}
 
 -- ---- demand 1
-refuses : (l : Ledger) (c : Call) (n : ℕ) → cause_in l c ≡ Stop n → Refuses l c n
+refuses : (l : Ledger) (c : Call) (n : Cause) → cause_in l c ≡ Err n → Refuses l c n
 refuses l c n e =
     let s = stopped l c n e in
     record {
@@ -53,10 +52,10 @@ refuses l c n e =
     }
 
 -- a lent buffer after an answer that is a number
-kept : (a : Answer) (l : Ledger) (ws : List ℕ) (x : ℤ) (ks : List ℕ) → 1 ≤ number_of a
+kept : (a : Result Returned Cause) (l : Ledger) (ws : List ℕ) (x : ℤ) (ks : List ℕ) → 1 ≤ number_of a
     → (words_left ws l a ≡ ws) × (change_left x a ≡ x) × (counts_left ks a ≡ ks)
-kept (Done r) l ws x ks h = absurd (omega arith)
-kept (Refused n) l ws x ks h = (refl, refl, refl)
+kept (Ok r) l ws x ks h = absurd (omega arith)
+kept (Err n) l ws x ks h = (refl, refl, refl)
 
 buffers : (c : Called) (ws : List ℕ) (x : ℤ) (ks ws₁ : List ℕ) (x₁ : ℤ) (ks₁ : List ℕ) (n : ℕ)
     → Gives c ws x ks ws₁ x₁ ks₁ n → 1 ≤ n → (ws₁ ≡ ws) × (x₁ ≡ x) × (ks₁ ≡ ks)
@@ -68,9 +67,9 @@ within : (l : Book) (c : Call) → length (step l c).written ≤ room_of c
 unfolding step outcome
 within l c = go (cause l c) refl
   where
-    go : (v : Check) → cause l c ≡ v → length (outcome l c v).written ≤ room_of c
-    go Clear e = written-within l c e
-    go (Stop n) e = omega arith
+    go : (v : Result ⊤ Cause) → cause l c ≡ v → length (outcome l c v).written ≤ room_of c
+    go (Ok tt) e = written-within l c e
+    go (Err n) e = omega arith
 
 table-room : (s : List ℕ) → length (posted_of s) ≤ 10970
 unfolding posted_of

@@ -15,10 +15,6 @@ use Rattle.notices.specs.declared.rej.Rej.{Rej}
 use Rattle.notices.specs.Answers.{rej_header, rej_detail, rej_details, rej}
 use Rattle.notices.proofs.AnswerLaws.{length-acf, length-rej-header, length-rej-detail}
 use Rattle.file.specs.File.{Group, records, file_groups}
-use Rattle.rules.specs.declared.Check.{Check}
-use Rattle.rules.specs.declared.Check.TheVariants.{Clear, Stop}
-use Rattle.verdict.specs.declared.Verdict.{Verdict}
-use Rattle.verdict.specs.declared.Verdict.TheVariants.{Accepted, Rejected}
 use Rattle.verdict.specs.Lines.{terms_of}
 use Rattle.group.specs.Groups.{sought, settled, answer, verdict_here, answers}
 use Rattle.causes.specs.Causes.{Call, request, calendar, file, cancel, close, removal}
@@ -32,6 +28,10 @@ use Rattle.journal.specs.EntryCalls.{written_by, notices_of, brn_of}
 use Rattle.report.specs.Report.{Claimed, empty, holds}
 use Rattle.report.proofs.ReportLaws.{claimed}
 use Rattle.statements.proofs.NoticeCalls.{notices-of-calls}
+use Rattle.std.specs.Prelude.{Result, Ok, Err, ⊤}
+use Rattle.ledger.specs.declared.Posted.{Posted}
+use Rattle.rules.specs.declared.Cause.{Cause}
+use Rattle.rules.specs.declared.ErrorCode.{ErrorCode}
 
 -- ---- bytes that are so many records
 abbrev Records : List ℕ → Type 0
@@ -78,12 +78,12 @@ unfolding rej
 rej-records h ds x e a =
     more-records (rej_header h x) (rej_details (is_sup h) ds x) (1, length-rej-header h (omega arith) x) (details-records (is_sup h) ds x a)
 
-answer-records : (v : View) (g : Group) (c : Verdict) → Formed g → Records (answer v g c)
+answer-records : (v : View) (g : Group) (c : Result Posted ErrorCode) → Formed g → Records (answer v g c)
 unfolding answer
-answer-records v g (Accepted amounts) f =
+answer-records v g (Ok amounts) f =
     let a : Acf = record { terms = terms_of (sought v g); tracking = v.tracking; today = v.today; confirmation = v.confirmation } in
     (1, length-acf g.header (omega (arith, f.header)) a)
-answer-records v g (Rejected n) f =
+answer-records v g (Err n) f =
     rej-records g.header g.details (record { code = n; today = v.today; confirmation = v.confirmation }) f.header f.details
 
 answers-records : (before gs : List Group) (l : Book) → All Formed gs → Records (answers before l gs)
@@ -106,9 +106,9 @@ step-records : (l : Book) (c : Call) → Records (step l c).written
 unfolding step outcome
 step-records l c = go (cause l c)
   where
-    go : (v : Check) → Records (outcome l c v).written
-    go Clear = next-records l c
-    go (Stop n) = (0, refl)
+    go : (v : Result ⊤ Cause) → Records (outcome l c v).written
+    go (Ok tt) = next-records l c
+    go (Err n) = (0, refl)
 
 -- ---- a list of calls, and a journal
 written-ids : (cs : List Call) (l : Book) → assigned_in (written_by (outcomes l cs)) ≡ assigned (outcomes l cs)

@@ -5,14 +5,10 @@ use mathlib.Core.Bool.{Bool}
 use mathlib.Core.List.{List, [], ◌∷◌, ◌++◌, map}
 use Rattle.fields.proofs.BoolLaws.{cases}
 use Rattle.rules.specs.Lists.{update}
-use Rattle.rules.specs.declared.Check.{Check}
-use Rattle.rules.specs.declared.Check.TheVariants.{Clear, Stop}
 use Rattle.ledger.specs.declared.Bill.{Bill}
 use Rattle.ledger.specs.Bills.{renewed, posting, cancelled_bill}
 use Rattle.ledger.specs.Books.{Book, of_id, removed_of}
 use Rattle.ledger.specs.Sound.{holds_id}
-use Rattle.verdict.specs.declared.Verdict.{Verdict}
-use Rattle.verdict.specs.declared.Verdict.TheVariants.{Accepted, Rejected}
 use Rattle.file.specs.File.{Group, file_groups, asks_id}
 use Rattle.group.specs.Groups.{identity_of, settled, verdict_here, taken}
 use Rattle.causes.specs.declared.AccountRemoval.{AccountRemoval}
@@ -21,6 +17,10 @@ use Rattle.causes.specs.Causes.{Call, request, calendar, file, cancel, close, re
 use Rattle.causes.specs.Requests.{latest_of, new_bill}
 use Rattle.calls.specs.Machine.{cause, next, next_requested, outcome, step, after}
 use Rattle.history.specs.Claim.{All}
+use Rattle.std.specs.Prelude.{Result, Ok, Err, ⊤}
+use Rattle.ledger.specs.declared.Posted.{Posted}
+use Rattle.rules.specs.declared.Cause.{Cause}
+use Rattle.rules.specs.declared.ErrorCode.{ErrorCode}
 
 -- a change of a bill that leaves its identity and its removal date
 pub record Leaves (f : Bill → Bill) : Type 0 where
@@ -45,11 +45,11 @@ module _ {Fine : Call → Type 0} {R : List Bill → List Bill → Type 0} (h : 
       (h.changed (of_id r.identity) (renewed (latest_of r l.tracking)) (record { identity = λ b. refl; removal = λ b. refl }) l.bills))
       (λ e. rw e (h.added r l.tracking l.bills))
 
-  over-group : (l : Book) (g : Group) (v : Verdict) → R l.bills (settled l g v).bills
+  over-group : (l : Book) (g : Group) (v : Result Posted ErrorCode) → R l.bills (settled l g v).bills
   unfolding settled
-  over-group l g (Accepted amounts) =
+  over-group l g (Ok amounts) =
       h.changed (of_id (identity_of g)) (posting amounts (asks_id g)) (record { identity = λ b. refl; removal = λ b. refl }) l.bills
-  over-group l g (Rejected n) = h.same l.bills
+  over-group l g (Err n) = h.same l.bills
 
   over-groups : (before gs : List Group) (l : Book) → R l.bills (taken before l gs).bills
   unfolding taken
@@ -72,9 +72,9 @@ module _ {Fine : Call → Type 0} {R : List Bill → List Bill → Type 0} (h : 
   unfolding step outcome
   over-step l c f = go (cause l c)
     where
-      go : (k : Check) → R l.bills (outcome l c k).ledger.bills
-      go Clear = over-next l c f
-      go (Stop m) = h.same l.bills
+      go : (k : Result ⊤ Cause) → R l.bills (outcome l c k).ledger.bills
+      go (Ok tt) = over-next l c f
+      go (Err m) = h.same l.bills
 
   pub over-calls : (cs : List Call) (l : Book) → All Fine cs → R l.bills (after l cs).bills
   unfolding after

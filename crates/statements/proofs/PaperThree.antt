@@ -7,51 +7,49 @@ use native.Mathlib.Decide.{dec_le}
 use lib.ListN.{length, get_or}
 use Rattle.fields.specs.Digits.{fits}
 use Rattle.fields.proofs.BoolLaws.{cases}
-use Rattle.rules.specs.declared.Check.TheVariants.{Clear}
-use Rattle.rules.specs.declared.Found.{Found}
-use Rattle.rules.specs.declared.Found.TheVariants.{At, Nothing}
 use Rattle.rules.specs.Lists.{has, find}
 use Rattle.rules.proofs.ListLaws.{has-none, has_some}
 use Rattle.ledger.specs.declared.Ledger.{Ledger}
 use Rattle.ledger.specs.Bills.{blank_bill}
 use Rattle.ledger.specs.Books.{live}
 use Rattle.ledger.specs.Sound.{sound_ledger}
-use Rattle.lookups.specs.declared.Place.{Place}
-use Rattle.lookups.specs.declared.Place.TheVariants as place
 use Rattle.lookups.specs.Lookups.{is_open_of, is_earliest, open_causes, place_by, open_in}
 use Rattle.lookups.proofs.EarliestLaws.{Leads, leads-found, found-leads, none_found}
 use Rattle.statements.specs.Papers.{open_at, due_at, DueFirstAt, Paper3}
 use Rattle.statements.proofs.KeptPlaces.{places-kept}
+use Rattle.std.specs.Prelude.{Option, Some, None, Result, Ok, Err}
+use Rattle.rules.specs.declared.Cause.{Cause}
+use Rattle.rules.specs.declared.Cause.TheVariants.{BadArgument, NoSuchBill}
 
 module _ (l : Ledger) (account : ℕ) where
-  abbrev found : Found
+  abbrev found : Option ℕ
   found = find (is_earliest account l.today (live l)) 0 (live l)
 
   abbrev some : Bool
   some = has (is_open_of account l.today) (live l)
 
   -- ---- the cases of the answer
-  pub unsound : sound_ledger l ≡ false → open_in l account ≡ place.Refused 2
+  pub unsound : sound_ledger l ≡ false → open_in l account ≡ Err BadArgument
   unfolding open_in open_causes
   unsound e = rw e
 
-  pub wide : fits 12 account ≡ false → open_in l account ≡ place.Refused 2
+  pub wide : fits 12 account ≡ false → open_in l account ≡ Err BadArgument
   unfolding open_in open_causes
   wide e = cases (sound_ledger l) (λ s. rw (s, e)) unsound
 
   module _ (s : sound_ledger l ≡ true) (w : fits 12 account ≡ true) where
-    nothing : some ≡ false → open_in l account ≡ place.Refused 4
+    nothing : some ≡ false → open_in l account ≡ Err NoSuchBill
     unfolding open_in open_causes
     nothing e = rw (s, w, e)
 
-    something : some ≡ true → open_in l account ≡ place_by Clear found
+    something : some ≡ true → open_in l account ≡ place_by (Ok tt) found
     unfolding open_in open_causes
     something e = rw (s, w, e)
 
-    pub none : ((q : ℕ) → q < length (live l) → open_at l account q ≡ false) → open_in l account ≡ place.Refused 4
+    pub none : ((q : ℕ) → q < length (live l) → open_at l account q ≡ false) → open_in l account ≡ Err NoSuchBill
     none f = nothing (has-none (is_open_of account l.today) blank_bill (live l) f)
 
-    pub only : (p : ℕ) → DueFirstAt l account p → open_in l account ≡ place.At p
+    pub only : (p : ℕ) → DueFirstAt l account p → open_in l account ≡ Ok p
     only p d =
         let leads : Leads account l.today (live l) (length (live l)) p =
         record {
@@ -66,51 +64,51 @@ module _ (l : Ledger) (account : ℕ) where
               ];
         } in
         something (has_some (is_open_of account l.today) blank_bill (live l) p d.held d.opens)
-        ∙ ap (place_by Clear) (leads-found account l.today (live l) p leads)
+        ∙ ap (place_by (Ok tt)) (leads-found account l.today (live l) p leads)
 
   -- ---- what an answer tells
   -- an answer that is not 2 is that of a sound ledger and an account in its width
-  module _ (a : Place) (e : open_in l account ≡ a) (other : place.Refused 2 ≡ a → ⊥) where
+  module _ (a : Result ℕ Cause) (e : open_in l account ≡ a) (other : Err BadArgument ≡ a → ⊥) where
     sound : sound_ledger l ≡ true
     sound = cases (sound_ledger l) (λ s. s) (λ s. absurd (other (sym (unsound s) ∙ e)))
 
     narrow : fits 12 account ≡ true
     narrow = cases (fits 12 account) (λ w. w) (λ w. absurd (other (sym (wide w) ∙ e)))
 
-    by-some : some ≡ true → place_by Clear found ≡ a
+    by-some : some ≡ true → place_by (Ok tt) found ≡ a
     by-some t = sym (something sound narrow t) ∙ e
 
-    by-none : some ≡ false → place.Refused 4 ≡ a
+    by-none : some ≡ false → Err NoSuchBill ≡ a
     by-none t = sym (nothing sound narrow t) ∙ e
 
-  pub four : (q : ℕ) → open_in l account ≡ place.Refused 4 → q < length (live l) → open_at l account q ≡ false
+  pub four : (q : ℕ) → open_in l account ≡ Err NoSuchBill → q < length (live l) → open_at l account q ≡ false
   four q e h =
-      cases some (λ t. closed (none_found account l.today (live l) (refused found (by-some (place.Refused 4) e two t)))) closed
+      cases some (λ t. closed (none_found account l.today (live l) (refused found (by-some (Err NoSuchBill) e two t)))) closed
     where
-      two : place.Refused 2 ≡ place.Refused 4 → ⊥
-      two t = let z : ◌≡◌ {A = ℕ} 2 4 = cc in omega arith
+      two : ◌≡◌ {A = Result ℕ Cause} (Err BadArgument) (Err NoSuchBill) → ⊥
+      two t = let z : ◌≡◌ {A = ℕ} 0 1 = cc in omega arith
 
-      refused : (f : Found) → place_by Clear f ≡ place.Refused 4 → f ≡ Nothing
-      refused (At p) t = let z : ◌≡◌ {A = ℕ} 0 1 = cc in absurd (omega arith)
-      refused Nothing t = refl
+      refused : (f : Option ℕ) → place_by (Ok tt) f ≡ Err NoSuchBill → f ≡ None
+      refused (Some p) t = let z : ◌≡◌ {A = ℕ} 0 1 = cc in absurd (omega arith)
+      refused None t = refl
 
       closed : some ≡ false → open_at l account q ≡ false
       closed n =
           cases (open_at l account q)
           (λ t. absurd (true≢false (sym (has_some (is_open_of account l.today) blank_bill (live l) q h t) ∙ n))) (λ t. t)
 
-  pub such : (p : ℕ) → open_in l account ≡ place.At p → DueFirstAt l account p
-  such p e = cases some (λ t. leading (found-leads account l.today (live l) p (named found (by-some (place.At p) e two t)))) (λ t. absurd (four-at (by-none (place.At p) e two t)))
+  pub such : (p : ℕ) → open_in l account ≡ Ok p → DueFirstAt l account p
+  such p e = cases some (λ t. leading (found-leads account l.today (live l) p (named found (by-some (Ok p) e two t)))) (λ t. absurd (four-at (by-none (Ok p) e two t)))
     where
-      two : place.Refused 2 ≡ place.At p → ⊥
+      two : Err BadArgument ≡ Ok p → ⊥
       two t = let z : ◌≡◌ {A = ℕ} 0 1 = cc in omega arith
 
-      four-at : place.Refused 4 ≡ place.At p → ⊥
+      four-at : Err NoSuchBill ≡ Ok p → ⊥
       four-at t = let z : ◌≡◌ {A = ℕ} 0 1 = cc in omega arith
 
-      named : (f : Found) → place_by Clear f ≡ place.At p → f ≡ At p
-      named (At q) t = let z : q ≡ p = cc in ap At z
-      named Nothing t = let z : ◌≡◌ {A = ℕ} 0 1 = cc in absurd (omega arith)
+      named : (f : Option ℕ) → place_by (Ok tt) f ≡ Ok p → f ≡ Some p
+      named (Some q) t = let z : q ≡ p = cc in ap Some z
+      named None t = let z : ◌≡◌ {A = ℕ} 0 1 = cc in absurd (omega arith)
 
       leading : Leads account l.today (live l) (length (live l)) p → DueFirstAt l account p
       leading d =

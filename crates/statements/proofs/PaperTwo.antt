@@ -9,7 +9,6 @@ use lib.Dec.{eqb}
 use lib.ListN.{length, get_or}
 use Rattle.fields.proofs.BoolLaws.{cases}
 use Rattle.rules.specs.Lists.{has}
-use Rattle.rules.specs.declared.Check.TheVariants.{Clear}
 use Rattle.rules.specs.Rules.{first}
 use Rattle.units.specs.Calendar.{year, is_date}
 use Rattle.units.specs.Days.{year_on}
@@ -33,6 +32,7 @@ use Rattle.statements.specs.Papers.{RemovalMade, Paper2}
 use Rattle.statements.proofs.Anniversary.{one-year-on}
 use Rattle.statements.proofs.SupDates.{sup-dates}
 use Rattle.statements.proofs.NoRemovals.{none-removed}
+use Rattle.std.specs.Prelude.{Ok}
 
 -- each of the first n bills, with f applied to it
 first-at : (f : Bill → Bill) (n : ℕ) (bs : List Bill) (i : ℕ) (d : Bill) → i < n → i < length bs → get_or (map_first f n bs) i d ≡ f (get_or bs i d)
@@ -42,7 +42,7 @@ first-at f (suc n) (b ∷ bs) zero d h k = refl
 first-at f (suc n) (b ∷ bs) (suc i) d h k = first-at f n bs i d (le_of_suc-le-suc h) (le_of_suc-le-suc k)
 
 -- a removal that was carried out
-module _ (l : Ledger) (a : AccountRemoval) (long : length l.bills ≡ 128) (e : cause_in l (removal a) ≡ Clear) where
+module _ (l : Ledger) (a : AccountRemoval) (long : length l.bills ≡ 128) (e : cause_in l (removal a) ≡ Ok tt) where
   few : l.count ≤ 128
   few = ledger-count l (clear-sound l (removal a) e)
 

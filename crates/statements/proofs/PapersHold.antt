@@ -8,8 +8,6 @@ use lib.ListN.{length}
 use Rattle.ledger.specs.declared.Ledger.{Ledger}
 use Rattle.ledger.specs.Books.{book, view}
 use Rattle.ledger.specs.Sound.{sound_ledger}
-use Rattle.rules.specs.declared.Check.{Check}
-use Rattle.rules.specs.declared.Check.TheVariants.{Clear, Stop}
 use Rattle.rules.proofs.LeastLaws.{up-to-found, up-to-before}
 use Rattle.units.specs.Days.{last_date}
 use Rattle.calendar.specs.BusinessDays.{is_further, business_day}
@@ -19,14 +17,16 @@ use Rattle.group.specs.Groups.{sought_in}
 use Rattle.causes.specs.declared.CalendarRequest.{CalendarRequest}
 use Rattle.causes.specs.Causes.{calendar, causes}
 use Rattle.causes.proofs.CalendarLaws.{never-9}
-use Rattle.calls.specs.declared.Answer.TheVariants.{Refused}
 use Rattle.calls.specs.Machine.{cause_in, step_in, answer_by, called}
 use Rattle.calls.proofs.CallLaws.{cause-sound, cause-unsound}
 use Rattle.calls.proofs.CalendarCalls.{dated-called, dated-step}
 use Rattle.statements.specs.Papers.{Paper1}
+use Rattle.std.specs.Prelude.{Result, Ok, Err, ⊤}
+use Rattle.rules.specs.declared.Cause.{Cause}
+use Rattle.rules.specs.declared.Cause.TheVariants.{BadArgument, ScheduledBeforeToday}
 
 -- ---- paper 1
-never-before : (l : Ledger) (q : CalendarRequest) (hs : List ℕ) (room : ℕ) → cause_in l (calendar q hs room) ≡ Stop 9 → ⊥
+never-before : (l : Ledger) (q : CalendarRequest) (hs : List ℕ) (room : ℕ) → cause_in l (calendar q hs room) ≡ Err ScheduledBeforeToday → ⊥
 unfolding causes
 never-before l q hs room e = by (sound_ledger l) refl
   where
@@ -35,15 +35,15 @@ never-before l q hs room e = by (sound_ledger l) refl
         let v = view (book l) in
         never-9 q hs v.today room v.tracking v.confirmation (length v.bills) (sought_in q.request.identity v.bills)
         (sym (cause-sound l (calendar q hs room) h) ∙ e)
-    by false h = let z : Stop 2 ≡ Stop 9 = sym (cause-unsound l (calendar q hs room) h) ∙ e in let m : ◌≡◌ {A = ℕ} 2 9 = cc in omega arith
+    by false h = let z : Err BadArgument ≡ Err ScheduledBeforeToday = sym (cause-unsound l (calendar q hs room) h) ∙ e in let m : ◌≡◌ {A = ℕ} 0 1 = cc in omega arith
 
-never-refused-9 : (l : Ledger) (q : CalendarRequest) (hs : List ℕ) (room : ℕ) → (called l (calendar q hs room)).answer ≡ Refused 9 → ⊥
+never-refused-9 : (l : Ledger) (q : CalendarRequest) (hs : List ℕ) (room : ℕ) → (called l (calendar q hs room)).answer ≡ Err ScheduledBeforeToday → ⊥
 unfolding called answer_by
 never-refused-9 l q hs room e = go (cause_in l (calendar q hs room)) refl e
   where
-    go : (k : Check) → cause_in l (calendar q hs room) ≡ k → answer_by (step_in l (calendar q hs room)) k ≡ Refused 9 → ⊥
-    go Clear f a = let z : ◌≡◌ {A = ℕ} 0 1 = cc in omega arith
-    go (Stop n) f a = let m : n ≡ 9 = cc in never-before l q hs room (f ∙ rw m)
+    go : (k : Result ⊤ Cause) → cause_in l (calendar q hs room) ≡ k → answer_by (step_in l (calendar q hs room)) k ≡ Err ScheduledBeforeToday → ⊥
+    go (Ok tt) f a = let z : ◌≡◌ {A = ℕ} 0 1 = cc in omega arith
+    go (Err n) f a = let m : n ≡ ScheduledBeforeToday = cc in never-before l q hs room (f ∙ rw m)
 
 pub paper-1 : Paper1
 unfolding business_day

@@ -1,6 +1,6 @@
 -- The three demands side by side, each with its words (docs/CLAIMS.md). Every field is a theorem: `demands-hold` (proofs/DemandsHold) fills them in.
 -- Assumes nothing.
-use Rattle.std.specs.Prelude.{ℕ, ◌≤◌, ◌<◌, ◌≡◌, List, [], ◌∷◌, length, get_or, ℤ}
+use Rattle.std.specs.Prelude.{ℕ, ◌≤◌, ◌<◌, ◌≡◌, List, [], ◌∷◌, length, get_or, ℤ, Err}
 use Rattle.fields.specs.Put.{put}
 use Rattle.ledger.specs.declared.Ledger.{Ledger}
 use Rattle.ledger.specs.Bills.{is_prepay}
@@ -14,7 +14,6 @@ use Rattle.notices.specs.Answers.{acf, rej}
 use Rattle.notices.specs.Positions.{BilAt, CxlAt, AcfAt, RejAt}
 use Rattle.records.specs.Limits.{record_size}
 use Rattle.file.specs.File.{Group, detail_of}
-use Rattle.rules.specs.declared.Check.TheVariants.{Stop}
 use Rattle.rules.specs.Rules.{first}
 use Rattle.verdict.specs.Lines.{terms_of, amounts_of, settle}
 use Rattle.group.specs.Groups.{sought, lines, verdict}
@@ -23,7 +22,6 @@ use Rattle.group.specs.Reads.{NoLineReads}
 use Rattle.causes.specs.declared.Start.{Start}
 use Rattle.causes.specs.Causes.{Call}
 use Rattle.calls.specs.declared.Called.{Called}
-use Rattle.calls.specs.declared.Answer.TheVariants.{Refused}
 use Rattle.calls.specs.Machine.{room_of, step, fresh, outcomes, cause_in, step_in, called}
 use Rattle.calls.specs.Counts.{GroupsReturned}
 use Rattle.journal.specs.declared.Body.TheVariants.{Fresh}
@@ -38,6 +36,8 @@ use Rattle.report.specs.Report.{posted_of, Claimed}
 use Rattle.boundary.specs.Boundary.{Gives}
 use Rattle.clearing_c.specs.InWords.{SumInWords}
 use Rattle.statements.specs.Example.{ExamplePosted, ExampleWritten}
+use Rattle.rules.specs.Numbers.{cause_number}
+use Rattle.rules.specs.declared.Cause.{Cause}
 
 -- ---- Demand 1: "The whole engine, journal reader to table writer, takes every input there can be, within its memory, and ends. A call it can't carry
 -- out answers document 01's number, and the ledger and each lent buffer then hold what they held before."
@@ -47,14 +47,14 @@ use Rattle.statements.specs.Example.{ExamplePosted, ExampleWritten}
 -- prints their table, with demand 3 for their calls (posted `Posts`).
 
 -- a call that a cause is against answers its number; the ledger, and the output, are as they were
-pub record Refuses (l : Ledger) (c : Call) (n : ℕ) : Type 0 where
-  pub answer : (called l c).answer ≡ Refused n
+pub record Refuses (l : Ledger) (c : Call) (n : Cause) : Type 0 where
+  pub answer : (called l c).answer ≡ Err n
   pub ledger : (called l c).ledger ≡ l
   pub output : (out : List ℕ) → put out 0 (step_in l c).written ≡ out
 
 pub record Demand1 : Type 0 where
-  pub refuses : (l : Ledger) (c : Call) (n : ℕ) → cause_in l c ≡ Stop n → Refuses l c n
-  pub numbers : (l : Ledger) (c : Call) (n : ℕ) → (called l c).answer ≡ Refused n → (1 ≤ n) × (n ≤ 15)
+  pub refuses : (l : Ledger) (c : Call) (n : Cause) → cause_in l c ≡ Err n → Refuses l c n
+  pub numbers : (l : Ledger) (c : Call) (n : Cause) → (called l c).answer ≡ Err n → (1 ≤ cause_number n) × (cause_number n ≤ 15)
   -- for C: where a number but 0 is answered, the words, the change and the counts are as they were
   pub buffers : (c : Called) (ws : List ℕ) (x : ℤ) (ks ws₁ : List ℕ) (x₁ : ℤ) (ks₁ : List ℕ) (n : ℕ)
       → Gives c ws x ks ws₁ x₁ ks₁ n → 1 ≤ n → (ws₁ ≡ ws) × (x₁ ≡ x) × (ks₁ ≡ ks)

@@ -24,9 +24,10 @@ use Rattle.ledger.specs.Books.{Book, book, live, small_charge, total_of}
 use Rattle.ledger.specs.parts.Places.{header_of}
 use Rattle.ledger.specs.Sound.{sound_ledger}
 use Rattle.ledger.proofs.BookLaws.{total-small, length-live}
-use Rattle.table.specs.declared.Printed.{Printed}
-use Rattle.table.specs.declared.Printed.TheVariants.{Table, Refused}
 use Rattle.table.specs.Table.{cell, ended, heading, terms_cells, amount_cells, state_cell, line_of, lines_of, total_line, stop_line, table_of, heading_size, line_size, total_size, stop_size, table_room, printed_by, printed}
+use Rattle.std.specs.Prelude.{Result, Ok, Err}
+use Rattle.rules.specs.declared.Cause.{Cause}
+use Rattle.rules.specs.declared.Cause.TheVariants.{OutputTooSmall, BadArgument}
 
 -- ---- lengths
 pub length-cell : (xs : List ℕ) → length (cell xs) ≡ length xs + 1
@@ -149,20 +150,20 @@ pub total-read : (bs : List Bill) → length bs ≤ 128 → every small_charge b
 total-read bs h s = number_digits 16 (total_of bs) (omega (arith, total-small bs s))
 
 -- ---- the table asked for: the answer, and what the output holds
-abbrev pub Prints : Ledger → Bool → List ℕ → List ℕ → Printed → Type 0
+abbrev pub Prints : Ledger → Bool → List ℕ → List ℕ → Result ℕ Cause → Type 0
 Prints l stopped out₀ out r = (r ≡ printed_by l stopped (length out₀)) × (out ≡ put out₀ 0 (printed l stopped (length out₀)))
 
 module _ (l : Ledger) (stopped : Bool) (out : List ℕ) where
-  pub prints-unsound : sound_ledger l ≡ false → Prints l stopped out out (Refused 2)
+  pub prints-unsound : sound_ledger l ≡ false → Prints l stopped out out (Err BadArgument)
   unfolding printed_by printed
   prints-unsound s = (rw s, rw s (put-nil out 0))
 
   module _ (s : sound_ledger l ≡ true) where
-    pub prints-none : length out < table_room → Prints l stopped out out (Refused 1)
+    pub prints-none : length out < table_room → Prints l stopped out out (Err OutputTooSmall)
     unfolding printed_by printed
     prints-none h = (rw (s, lt-ltb (length out) table_room h), rw (s, lt-ltb (length out) table_room h) (put-nil out 0))
 
     pub prints : (o : List ℕ) (n : ℕ) → table_room ≤ length out → n ≡ length (table_of (book l) stopped)
-        → o ≡ put out 0 (table_of (book l) stopped) → Prints l stopped out o (Table n)
+        → o ≡ put out 0 (table_of (book l) stopped) → Prints l stopped out o (Ok n)
     unfolding printed_by printed
-    prints o n h e f = (rw (s, le-ltb (length out) table_room h) (ap Table e), rw (s, le-ltb (length out) table_room h) f)
+    prints o n h e f = (rw (s, le-ltb (length out) table_room h) (ap Ok e), rw (s, le-ltb (length out) table_room h) f)

@@ -1,5 +1,5 @@
 -- The posted table, byte by byte. Assumes nothing.
-use Rattle.std.specs.Prelude.{ℕ, Bool, cond, ltb, length, List, [], ◌∷◌, ◌++◌}
+use Rattle.std.specs.Prelude.{ℕ, Bool, cond, ltb, length, List, [], ◌∷◌, ◌++◌, Result, Ok, Err}
 use Rattle.fields.specs.Text.{text}
 use Rattle.fields.specs.Digits.{digits}
 use Rattle.units.specs.declared.Date.{Date}
@@ -12,8 +12,8 @@ use Rattle.ledger.specs.Bills.{product_byte, code_bytes, charge_of, applied_of, 
 use Rattle.ledger.specs.declared.Ledger.{Ledger}
 use Rattle.ledger.specs.Books.{Book, book, total_of}
 use Rattle.ledger.specs.Sound.{sound_ledger}
-use Rattle.table.specs.declared.Printed.{Printed}
-use Rattle.table.specs.declared.Printed.TheVariants.{Table, Refused}
+use Rattle.rules.specs.declared.Cause.{Cause}
+use Rattle.rules.specs.declared.Cause.TheVariants.{OutputTooSmall, BadArgument}
 
 -- ---- cells and lines
 -- a cell of a line, and the comma after it
@@ -100,9 +100,9 @@ abbrev pub table_room : ℕ
 table_room = 10970
 
 -- what is answered for an output of so many bytes: 2 where the ledger is not sound, then 1 where the output is under 10,970 bytes
-unfoldable pub printed_by : Ledger → Bool → ℕ → Printed
+unfoldable pub printed_by : Ledger → Bool → ℕ → Result ℕ Cause
 printed_by l stopped room =
-    cond (sound_ledger l) (cond (ltb room table_room) (Refused 1) (Table (length (table_of (book l) stopped)))) (Refused 2)
+    cond (sound_ledger l) (cond (ltb room table_room) (Err OutputTooSmall) (Ok (length (table_of (book l) stopped)))) (Err BadArgument)
 
 -- what is written: nothing on refusal
 unfoldable pub printed : Ledger → Bool → ℕ → List ℕ

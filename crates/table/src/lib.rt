@@ -12,6 +12,7 @@ ghost use Rattle.ledger.specs.Limits.{ledger_places};
 
 use ledger::{Bill, Ledger, Posted, Product, RateCode, State, Terms, bills, books};
 use units::{Cents, Date};
+use rules::Cause;
 
 // The bytes of the heading, of a bill's line, of the total's line and of the line after a bad entry.
 pub const HEADING_SIZE: usize = 56;
@@ -24,13 +25,6 @@ pub const STOP_SIZE: usize = 11;
 
 // The bytes that the longest table has: an output for a table has room for it.
 pub const TABLE_ROOM: usize = 10970;
-
-// What comes of asking for a table: how many bytes it has, or the number of the cause against it.
-#[derive(Clone, Copy)]
-pub enum Printed {
-    Table(usize),
-    Refused(u64),
-}
 
 // O, I or C.
 fn state_byte(s: State) -> u8
@@ -204,15 +198,15 @@ pub fn write(out: &mut [u8], l: Ledger, stopped: bool) -> usize
 }
 
 // Writes the table of a ledger, unless the ledger is not sound (2) or the output has no room (1).
-pub fn print(out: &mut [u8], l: Ledger, stopped: bool) -> Printed
+pub fn print(out: &mut [u8], l: Ledger, stopped: bool) -> Result<usize, Cause>
     ensures value { result ≡ printed_by l stopped (length out.old) }
     ensures out_after { out.new ≡ put out.old 0 (printed l stopped (length out.old)) }
 {
     if !sound_ledger::sound(l) {
-        return Printed::Refused(2);
+        return Err(Cause::BadArgument);
     }
     if out.len() < TABLE_ROOM {
-        return Printed::Refused(1);
+        return Err(Cause::OutputTooSmall);
     }
-    Printed::Table(write(out, l, stopped))
+    Ok(write(out, l, stopped))
 }

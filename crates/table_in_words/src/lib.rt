@@ -10,8 +10,9 @@ ghost use Rattle.ledger.specs.Limits.{ledger_places};
 ghost use Rattle.table.specs.Table.{lines_of, table_of, line_size, table_room, printed_by, printed};
 
 use places::place;
-use table::{HEADING_SIZE, LINE_SIZE, Printed, TABLE_ROOM, TOTAL_SIZE};
+use table::{HEADING_SIZE, LINE_SIZE, TABLE_ROOM, TOTAL_SIZE};
 use units::Date;
+use rules::Cause;
 
 // The lines of the first n bills of a ledger in words, and where they end.
 fn lines_in(ws: &[u64], n: usize, out: &mut [u8], at: usize, today: Date) -> usize
@@ -45,15 +46,15 @@ pub fn write_words(out: &mut [u8], ws: &[u64], stopped: bool) -> usize
 }
 
 // Writes the table of the ledger that any words hold, unless it is not sound (2) or the output has no room (1).
-pub fn print_words(out: &mut [u8], ws: &[u64], stopped: bool) -> Printed
+pub fn print_words(out: &mut [u8], ws: &[u64], stopped: bool) -> Result<usize, Cause>
     ensures value { result ≡ printed_by (ledger_of ws.now) stopped (length out.old) }
     ensures out_after { out.new ≡ put out.old 0 (printed (ledger_of ws.now) stopped (length out.old)) }
 {
     if !places::checks::sound(ws) {
-        return Printed::Refused(2);
+        return Err(Cause::BadArgument);
     }
     if out.len() < TABLE_ROOM {
-        return Printed::Refused(1);
+        return Err(Cause::OutputTooSmall);
     }
-    Printed::Table(write_words(out, ws, stopped))
+    Ok(write_words(out, ws, stopped))
 }

@@ -21,8 +21,6 @@ use Rattle.notices.specs.Answers.{acf, rej_header, rej_detail, rej_details, rej}
 use Rattle.notices.proofs.AnswerLaws.{length-acf, length-rej-header, length-rej-detail}
 use Rattle.notices.proofs.AnswerPositions.{acf-at, rej-header-at, rej-detail-at}
 use Rattle.file.specs.File.{records, Group, groups, file_groups, line1}
-use Rattle.verdict.specs.declared.Verdict.{Verdict}
-use Rattle.verdict.specs.declared.Verdict.TheVariants.{Accepted, Rejected}
 use Rattle.group.specs.Groups.{verdict_on, verdict_by, verdict_here, settled, answer, answers, verdicts}
 use Rattle.history.specs.Claim.{All}
 use Rattle.history.specs.Written.{is_acf}
@@ -30,6 +28,10 @@ use Rattle.history.proofs.WrittenRecordLaws.{Whole, Formed, formed-file}
 use Rattle.history.proofs.NoticeReads.{acf-is-acf, rej-header-notice, rej-not-acf}
 use Rattle.trace_lines.specs.Lines.{group_line, group_lines}
 use Rattle.trace_lines.specs.parts.ReadAnswers.{read_verdict, answer_long, read_line, read_lines, Lined}
+use Rattle.std.specs.Prelude.{Result, Ok, Err}
+use Rattle.rules.specs.declared.ErrorCode.{ErrorCode}
+use Rattle.rules.specs.declared.ErrorCode.TheVariants.{Br17}
+use Rattle.rules.specs.Numbers.{code_number}
 
 -- ---- an ACF, and more bytes
 module _ (h : List ℕ) (x : Acf) (ys : List ℕ) (whole : length h ≡ 321) where
@@ -82,8 +84,8 @@ long-rej h ds x w a =
     ∙ omega (arith, length-rej-header h (omega arith) x, long-details (is_sup h) ds x a)
 
 -- ---- a group's verdict as it is read
-rej-verdict : (h : List ℕ) (ds : List (List ℕ)) (x : Rej) (ys : List ℕ) → length h ≡ 321 → All Whole ds → (ds ≡ [] → x.code ≡ 17)
-    → read_verdict (rej h ds x ++ ys) (length ds) ≡ text "BR" ++ digits 2 x.code
+rej-verdict : (h : List ℕ) (ds : List (List ℕ)) (x : Rej) (ys : List ℕ) → length h ≡ 321 → All Whole ds → (ds ≡ [] → x.code ≡ Br17)
+    → read_verdict (rej h ds x ++ ys) (length ds) ≡ text "BR" ++ digits 2 (code_number x.code)
 unfolding read_verdict rej_details tail digits
 rej-verdict h [] x ys w a f = rw (rej-told h [] x ys w, f refl)
 rej-verdict h (d ∷ ds) x ys w a f =
@@ -102,11 +104,11 @@ rej-verdict h (d ∷ ds) x ys w a f =
 
 -- ---- a group's line as it is read, and what follows its answer
 module _ (g : Group) (ys : List ℕ) (f : Formed g) where
-  acf-line : (x : Acf) (amounts : Posted) → read_line (acf g.header x ++ ys) g ≡ group_line x.confirmation g (Accepted amounts)
+  acf-line : (x : Acf) (amounts : Posted) → read_line (acf g.header x ++ ys) g ≡ group_line x.confirmation g (Ok amounts)
   unfolding read_line group_line read_verdict
   acf-line x amounts = rw (acf-confirmation g.header x ys f.header, acf-told g.header x ys f.header)
 
-  rej-line : (x : Rej) → (g.details ≡ [] → x.code ≡ 17) → read_line (rej g.header g.details x ++ ys) g ≡ group_line x.confirmation g (Rejected x.code)
+  rej-line : (x : Rej) → (g.details ≡ [] → x.code ≡ Br17) → read_line (rej g.header g.details x ++ ys) g ≡ group_line x.confirmation g (Err x.code)
   unfolding read_line group_line
   rej-line x z =
       rw (
@@ -125,26 +127,26 @@ module _ (g : Group) (ys : List ℕ) (f : Formed g) where
       rw (rej-told g.header g.details x ys f.header)
       (drop_at (rej g.header g.details x) ys _ (long-rej g.header g.details x f.header f.details))
 
-  line_read : (v : View) (c : Verdict) → (g.details ≡ [] → c ≡ Rejected 17) → read_line (answer v g c ++ ys) g ≡ group_line v.confirmation g c
+  line_read : (v : View) (c : Result Posted ErrorCode) → (g.details ≡ [] → c ≡ Err Br17) → read_line (answer v g c ++ ys) g ≡ group_line v.confirmation g c
   unfolding answer
-  line_read v (Accepted amounts) z = acf-line _ amounts
-  line_read v (Rejected n) z = rej-line _ (λ e. let q : Rejected n ≡ Rejected 17 = z e in cc)
+  line_read v (Ok amounts) z = acf-line _ amounts
+  line_read v (Err n) z = rej-line _ (λ e. let q : Err n ≡ Err Br17 = z e in cc)
 
-  answer-dropped : (v : View) (c : Verdict) → drop (answer_long (answer v g c ++ ys) (length g.details)) (answer v g c ++ ys) ≡ ys
+  answer-dropped : (v : View) (c : Result Posted ErrorCode) → drop (answer_long (answer v g c ++ ys) (length g.details)) (answer v g c ++ ys) ≡ ys
   unfolding answer
-  answer-dropped v (Accepted amounts) = acf-dropped _
-  answer-dropped v (Rejected n) = rej-dropped _
+  answer-dropped v (Ok amounts) = acf-dropped _
+  answer-dropped v (Err n) = rej-dropped _
 
 -- "1. BR17: not exactly one detail": a group without detail
-none-rejected : (before : List Group) (k : Book) (g : Group) (gs : List Group) → g.details ≡ [] → verdict_here before k g gs ≡ Rejected 17
+none-rejected : (before : List Group) (k : Book) (g : Group) (gs : List Group) → g.details ≡ [] → verdict_here before k g gs ≡ Err Br17
 unfolding verdict_by verdict_on line1
 none-rejected before k g gs e = rw e
 
 -- "Every group takes a Confirmation Number."
-settled-confirmation : (k : Book) (g : Group) (v : Verdict) → (settled k g v).confirmation ≡ k.confirmation + 1
+settled-confirmation : (k : Book) (g : Group) (v : Result Posted ErrorCode) → (settled k g v).confirmation ≡ k.confirmation + 1
 unfolding settled
-settled-confirmation k g (Accepted amounts) = refl
-settled-confirmation k g (Rejected n) = refl
+settled-confirmation k g (Ok amounts) = refl
+settled-confirmation k g (Err n) = refl
 
 -- ---- the lines of groups whose answers stand one after the other
 lines-read : (before : List Group) (k : Book) (gs : List Group) (ys : List ℕ) → All Formed gs
@@ -152,7 +154,7 @@ lines-read : (before : List Group) (k : Book) (gs : List Group) (ys : List ℕ) 
 unfolding read_lines group_lines verdicts answers
 lines-read before k [] ys a = refl
 lines-read before k (g ∷ gs) ys a =
-    let v : Verdict = verdict_here before k g gs in
+    let v : Result Posted ErrorCode = verdict_here before k g gs in
     let ahead : List Group = before ++ (g ∷ []) in
     let k' : Book = settled k g v in
     let zs : List ℕ = answers ahead k' gs ++ ys in

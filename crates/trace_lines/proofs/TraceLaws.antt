@@ -14,11 +14,7 @@ use Rattle.ledger.specs.declared.Ledger.{Ledger}
 use Rattle.ledger.specs.Books.{Book, book}
 use Rattle.ledger.specs.Sound.{sound_ledger}
 use Rattle.file.specs.File.{Group, file_groups}
-use Rattle.rules.specs.declared.Check.{Check}
-use Rattle.rules.specs.declared.Check.TheVariants.{Clear, Stop}
 use Rattle.group.specs.Groups.{answers, verdicts}
-use Rattle.calls.specs.declared.Answer.{Answer}
-use Rattle.calls.specs.declared.Answer.TheVariants.{Done, Refused}
 use Rattle.causes.specs.declared.Request.{Request}
 use Rattle.causes.specs.declared.AccountRemoval.{AccountRemoval}
 use Rattle.calls.specs.declared.Returned.{Returned}
@@ -39,6 +35,8 @@ use Rattle.journal.proofs.BeginLaws.{whole-taken}
 use Rattle.journal.proofs.MadeLaws.{Taken, made-book}
 use Rattle.trace_lines.specs.Lines.{tag_of, call_line, group_lines}
 use Rattle.trace_lines.specs.Trace.{answer_to, entry_answer, lines_under, entry_lines, trace_lines}
+use Rattle.std.specs.Prelude.{Result, Ok, Err, ⊤}
+use Rattle.rules.specs.declared.Cause.{Cause}
 
 -- ---- what an entry's call answers by value is what the trace says of it
 module _ (l : Ledger) (h : sound_ledger l ≡ true) where
@@ -68,22 +66,22 @@ pub record Carried (k : Book) (s : List ℕ) : Type 0 where
   pub lines : lines_under k body.File s ≡ group_lines k.confirmation (file_groups s) (verdicts [] k (file_groups s))
 
 module _ (k : Book) (s : List ℕ) where
-  pub file-done : (r : Returned) → answer_to k (file s 64200) ≡ Done r → Carried k s
+  pub file-done : (r : Returned) → answer_to k (file s 64200) ≡ Ok r → Carried k s
   unfolding step outcome answer_by next_written next_verdicts lines_under
   file-done r e = go (cause k (file s 64200)) refl e
     where
-      go : (v : Check) → cause k (file s 64200) ≡ v → answer_by (outcome k (file s 64200) v) (outcome k (file s 64200) v).result ≡ Done r → Carried k s
-      go Clear c q = record { written = rw c; lines = rw c }
-      go (Stop n) c q = let z : ◌≡◌ {A = ℕ} 0 1 = cc in absurd (omega arith)
+      go : (v : Result ⊤ Cause) → cause k (file s 64200) ≡ v → answer_by (outcome k (file s 64200) v) (outcome k (file s 64200) v).result ≡ Ok r → Carried k s
+      go (Ok tt) c q = record { written = rw c; lines = rw c }
+      go (Err n) c q = let z : ◌≡◌ {A = ℕ} 0 1 = cc in absurd (omega arith)
 
-  pub file-refused : (n : ℕ) → answer_to k (file s 64200) ≡ Refused n → lines_under k body.File s ≡ []
+  pub file-refused : (n : Cause) → answer_to k (file s 64200) ≡ Err n → lines_under k body.File s ≡ []
   unfolding step outcome answer_by lines_under
   file-refused n e = go (cause k (file s 64200)) refl e
     where
-      go : (v : Check) → cause k (file s 64200) ≡ v → answer_by (outcome k (file s 64200) v) (outcome k (file s 64200) v).result ≡ Refused n
+      go : (v : Result ⊤ Cause) → cause k (file s 64200) ≡ v → answer_by (outcome k (file s 64200) v) (outcome k (file s 64200) v).result ≡ Err n
           → group_lines k.confirmation (file_groups s) (outcome k (file s 64200) (cause k (file s 64200))).verdicts ≡ []
-      go Clear c q = let z : ◌≡◌ {A = ℕ} 0 1 = cc in absurd (omega arith)
-      go (Stop m) c q = rw c (no_lines k.confirmation (file_groups s))
+      go (Ok tt) c q = let z : ◌≡◌ {A = ℕ} 0 1 = cc in absurd (omega arith)
+      go (Err m) c q = rw c (no_lines k.confirmation (file_groups s))
 
 -- ---- the tag of a whole entry: a body is read as its tag says, or not read, and then the length says which
 module _ (bytes : List ℕ) where
@@ -170,7 +168,7 @@ module _ (l : Ledger) (h : sound_ledger l ≡ true) (seen number : ℕ) (s : Lis
         let under : List ℕ = lines_under (book l) b bytes in
         ap (λ (p : Parsed). trace_lines number (book l) p.entries) (parse-whole seen s b n e)
         ∙ ap (λ (m : ℕ). call_line number m (entry_answer (book l) b bytes) ++ under ++ trace_lines (number + 1) (after_entry b bytes (book l)) rest) (tag_is seen s b n e)
-        ∙ ap (λ (a : Answer). call_line number (tag_in s) a ++ under ++ trace_lines (number + 1) (after_entry b bytes (book l)) rest) (sym (answer-in l h b bytes t))
+        ∙ ap (λ (a : Result Returned Cause). call_line number (tag_in s) a ++ under ++ trace_lines (number + 1) (after_entry b bytes (book l)) rest) (sym (answer-in l h b bytes t))
         ∙ ap (λ (k : Book). call_line number (tag_in s) (entry_called 64200 l b bytes).answer ++ under ++ trace_lines (number + 1) k rest) (sym (made-book l h b bytes t))
 
 -- what was put at the start of a list begins it: the answers that a file's call wrote at the start of its output

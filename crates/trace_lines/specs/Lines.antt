@@ -1,17 +1,18 @@
 -- The lines of program `trace`, byte by byte: an entry's line, and the lines of a file's groups. Assumes nothing.
-use Rattle.std.specs.Prelude.{ℕ, ◌+◌, cond, List, [], ◌∷◌, ◌++◌, eqb, ℤ, pos, negsuc, nat_abs, length}
+use Rattle.std.specs.Prelude.{ℕ, ◌+◌, cond, List, [], ◌∷◌, ◌++◌, eqb, ℤ, pos, negsuc, nat_abs, length, Result, Ok, Err}
 use Rattle.fields.specs.Text.{text}
 use Rattle.fields.specs.Digits.{digits}
 use Rattle.records.specs.Layout.{account_in, notice_in, key_in}
 use Rattle.notices.specs.Notices.{spaces}
 use Rattle.file.specs.File.{Group}
-use Rattle.verdict.specs.declared.Verdict.{Verdict}
-use Rattle.verdict.specs.declared.Verdict.TheVariants.{Accepted, Rejected}
 use Rattle.table.specs.Table.{cell, ended}
-use Rattle.calls.specs.declared.Answer.{Answer}
-use Rattle.calls.specs.declared.Answer.TheVariants.{Done, Refused}
 use Rattle.journal.specs.declared.Body.{Body}
 use Rattle.journal.specs.declared.Body.TheVariants as body
+use Rattle.ledger.specs.declared.Posted.{Posted}
+use Rattle.rules.specs.declared.Cause.{Cause}
+use Rattle.rules.specs.declared.ErrorCode.{ErrorCode}
+use Rattle.calls.specs.declared.Returned.{Returned}
+use Rattle.rules.specs.Numbers.{cause_number, code_number}
 
 -- ---- an entry's line: 0000000003,file,00,00000000000004250,001,000,000
 -- the tag of an entry; of a body whose fields are not digits it goes by the length: 56 of a request, 16 of a cancel, 8 of a close,
@@ -54,16 +55,16 @@ figure_cells cause change accepted rejected closed =
     ++ ended (digits 3 closed)
 
 -- "00 if the call was carried out, else document 01's number"; "000 where a call has no such figure, and for a refused call"
-abbrev pub answer_cells : Answer → List ℕ
-answer_cells (Done r) = figure_cells 0 r.change r.accepted r.rejected r.closed
-answer_cells (Refused n) = figure_cells n (pos 0) 0 0 0
+abbrev pub answer_cells : Result Returned Cause → List ℕ
+answer_cells (Ok r) = figure_cells 0 r.change r.accepted r.rejected r.closed
+answer_cells (Err c) = figure_cells (cause_number c) (pos 0) 0 0 0
 
 -- the line of a call with this tag: number of the entry (10 digits, from 1), call, cause, change, accepted, rejected, closed
-unfoldable pub call_line : ℕ → ℕ → Answer → List ℕ
+unfoldable pub call_line : ℕ → ℕ → Result Returned Cause → List ℕ
 call_line number tag a = cell (digits 10 number) ++ cell (call_name tag) ++ answer_cells a
 
 -- the line of an entry: its number, its body, its bytes, its answer
-abbrev pub entry_line : ℕ → Body → List ℕ → Answer → List ℕ
+abbrev pub entry_line : ℕ → Body → List ℕ → Result Returned Cause → List ℕ
 entry_line number b bytes a = call_line number (tag_of b bytes) a
 
 -- ---- a group's line: group,000000003,123456780019,0007,SUP,BR09
@@ -73,12 +74,12 @@ first_key [] = spaces 4
 first_key (d ∷ ds) = key_in d
 
 -- `ACF`, or the error code (`BR` and 2 digits)
-abbrev pub verdict_text : Verdict → List ℕ
-verdict_text (Accepted amounts) = text "ACF"
-verdict_text (Rejected n) = text "BR" ++ digits 2 n
+abbrev pub verdict_text : Result Posted ErrorCode → List ℕ
+verdict_text (Ok amounts) = text "ACF"
+verdict_text (Err c) = text "BR" ++ digits 2 (code_number c)
 
 -- the Confirmation Number that the group took (9 digits), the account as sent, the Bill Key as sent, the Notification Code as sent, its verdict
-unfoldable pub group_line : ℕ → Group → Verdict → List ℕ
+unfoldable pub group_line : ℕ → Group → Result Posted ErrorCode → List ℕ
 group_line confirmation g v =
     cell (text "group")
     ++ cell (digits 9 confirmation)
@@ -88,7 +89,7 @@ group_line confirmation g v =
     ++ ended (verdict_text v)
 
 -- "a line for each of its groups, in order": each takes the next Confirmation Number
-unfoldable pub group_lines : ℕ → List Group → List Verdict → List ℕ
+unfoldable pub group_lines : ℕ → List Group → List (Result Posted ErrorCode) → List ℕ
 group_lines confirmation [] vs = []
 group_lines confirmation (g ∷ gs) [] = []
 group_lines confirmation (g ∷ gs) (v ∷ vs) = group_line confirmation g v ++ group_lines (confirmation + 1) gs vs

@@ -1,10 +1,8 @@
 -- The trace of a journal: the lines of its entries in order, each on the ledger that the one before left. Assumes nothing.
-use Rattle.std.specs.Prelude.{ℕ, ◌+◌, List, [], ◌∷◌, ◌++◌}
+use Rattle.std.specs.Prelude.{ℕ, ◌+◌, List, [], ◌∷◌, ◌++◌, Result, Err}
 use Rattle.ledger.specs.Books.{Book}
 use Rattle.file.specs.File.{file_groups}
 use Rattle.table.specs.Table.{stop_line}
-use Rattle.calls.specs.declared.Answer.{Answer}
-use Rattle.calls.specs.declared.Answer.TheVariants.{Refused}
 use Rattle.causes.specs.Causes.{Call, request, file, cancel, close, removal}
 use Rattle.calls.specs.Machine.{step, answer_by}
 use Rattle.calls.specs.Days.{quiet_answer}
@@ -13,20 +11,23 @@ use Rattle.journal.specs.declared.Body.TheVariants as body
 use Rattle.journal.specs.Journal.{Entry, parse, after_entry, first_book, is_bad}
 use Rattle.trace_lines.specs.Lines.{entry_line, group_lines}
 use Rattle.records.specs.Limits.{file_size}
+use Rattle.rules.specs.declared.Cause.{Cause}
+use Rattle.calls.specs.declared.Returned.{Returned}
+use Rattle.rules.specs.declared.Cause.TheVariants.{BadArgument}
 
 -- what a call answers on a ledger, by the machine
-abbrev pub answer_to : Book → Call → Answer
+abbrev pub answer_to : Book → Call → Result Returned Cause
 answer_to k c = answer_by (step k c) (step k c).result
 
 -- what an entry's call answers: a fresh that is a bad entry is no entry, and "a body whose fields are not digits" is "a refused call, cause 02"
-unfoldable pub entry_answer : Book → Body → List ℕ → Answer
+unfoldable pub entry_answer : Book → Body → List ℕ → Result Returned Cause
 entry_answer k (body.Fresh s) bytes = quiet_answer 0
 entry_answer k (body.Request r) bytes = answer_to k (request r file_size)
 entry_answer k body.File bytes = answer_to k (file bytes file_size)
 entry_answer k (body.Cancel id) bytes = answer_to k (cancel id file_size)
 entry_answer k (body.Close d) bytes = answer_to k (close d)
 entry_answer k (body.Removal a) bytes = answer_to k (removal a)
-entry_answer k body.Unread bytes = Refused 2
+entry_answer k body.Unread bytes = Err BadArgument
 
 -- "Under the line of a file that was carried out, a line for each of its groups, in order": a refused file has no verdicts
 unfoldable pub lines_under : Book → Body → List ℕ → List ℕ

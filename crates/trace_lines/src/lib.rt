@@ -9,7 +9,8 @@ ghost use Rattle.fields.specs.Put.{put};
 ghost use Rattle.table.specs.Table.{cell, ended};
 ghost use Rattle.trace_lines.specs.Lines.{call_name, sign_of, change_text, figure_cells, answer_cells, call_line};
 
-use calls::{Answer, Returned};
+use calls::Returned;
+use rules::Cause;
 
 // A number without its sign.
 fn size(x: i64) -> u64
@@ -68,13 +69,13 @@ fn put_figures(out: &mut [u8], at: usize, cause: u64, r: Returned)
 }
 
 // Writes what a call answered, 33 bytes.
-fn put_answer(out: &mut [u8], at: usize, answer: Answer)
+fn put_answer(out: &mut [u8], at: usize, answer: Result<Returned, Cause>)
     requires { at + 33 ≤ length out.old }
     ensures { out.new ≡ put out.old at (answer_cells answer) }
 {
     match answer {
-        Answer::Done(r) => put_figures(out, at, 0, r),
-        Answer::Refused(n) => {
+        Ok(r) => put_figures(out, at, 0, r),
+        Err(cause) => {
             let zeros = Returned {
                 change: 0,
                 written: 0,
@@ -82,7 +83,7 @@ fn put_answer(out: &mut [u8], at: usize, answer: Answer)
                 rejected: 0,
                 closed: 0,
             };
-            put_figures(out, at, n, zeros)
+            put_figures(out, at, cause.number(), zeros)
         }
     }
 }
@@ -117,7 +118,7 @@ fn put_call(out: &mut [u8], at: usize, tag: u8) -> usize
 }
 
 // Writes the line of an entry with this number and tag, at most 52 bytes, and answers where it ends.
-pub fn put_entry_line(out: &mut [u8], at: usize, number: u64, tag: u8, answer: Answer) -> usize
+pub fn put_entry_line(out: &mut [u8], at: usize, number: u64, tag: u8, answer: Result<Returned, Cause>) -> usize
     requires { at + 52 ≤ length out.old }
     ensures { (out.new ≡ put out.old at (call_line number tag answer)) × (result ≡ at + length (call_line number tag answer)) × (result ≤ at + 52) }
 {

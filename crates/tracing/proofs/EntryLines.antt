@@ -17,8 +17,6 @@ use Rattle.records.specs.Layout.{records_from}
 use Rattle.file.specs.File.{Group, records, groups, file_groups}
 use Rattle.group.specs.Groups.{answers, verdicts}
 use Rattle.causes.specs.Causes.{file}
-use Rattle.calls.specs.declared.Answer.{Answer}
-use Rattle.calls.specs.declared.Answer.TheVariants.{Done, Refused}
 use Rattle.calls.specs.Machine.{Outcome}
 use Rattle.calls.proofs.RunLaws.{step_in_lem}
 use Rattle.journal.specs.declared.Body.{Body}
@@ -34,19 +32,22 @@ use Rattle.trace_lines.specs.parts.ReadAnswers.{Lined}
 use Rattle.trace_lines.specs.Trace.{answer_to, entry_answer, lines_under, entry_lines}
 use Rattle.trace_lines.proofs.TraceLaws.{answer-in, Carried, file-done, file-refused, tag_is}
 use Rattle.tracing.specs.parts.Tracing.{is_done, LinesOf}
+use Rattle.std.specs.Prelude.{Result, Ok, Err}
+use Rattle.rules.specs.declared.Cause.{Cause}
+use Rattle.calls.specs.declared.Returned.{Returned}
 
 -- ---- the lines under an entry's line
 module _ (k : Book) (bytes : List ℕ) where
-  carried : (a : Answer) → answer_to k (file bytes 64200) ≡ a → is_done a ≡ true → Carried k bytes
-  carried (Done r) q d = file-done k bytes r q
-  carried (Refused m) q d = absurd (false≢true d)
+  carried : (a : Result Returned Cause) → answer_to k (file bytes 64200) ≡ a → is_done a ≡ true → Carried k bytes
+  carried (Ok r) q d = file-done k bytes r q
+  carried (Err m) q d = absurd (false≢true d)
 
-  refused : (a : Answer) → answer_to k (file bytes 64200) ≡ a → is_done a ≡ false → lines_under k body.File bytes ≡ []
-  refused (Done r) q d = absurd (true≢false d)
-  refused (Refused m) q d = file-refused k bytes m q
+  refused : (a : Result Returned Cause) → answer_to k (file bytes 64200) ≡ a → is_done a ≡ false → lines_under k body.File bytes ≡ []
+  refused (Ok r) q d = absurd (true≢false d)
+  refused (Err m) q d = file-refused k bytes m q
 
   -- an entry that is no file, or a refused file
-  no_lines : (b : Body) (tag : ℕ) (a : Answer) → tag_of b bytes ≡ tag → a ≡ entry_answer k b bytes → (eqb tag 2 && is_done a) ≡ false
+  no_lines : (b : Body) (tag : ℕ) (a : Result Returned Cause) → tag_of b bytes ≡ tag → a ≡ entry_answer k b bytes → (eqb tag 2 && is_done a) ≡ false
       → lines_under k b bytes ≡ []
   unfolding lines_under entry_answer
   no_lines (body.Fresh s) tag a t q f = refl
@@ -57,7 +58,7 @@ module _ (k : Book) (bytes : List ℕ) where
   no_lines (body.Removal r) tag a t q f = refl
   no_lines body.Unread tag a t q f = refl
 
-module _ (number : ℕ) (src : List ℕ) (n : ℕ) (a : Answer) (seen : ℕ) (l : Ledger) (h : sound_ledger l ≡ true) where
+module _ (number : ℕ) (src : List ℕ) (n : ℕ) (a : Result Returned Cause) (seen : ℕ) (l : Ledger) (h : sound_ledger l ≡ true) where
   abbrev bytes : List ℕ
   bytes = part src 3 (n - 3)
 
@@ -122,7 +123,7 @@ module _ (number : ℕ) (src : List ℕ) (n : ℕ) (a : Answer) (seen : ℕ) (l 
         (w.same ∙ ap (put out₀ at) all_lines, omega (arith, x.1, i, w.long, ap length all_lines))
 
 -- ---- what was written of an entry
-module _ (number : ℕ) (src : List ℕ) (n : ℕ) (a : Answer) (sent out₀ : List ℕ) (at : ℕ) (fits : at ≤ length out₀) where
+module _ (number : ℕ) (src : List ℕ) (n : ℕ) (a : Result Returned Cause) (sent out₀ : List ℕ) (at : ℕ) (fits : at ≤ length out₀) where
   abbrev line : List ℕ
   line = call_line number (tag_in src) a
 

@@ -13,7 +13,6 @@ use Rattle.ledger.specs.Books.{Book, book}
 use Rattle.ledger.specs.Sound.{sound_ledger}
 use Rattle.words.specs.Layout.{ledger_of}
 use Rattle.words.proofs.WordPlaceLaws.{rest}
-use Rattle.calls.specs.declared.Answer.{Answer}
 use Rattle.journal.specs.Journal.{Entry, parse, after_entry, after_entries}
 use Rattle.journal.specs.EntryCalls.{entry_written}
 use Rattle.journal.proofs.HeadLaws.{whole-small}
@@ -26,6 +25,9 @@ use Rattle.entries.proofs.FirstMadeLaws.{first-none, left-full, left-none, next_
 use Rattle.trace_lines.specs.Trace.{entry_lines, trace_lines}
 use Rattle.trace_lines.proofs.TraceLaws.{put-begins}
 use Rattle.tracing.specs.parts.Tracing.{LinesOf, Traces, TracesIn}
+use Rattle.std.specs.Prelude.{Result}
+use Rattle.rules.specs.declared.Cause.{Cause}
+use Rattle.calls.specs.declared.Returned.{Returned}
 
 -- ---- entries one after another
 pub lines-append : (number : ℕ) (k : Book) (es fs : List Entry)
@@ -64,7 +66,7 @@ module _ (seen : ℕ) (src ws₀ out₀ ws out : List ℕ) (at k n : ℕ) (w : T
     pub traces-left : (bad : Bool) → r ≡ step.NoEntry bad → 8652 ≤ length out - n → TracesIn seen src ws₀ out₀ ws' out (ran_to at k n false bad)
     traces-left bad q f = let x = stood-left true 0 k (drop at src) ws sent ws' sent' r turn bad q in rw x.1 (ended bad f x.0)
 
-    module _ (m : ℕ) (a : Answer) (q : r ≡ step.Made m a) where
+    module _ (m : ℕ) (a : Result Returned Cause) (q : r ≡ step.Made m a) where
       abbrev was : Stood true 0 k (drop at src) ws sent ws' sent' r turn m a
       was = stood-whole true 0 k (drop at src) ws sent ws' sent' r turn m a q
 

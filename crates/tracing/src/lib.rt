@@ -7,20 +7,21 @@ ghost use Rattle.words.specs.Layout.{ledger_of};
 ghost use Rattle.tracing.specs.parts.Tracing.{is_done, LinesOf, TracesIn, entry_room};
 ghost use Rattle.records.specs.Limits.{file_size};
 
-use calls::Answer;
+use calls::Returned;
 use entries::entry::Stepped;
 use entries::run::Ran;
+use rules::Cause;
 
 // How many bytes the lines of an entry have at most.
 pub const ENTRY_ROOM: usize = 8652;
 
 // Whether a call was carried out.
-fn is_done(a: Answer) -> bool
+fn is_done(a: Result<Returned, Cause>) -> bool
     ensures { result ≡ is_done a }
 {
     match a {
-        Answer::Done(_) => true,
-        Answer::Refused(_) => false,
+        Ok(_) => true,
+        Err(_) => false,
     }
 }
 
@@ -31,7 +32,7 @@ fn put_lines(
     src: &[u8],
     n: usize,
     number: u64,
-    a: Answer,
+    a: Result<Returned, Cause>,
     sent: &[u8],
 ) -> usize
     requires le_n { (3 ≤ n) × (n ≤ length src.now) × (n ≤ file_size + 3) × (file_size ≤ length sent.now) }

@@ -6,12 +6,12 @@ use native.Mathlib.Omega.{arith}
 use lib.Dec.{leb}
 use borrow.Author.Tests.{leb-true, le-leb}
 use Rattle.fields.proofs.BoolLaws.{and_left, and_right, cases}
-use Rattle.rules.specs.declared.Found.TheVariants.{At}
 use Rattle.rules.proofs.LeastLaws.{up-to-hit, up-to-skip, up-to-found, up-to-before}
 use Rattle.units.specs.Calendar.{year, month, day, month_days, is_date}
 use Rattle.units.specs.Days.{first_year, last_date, days_of_years, days_of_months, day_number, next_date}
 use Rattle.units.proofs.MonthLaws.{month-some, month-long, months-most}
 use Rattle.units.proofs.YearLaws.{years-most}
+use Rattle.std.specs.Prelude.{Some}
 
 pub record Parts (d : ℕ) : Type 0 where
   pub from : 1900 ≤ year d
@@ -78,13 +78,13 @@ pub record Next (d r : ℕ) : Type 0 where
   pub after : d < r
   pub between : (e : ℕ) → d < e → e < r → is_date e ≡ false
 
-pub next-found : (d r : ℕ) → Next d r → next_date d ≡ At r
+pub next-found : (d r : ℕ) → Next d r → next_date d ≡ Some r
 unfolding next_date
 next-found d r n =
     let l = date-last r n.date in
     up-to-skip is_date (suc d) r last_date n.after (omega arith) n.between ∙ up-to-hit is_date r last_date l n.date
 
-pub next-date : (d r : ℕ) → next_date d ≡ At r → Next d r
+pub next-date : (d r : ℕ) → next_date d ≡ Some r → Next d r
 unfolding next_date
 next-date d r e =
     let f = up-to-found is_date (suc d) last_date r e in

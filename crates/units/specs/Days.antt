@@ -1,7 +1,6 @@
 -- Days counted from 1 January 1900, of which paper 1 of document 02 has its weekday, "the weekday of a date (1 Monday to 7 Sunday)", and paper 2 its sixty
 -- days; and its twelve months. Assumes nothing.
-use Rattle.std.specs.Prelude.{ℕ, zero, suc, ◌+◌, ◌-◌, ◌%◌, Bool, cond, eqb, ltb}
-use Rattle.rules.specs.declared.Found.{Found}
+use Rattle.std.specs.Prelude.{ℕ, zero, suc, ◌+◌, ◌-◌, ◌%◌, Bool, cond, eqb, ltb, Option}
 use Rattle.rules.specs.Least.{least_up_to}
 use Rattle.units.specs.Calendar.{year, month, day, is_leap, month_days, is_date}
 
@@ -33,7 +32,7 @@ unfoldable pub weekday : ℕ → ℕ
 weekday d = day_number d % 7 + 1
 
 -- the date after d
-unfoldable pub next_date : ℕ → Found
+unfoldable pub next_date : ℕ → Option ℕ
 next_date d = least_up_to is_date (suc d) last_date
 
 -- paper 2 of document 02: "the same day one year past .. (29 February goes to 28)", as yyyymmdd; past 2998 it is no date

@@ -1,7 +1,6 @@
 // Days counted from 1 January 1900: the number of a date, its weekday, and the date after it; whether a date is a year
 // or so many days past another.
-ghost use Rattle.std.specs.Prelude.{◌≡◌, true, ◌-◌, ◌≤◌, ◌<◌, ◌^◌};
-ghost use Rattle.rules.specs.declared.Found.TheVariants.{At};
+ghost use Rattle.std.specs.Prelude.{◌≡◌, true, ◌-◌, ◌≤◌, ◌<◌, ◌^◌, Some};
 ghost use Rattle.units.specs.Calendar.{is_date};
 ghost use Rattle.units.specs.Days.{last_date, days_of_years, days_of_months, day_number, weekday, next_date, year_past, days_past};
 
@@ -56,7 +55,7 @@ impl Date {
     // The date after this one.
     pub fn next(self) -> Date
         requires { (is_date self.0 ≡ true) × (self.0 < last_date) }
-        ensures { next_date self.0 ≡ At result.0 }
+        ensures { next_date self.0 ≡ Some result.0 }
     {
         let d = self.0;
         let y = d / 10000;

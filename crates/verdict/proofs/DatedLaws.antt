@@ -16,9 +16,11 @@ use Rattle.ledger.specs.Bills.{is_open}
 use Rattle.ledger.specs.Limits.{last_sequence}
 use Rattle.ledger.specs.Sound.{sound_removal}
 use Rattle.records.specs.Layout.{sequence_in}
-use Rattle.verdict.specs.declared.Notification.TheVariants.{Supplement}
+use Rattle.records.specs.declared.Notification.TheVariants.{Supplement}
 use Rattle.verdict.specs.Lines.{removed_long, line6}
 use Rattle.verdict.specs.parts.Dated.{dated_terms}
+use Rattle.rules.specs.declared.ErrorCode.TheVariants.{Br05}
+use Rattle.rules.specs.declared.ErrorCode.{ErrorCode}
 
 module _ (t : Terms) where
   pub dated-billing : dated_terms t ≡ true → is_date t.latest.billing.0 ≡ true
@@ -34,8 +36,8 @@ module _ (t : Terms) where
   dates-dated h k = rw (h, k)
 
 -- ---- line 6 for SUP past its dates
-abbrev pub sup-sequence : List ℕ → Terms → List Rule
-sup-sequence d t = rule (not (same_list (sequence_in d) (text "000")) || eqb t.sequence last_sequence) 5 ∷ []
+abbrev pub sup-sequence : List ℕ → Terms → List (Rule ErrorCode)
+sup-sequence d t = rule (not (same_list (sequence_in d) (text "000")) || eqb t.sequence last_sequence) Br05 ∷ []
 
 pub past-dates : (today : Date) (h d : List ℕ) (t : Terms) → is_open today t ≡ false → t.cancelled ≡ false → year_past t.latest.billing.0 today.0 ≡ false
     → removed_long today t.removal ≡ false → first (line6 Supplement today h d t) ≡ first (sup-sequence d t)

@@ -5,10 +5,11 @@ use mathlib.Core.Path.{◌≡◌}
 use mathlib.Core.List.{List}
 use Rattle.units.specs.declared.Date.{Date}
 use Rattle.records.specs.Layout.{rate_code_in, tracking_in, balance_in, sequence_in, consumption_in, detail_charge_in, tier_rate_in, applied_in, owed_in}
-use Rattle.verdict.specs.declared.Notification.TheVariants.{Response, Supplement}
-use Rattle.verdict.specs.declared.Sought.{Sought}
+use Rattle.records.specs.declared.Notification.TheVariants.{Response, Supplement}
 use Rattle.records.specs.Tiers.{tier_consumptions, tier_charges}
 use Rattle.verdict.specs.Lines.{line5, line6, line7, line8, line9, line10, amounts_of, verdict_of}
+use Rattle.std.specs.Prelude.{Option}
+use Rattle.ledger.specs.declared.Terms.{Terms}
 
 -- the two headers and details agree on what is read
 pub record Agree (h h' d d' : List ℕ) : Type 0 where
@@ -23,7 +24,7 @@ pub record Agree (h h' d d' : List ℕ) : Type 0 where
   pub applied : applied_in d ≡ applied_in d'
   pub owed : owed_in d ≡ owed_in d'
 
-module _ (today : Date) (b : Sought) (h h' d d' : List ℕ) (a : Agree h h' d d') where
+module _ (today : Date) (b : Option Terms) (h h' d d' : List ℕ) (a : Agree h h' d d') where
   -- an RSP's Tracking ID is read too
   pub reads-rsp : tracking_in h ≡ tracking_in h' → verdict_of Response today h d b ≡ verdict_of Response today h' d' b
   unfolding verdict_of line5 line6 line7 line8 line9 line10 amounts_of

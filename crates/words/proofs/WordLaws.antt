@@ -13,14 +13,14 @@ use Rattle.ledger.specs.declared.Product.{Product}
 use Rattle.ledger.specs.declared.Product.TheVariants as product
 use Rattle.ledger.specs.declared.Posted.{Posted}
 use Rattle.ledger.specs.declared.Posted.TheVariants as posted
-use Rattle.ledger.specs.declared.Removal.{Removal}
-use Rattle.ledger.specs.declared.Removal.TheVariants.{Never, On}
 use Rattle.ledger.specs.declared.Bill.{Bill}
 use Rattle.ledger.specs.declared.Ledger.{Ledger}
 use Rattle.rules.specs.Lists.{every}
 use Rattle.ledger.specs.Bills.{product_byte, product_of}
 use Rattle.ledger.specs.Sound.{sound_ledger}
 use Rattle.words.specs.Layout.{place_size, ledger_size, mark_word, posted_words, removal_word, last_words, terms_words, bill_words, bills_words, head_words, ledger_words, holds_posted, holds_code, holds_bill, holds_bills, holds_ledger, posted_in, removal_in, code_in, terms_in, bill_in, bills_in, ledger_in, no_ledger, ledger_of, byte_code, removal_said, bill_said}
+use Rattle.std.specs.Prelude.{Option, Some, None}
+use Rattle.units.specs.declared.Date.{Date}
 
 -- ---- one place
 -- n elements from index i on, one by one
@@ -125,7 +125,7 @@ length-posted posted.None = refl
 length-posted (posted.BillReady charge) = refl
 length-posted (posted.Prepay charge applied owed) = refl
 
-pub length_last : (p : Posted) (r : Removal) → length (last_words p r) ≡ 5
+pub length_last : (p : Posted) (r : Option Date) → length (last_words p r) ≡ 5
 length_last p r = simp length-append (omega (arith, length-posted p))
 
 pub length-bill : (b : Bill) → length (bill_words b) ≡ place_size
@@ -141,16 +141,16 @@ mark-back : (m : Bool) → (eqb (mark_word m) 1 ≡ m) × (leb (mark_word m) 1 �
 mark-back true = (refl, refl)
 mark-back false = (refl, refl)
 
-removal-back : (r : Removal) → removal_said r ≡ true → removal_in (removal_word r) ≡ r
-removal-back Never h = refl
-removal-back (On d) h = rw (not-true (eqb d.0 0) h)
+removal-back : (r : Option Date) → removal_said r ≡ true → removal_in (removal_word r) ≡ r
+removal-back None h = refl
+removal-back (Some d) h = rw (not-true (eqb d.0 0) h)
 
 -- a removal date that was read from a word is said by it
 pub removal-read : (w : ℕ) → removal_said (removal_in w) ≡ true
 removal-read w = cases (eqb w 0) (λ e. rw e) (λ e. rw (e, e))
 
 -- the amounts and the removal date at the end of a place
-last-posted : (p : Posted) (r : Removal) (ws : List ℕ) →
+last-posted : (p : Posted) (r : Option Date) (ws : List ℕ) →
     let w = last_words p r ++ ws in
     (posted_in (get_or w 0 0) (get_or w 1 0) (get_or w 2 0) (get_or w 3 0) ≡ p)
     × (holds_posted (get_or w 0 0) (get_or w 1 0) (get_or w 2 0) (get_or w 3 0) ≡ true)

@@ -2,19 +2,18 @@
 -- places of 20 words each, place i from word 4 + 20 * i on. In a place: 0 account, 1 key, 2 to 5 the rate code's four bytes, 6 product (66 B,
 -- 80 P), 7 sequence, 8 count of requests, 9 cancelled (0 or 1), 10 Tracking ID, 11 consumption, 12 Billing Date, 13 From Date, 14 Scheduled
 -- Date, 15 kind of posted amounts (0 none, 1 Bill Ready, 2 Prepay), 16 charge, 17 applied, 18 owed, 19 removal date (0 empty). Assumes nothing.
-use Rattle.std.specs.Prelude.{ℕ, zero, suc, Bool, true, cond, not, ◌&&◌, ◌||◌, List, [], ◌∷◌, ◌++◌, leb, ltb, eqb, length, drop, get_or, replicate}
+use Rattle.std.specs.Prelude.{ℕ, zero, suc, Bool, true, cond, not, ◌&&◌, ◌||◌, List, [], ◌∷◌, ◌++◌, leb, ltb, eqb, length, drop, get_or, replicate, Option, Some, None}
 use Rattle.units.specs.Calendar.{date_of}
 use Rattle.ledger.specs.declared.RateCode.{RateCode}
 use Rattle.ledger.specs.declared.Posted.{Posted}
 use Rattle.ledger.specs.declared.Posted.TheVariants as posted
 use Rattle.ledger.specs.declared.Latest.{Latest}
-use Rattle.ledger.specs.declared.Removal.{Removal}
-use Rattle.ledger.specs.declared.Removal.TheVariants.{Never, On}
 use Rattle.ledger.specs.declared.Terms.{Terms}
 use Rattle.ledger.specs.declared.Bill.{Bill}
 use Rattle.ledger.specs.declared.Ledger.{Ledger}
 use Rattle.ledger.specs.Bills.{product_byte, cents, blank_bill, product_of}
 use Rattle.ledger.specs.Limits.{ledger_places}
+use Rattle.units.specs.declared.Date.{Date}
 
 -- ---- the sizes: the words before the first place, those of a place, the places, and the words of a ledger
 abbrev pub header_size : ℕ
@@ -57,12 +56,12 @@ abbrev pub latest_words : Latest → List ℕ
 latest_words r = r.tracking ∷ r.consumption.0 ∷ r.billing.0 ∷ r.from.0 ∷ r.scheduled.0 ∷ []
 
 -- 19: the removal date, 0 where it is empty
-abbrev pub removal_word : Removal → ℕ
-removal_word Never = 0
-removal_word (On d) = d.0
+abbrev pub removal_word : Option Date → ℕ
+removal_word None = 0
+removal_word (Some d) = d.0
 
 -- 15 to 19
-abbrev pub last_words : Posted → Removal → List ℕ
+abbrev pub last_words : Posted → Option Date → List ℕ
 last_words p r = posted_words p ++ (removal_word r ∷ [])
 
 -- a place's 20 words
@@ -130,8 +129,8 @@ latest_in ws =
     }
 
 -- word 19 of a place
-abbrev pub removal_in : ℕ → Removal
-removal_in w = cond (eqb w 0) Never (On (date_of w))
+abbrev pub removal_in : ℕ → Option Date
+removal_in w = cond (eqb w 0) None (Some (date_of w))
 
 -- words 2 to 5 of a place
 unfoldable pub code_in : List ℕ → RateCode
@@ -185,9 +184,9 @@ ledger_of ws = cond (holds_ledger ws) (ledger_in ws) no_ledger
 abbrev pub byte_code : Bill → Bool
 byte_code b = holds_code b.terms.code.first b.terms.code.second b.terms.code.tens b.terms.code.ones
 
-abbrev pub removal_said : Removal → Bool
-removal_said Never = true
-removal_said (On d) = not (eqb d.0 0)
+abbrev pub removal_said : Option Date → Bool
+removal_said None = true
+removal_said (Some d) = not (eqb d.0 0)
 
 abbrev pub bill_said : Bill → Bool
 bill_said b = byte_code b && removal_said b.terms.removal

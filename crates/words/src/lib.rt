@@ -8,7 +8,7 @@ ghost use Rattle.words.specs.Layout.{place_size, ledger_size, mark_word, terms_w
 ghost use Rattle.ledger.specs.Bills.{product_of};
 ghost use Rattle.units.specs.Calendar.{date_of};
 
-use ledger::{Bill, Identity, Latest, Posted, Product, RateCode, Removal, Terms};
+use ledger::{Bill, Identity, Latest, Posted, Product, RateCode, Terms};
 use units::{Ccf, Cents, Date};
 
 // How many words stand before the first place, how many a place has, how many places there are, and how many words a ledger has.
@@ -105,13 +105,13 @@ fn latest_in(w: &[u64]) -> Latest
 }
 
 // The removal date of a word: 0 is none.
-fn removal_in(w: u64) -> Removal
+fn removal_in(w: u64) -> Option<Date>
     ensures { result ≡ removal_in w }
 {
     if w == 0 {
-        return Removal::Never;
+        return None;
     }
-    Removal::On(Date(w))
+    Some(Date(w))
 }
 
 // A word that is a byte.
@@ -201,12 +201,12 @@ fn wide(x: u8) -> u64
 }
 
 // Word 19 of a place.
-fn removal_word(r: Removal) -> u64
+fn removal_word(r: Option<Date>) -> u64
     ensures { result ≡ removal_word r }
 {
     match r {
-        Removal::Never => 0,
-        Removal::On(d) => d.0,
+        None => 0,
+        Some(d) => d.0,
     }
 }
 

@@ -5,5 +5,5 @@ use borrow.Author.Rules.{sfits_of}
 use Rattle.boundary.proofs.GiveLaws.{stores-done}
 use Rattle.boundary.proofs.give.Goals as goal
 
-pub returns-in-Done : goal.returns-in-Done
-returns-in-Done c = stores-done _ _ c.in-Done.is _ _ _ (to_z-of_z w64 _ (sfits_of c.struct_told-1.given.0.1))
+pub returns-in-Ok : goal.returns-in-Ok
+returns-in-Ok c = stores-done _ _ c.in-Ok.is _ _ _ (to_z-of_z w64 _ (sfits_of c.struct_told-1.given.0.1))

@@ -21,12 +21,12 @@ returns-then-not-good_holidays c =
 pub further-found-requires : goal.further-found-requires
 further-found-requires c = (sym c.valid.ensures ∙ c.if-not-valid.false)
 
-pub returns-in-At : goal.returns-in-At
+pub returns-in-Some : goal.returns-in-Some
 unfolding further_day further_causes
-returns-in-At c =
-    rw ((sym c.valid.ensures ∙ c.if-not-valid.false), le-ltb most_further c.args.number (omega arith), sym c.good_holidays.ensures ∙ c.if-not-good_holidays.false, sym c.further-found.ensures ∙ c.in-At.is)
+returns-in-Some c =
+    rw ((sym c.valid.ensures ∙ c.if-not-valid.false), le-ltb most_further c.args.number (omega arith), sym c.good_holidays.ensures ∙ c.if-not-good_holidays.false, sym c.further-found.ensures ∙ c.in-Some.is)
 
-pub returns-in-Nothing : goal.returns-in-Nothing
+pub returns-in-None : goal.returns-in-None
 unfolding further_day further_causes
-returns-in-Nothing c =
-    rw ((sym c.valid.ensures ∙ c.if-not-valid.false), le-ltb most_further c.args.number (omega arith), sym c.good_holidays.ensures ∙ c.if-not-good_holidays.false, sym c.further-found.ensures ∙ c.in-Nothing.is)
+returns-in-None c =
+    rw ((sym c.valid.ensures ∙ c.if-not-valid.false), le-ltb most_further c.args.number (omega arith), sym c.good_holidays.ensures ∙ c.if-not-good_holidays.false, sym c.further-found.ensures ∙ c.in-None.is)

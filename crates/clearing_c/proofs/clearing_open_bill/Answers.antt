@@ -1,10 +1,10 @@
 -- `clearing_c::clearing_open_bill` meets its contract.
 use mathlib.Core.Path.{sym, ap, ◌∙◌}
-use Rattle.boundary.specs.Boundary.{place_number, place_left}
+use Rattle.boundary.specs.Boundary.{number_of, number_left}
 use Rattle.clearing_c.proofs.clearing_open_bill.Goals as goal
 
-pub returns-in-At : goal.returns-in-At
-returns-in-At c = let e = sym c.open_bill_in-found.ensures ∙ c.in-At.is in record { value = sym (ap place_number e); place_after = sym (ap (place_left _) e) }
+pub returns-in-Ok : goal.returns-in-Ok
+returns-in-Ok c = let e = sym c.open_bill_in-found.ensures ∙ c.in-Ok.is in record { value = sym (ap number_of e); place_after = sym (ap (number_left _) e) }
 
-pub returns-in-Refused : goal.returns-in-Refused
-returns-in-Refused c = let e = sym c.open_bill_in-found.ensures ∙ c.in-Refused.is in record { value = sym (ap place_number e); place_after = sym (ap (place_left _) e) }
+pub returns-in-Err : goal.returns-in-Err
+returns-in-Err c = let e = sym c.open_bill_in-found.ensures ∙ c.in-Err.is in record { value = c.number.ensures ∙ sym (ap number_of e); place_after = sym (ap (number_left _) e) }

@@ -1,10 +1,9 @@
 -- What the contracts of the entries cite: an entry of a journal, made on a ledger that is lent as words. Assumes nothing.
-use Rattle.std.specs.Prelude.{ℕ, ◌-◌, ◌≡◌, Bool, true, false, List}
+use Rattle.std.specs.Prelude.{ℕ, ◌-◌, ◌≡◌, Bool, true, false, List, Result}
 use Rattle.fields.specs.Put.{put, part}
 use Rattle.ledger.specs.Sound.{sound_ledger}
 use Rattle.words.specs.Layout.{ledger_of}
 use Rattle.group.specs.parts.Turns.{if_written}
-use Rattle.calls.specs.declared.Answer.{Answer}
 use Rattle.journal.specs.declared.Body.{Body}
 use Rattle.journal.specs.declared.Head.{Head}
 use Rattle.journal.specs.declared.Head.TheVariants.{Cut, Bad, Whole}
@@ -13,10 +12,12 @@ use Rattle.journal.specs.EntryCalls.{entry_called, entry_written}
 use Rattle.entries.specs.declared.entry.Stepped.{Stepped}
 use Rattle.entries.specs.declared.entry.Stepped.TheVariants as step
 use Rattle.records.specs.Limits.{file_size}
+use Rattle.rules.specs.declared.Cause.{Cause}
+use Rattle.calls.specs.declared.Returned.{Returned}
 
 -- ---- an entry of a journal, whose call is lent so much room
 -- what its call by value leaves, answers and writes, from index `at` of the output on
-pub record EntryCalledIn (writes : Bool) (room at : ℕ) (b : Body) (s ws₀ out₀ ws out : List ℕ) (a : Answer) : Type 0 where
+pub record EntryCalledIn (writes : Bool) (room at : ℕ) (b : Body) (s ws₀ out₀ ws out : List ℕ) (a : Result Returned Cause) : Type 0 where
   pub sound : sound_ledger (ledger_of ws) ≡ true
   pub ledger : ledger_of ws ≡ (entry_called room (ledger_of ws₀) b s).ledger
   pub answer : a ≡ (entry_called room (ledger_of ws₀) b s).answer
@@ -27,7 +28,7 @@ abbrev pub StepOn : Head → Bool → ℕ → List ℕ → List ℕ → List ℕ
 StepOn Cut writes at src ws₀ out₀ ws out r = (ws ≡ ws₀) × (out ≡ out₀) × (r ≡ step.NoEntry false)
 StepOn Bad writes at src ws₀ out₀ ws out r = (ws ≡ ws₀) × (out ≡ out₀) × (r ≡ step.NoEntry true)
 StepOn (Whole b n) writes at src ws₀ out₀ ws out r =
-    (a : Answer) × (r ≡ step.Made n a) × EntryCalledIn writes file_size at b (part src 3 (n - 3)) ws₀ out₀ ws out a
+    (a : Result Returned Cause) × (r ≡ step.Made n a) × EntryCalledIn writes file_size at b (part src 3 (n - 3)) ws₀ out₀ ws out a
 
 abbrev pub SteppedIn : Bool → ℕ → ℕ → List ℕ → List ℕ → List ℕ → List ℕ → List ℕ → Stepped → Type 0
 SteppedIn writes at seen src = StepOn (head_of seen src) writes at src

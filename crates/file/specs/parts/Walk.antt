@@ -1,9 +1,11 @@
 -- The groups by record number, as the code walks: what the contracts of the walks cite. Assumes nothing.
-use Rattle.std.specs.Prelude.{ℕ, zero, suc, ◌+◌, ◌-◌, Bool, cond, ◌&&◌, List, [], ◌∷◌, ◌++◌, take}
+use Rattle.std.specs.Prelude.{ℕ, zero, suc, ◌+◌, ◌-◌, Bool, cond, ◌&&◌, List, [], ◌∷◌, ◌++◌, take, Result, Ok, Err}
 use Rattle.records.specs.Layout.{record_at, records_from, is_rsp, is_sup}
 use Rattle.file.specs.File.{is_header, Group, leading, groups, unfit, passes, line3}
-use Rattle.file.specs.declared.Form.{Form}
-use Rattle.file.specs.declared.Form.TheVariants.{Broken, Unknown, Response, Supplement}
+use Rattle.records.specs.declared.Notification.{Notification}
+use Rattle.records.specs.declared.Notification.TheVariants.{Response, Supplement}
+use Rattle.rules.specs.declared.ErrorCode.{ErrorCode}
+use Rattle.rules.specs.declared.ErrorCode.TheVariants.{Br17, Br19}
 
 -- the records of a file of n records_after record i
 abbrev pub records_after : List ℕ → ℕ → ℕ → List (List ℕ)
@@ -26,5 +28,5 @@ unfoldable pub mark_at : List ℕ → ℕ → ℕ → Bool
 mark_at s n i = is_header (record_at s i) && passes (group_at s i n) && line3 (before s n i ++ later s n i) (group_at s i n)
 
 -- lines 1 and 2 for a header and its only detail
-unfoldable pub pair_form : List ℕ → List ℕ → Form
-pair_form h d = cond (unfit h d) Broken (cond (is_rsp h) Response (cond (is_sup h) Supplement Unknown))
+unfoldable pub pair_form : List ℕ → List ℕ → Result Notification ErrorCode
+pair_form h d = cond (unfit h d) (Err Br17) (cond (is_rsp h) (Ok Response) (cond (is_sup h) (Ok Supplement) (Err Br19)))

@@ -2,10 +2,10 @@
 use Rattle.group.proofs.post.Goals as goal
 
 pub post-requires : goal.post-requires
-post-requires c = rw c.in-Accepted.is at c.requires
+post-requires c = rw c.in-Ok.is at c.requires
 
-pub returns-in-Rejected : goal.returns-in-Rejected
-returns-in-Rejected c = rw c.in-Rejected.is
+pub returns-in-Err : goal.returns-in-Err
+returns-in-Err c = rw c.in-Err.is
 
-pub returns-in-Accepted : goal.returns-in-Accepted
-returns-in-Accepted c = rw c.in-Accepted.is c.post.ensures
+pub returns-in-Ok : goal.returns-in-Ok
+returns-in-Ok c = rw c.in-Ok.is c.post.ensures

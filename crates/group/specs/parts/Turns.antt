@@ -1,5 +1,5 @@
 -- What the contracts of the parts cite: one group's turn on small values, where the bill that it names was found. Assumes nothing.
-use Rattle.std.specs.Prelude.{ℕ, ◌+◌, ◌*◌, ◌^◌, ◌≤◌, ◌≡◌, Bool, true, cond, ◌&&◌, List, [], leb, length}
+use Rattle.std.specs.Prelude.{ℕ, ◌+◌, ◌*◌, ◌^◌, ◌≤◌, ◌≡◌, Bool, true, cond, ◌&&◌, List, [], leb, length, Option, Some, None, Result, Ok, Err}
 use Rattle.fields.specs.Put.{put}
 use Rattle.fields.specs.Field.{field_of, value}
 use Rattle.units.specs.Calendar.{is_date}
@@ -7,8 +7,6 @@ use Rattle.ledger.specs.declared.Identity.{Identity}
 use Rattle.ledger.specs.declared.Bill as bill
 use Rattle.ledger.specs.declared.Ledger.{Ledger}
 use Rattle.ledger.specs.declared.LedgerHeader.{LedgerHeader}
-use Rattle.rules.specs.declared.Found.{Found}
-use Rattle.rules.specs.declared.Found.TheVariants as found
 use Rattle.ledger.specs.Bills.{charge_of, posting}
 use Rattle.rules.specs.Lists.{every, count}
 use Rattle.ledger.specs.Books.{book, live, stored, place_of, total_of, bill_charge, small_charge}
@@ -17,16 +15,15 @@ use Rattle.records.specs.Limits.{file_records, file_size}
 use Rattle.records.specs.Layout.{account_in, key_in, record_at}
 use Rattle.file.specs.File.{Group, asks_id}
 use Rattle.file.specs.parts.Walk.{group_at}
-use Rattle.verdict.specs.declared.Sought.{Sought}
-use Rattle.verdict.specs.declared.Sought.TheVariants as sought
-use Rattle.verdict.specs.declared.Verdict.{Verdict}
-use Rattle.verdict.specs.declared.Verdict.TheVariants.{Accepted, Rejected}
 use Rattle.verdict.specs.parts.Dated.{dated_terms}
 use Rattle.notices.specs.Answers.{acf, rej}
 use Rattle.group.specs.declared.Tally.{Tally}
 use Rattle.group.specs.declared.TurnResult.{TurnResult}
 use Rattle.group.specs.Groups.{verdict_on, taken, answers, verdicts, is_accepted, is_rejected}
 use Rattle.ledger.specs.Limits.{ledger_places, last_sequence, used_up}
+use Rattle.ledger.specs.declared.Terms.{Terms}
+use Rattle.ledger.specs.declared.Posted.{Posted}
+use Rattle.rules.specs.declared.ErrorCode.{ErrorCode}
 
 -- ---- the bill that a group names
 -- the identity that a header and a detail name
@@ -38,17 +35,17 @@ unfoldable pub identity_at : List ℕ → ℕ → ℕ → Identity
 identity_at s i n = cond (leb n (i + 1)) (record { account = 0; key = 0 }) (identity_in (record_at s i) (record_at s (i + 1)))
 
 -- the bill that was found, where b stands at its place
-abbrev pub sought_by : Found → bill.Bill → Sought
-sought_by found.Nothing b = sought.Nothing
-sought_by (found.At p) b = sought.Bill b.terms
+abbrev pub sought_by : Option ℕ → bill.Bill → Option Terms
+sought_by None b = None
+sought_by (Some p) b = Some b.terms
 
 -- what a turn asks of a bill that was found: a sound one has it
 unfoldable pub in_widths : bill.Bill → Bool
 in_widths b = leb b.terms.sequence last_sequence && (small_charge b && dated_terms b.terms)
 
-abbrev pub InWidthsAt : Found → bill.Bill → Type 0
-InWidthsAt (found.At p) b = in_widths b ≡ true
-InWidthsAt found.Nothing b = Unit {0}
+abbrev pub InWidthsAt : Option ℕ → bill.Bill → Type 0
+InWidthsAt (Some p) b = in_widths b ≡ true
+InWidthsAt None b = Unit {0}
 
 -- what a walk over a file's groups asks of a ledger: a sound one has it
 pub record Ready (l : Ledger) : Type 0 where
@@ -60,55 +57,55 @@ pub record Ready (l : Ledger) : Type 0 where
 
 -- ---- what a verdict leaves
 -- an accepted SUP takes a Tracking ID, any other group none
-abbrev pub ids_by : Verdict → Bool → ℕ
-ids_by (Accepted amounts) sup = cond sup 1 0
-ids_by (Rejected n) sup = 0
+abbrev pub ids_by : Result Posted ErrorCode → Bool → ℕ
+ids_by (Ok amounts) sup = cond sup 1 0
+ids_by (Err n) sup = 0
 
 -- the bill at the place that was found: a rejection leaves it as it is
-abbrev pub bill_by : Verdict → Bool → bill.Bill → bill.Bill
-bill_by (Accepted amounts) sup b = posting amounts sup b
-bill_by (Rejected n) sup b = b
+abbrev pub bill_by : Result Posted ErrorCode → Bool → bill.Bill → bill.Bill
+bill_by (Ok amounts) sup b = posting amounts sup b
+bill_by (Err n) sup b = b
 
-abbrev pub header_by : Verdict → Bool → LedgerHeader → LedgerHeader
+abbrev pub header_by : Result Posted ErrorCode → Bool → LedgerHeader → LedgerHeader
 header_by v sup h =
     record { today = h.today; tracking = h.tracking + ids_by v sup; confirmation = h.confirmation + 1; count = h.count }
 
 -- a bill that is posted to has a sequence that can rise
-abbrev pub CanPost : Verdict → bill.Bill → Type 0
-CanPost (Accepted amounts) b = b.terms.sequence ≤ last_sequence
-CanPost (Rejected n) b = Unit {0}
+abbrev pub CanPost : Result Posted ErrorCode → bill.Bill → Type 0
+CanPost (Ok amounts) b = b.terms.sequence ≤ last_sequence
+CanPost (Err n) b = Unit {0}
 
 -- ---- the answer
 -- the bytes that go out, if notices are written
 abbrev pub if_written : Bool → List ℕ → List ℕ
 if_written writes ys = cond writes ys []
 
-unfoldable pub answer_at : Verdict → LedgerHeader → bill.Bill → Group → List ℕ
-answer_at (Accepted amounts) h b g =
+unfoldable pub answer_at : Result Posted ErrorCode → LedgerHeader → bill.Bill → Group → List ℕ
+answer_at (Ok amounts) h b g =
     acf g.header (record { terms = b.terms; tracking = h.tracking; today = h.today; confirmation = h.confirmation })
-answer_at (Rejected n) h b g = rej g.header g.details (record { code = n; today = h.today; confirmation = h.confirmation })
+answer_at (Err n) h b g = rej g.header g.details (record { code = n; today = h.today; confirmation = h.confirmation })
 
 -- how many records it has: a REJ gives every detail back
-abbrev pub records_by : Verdict → Group → ℕ
-records_by (Accepted amounts) g = 1
-records_by (Rejected n) g = length g.details + 1
+abbrev pub records_by : Result Posted ErrorCode → Group → ℕ
+records_by (Ok amounts) g = 1
+records_by (Err n) g = length g.details + 1
 
 -- ---- the counts
 -- the charge that a group posts, and the one that it replaces
-abbrev pub came_by : Verdict → ℕ
-came_by (Accepted amounts) = (charge_of amounts).0
-came_by (Rejected n) = 0
+abbrev pub came_by : Result Posted ErrorCode → ℕ
+came_by (Ok amounts) = (charge_of amounts).0
+came_by (Err n) = 0
 
-abbrev pub went_by : Verdict → bill.Bill → ℕ
-went_by (Accepted amounts) b = bill_charge b
-went_by (Rejected n) b = 0
+abbrev pub went_by : Result Posted ErrorCode → bill.Bill → ℕ
+went_by (Ok amounts) b = bill_charge b
+went_by (Err n) b = 0
 
 -- before the first group
 abbrev pub no_tally : Tally
 no_tally = record { accepted = 0; rejected = 0; written = 0; came = 0; went = 0 }
 
 -- after one more, whose answer has so many bytes
-abbrev pub tallied : Tally → Verdict → bill.Bill → ℕ → Tally
+abbrev pub tallied : Tally → Result Posted ErrorCode → bill.Bill → ℕ → Tally
 tallied c v b size =
     record {
       accepted = c.accepted + cond (is_accepted v) 1 0;
@@ -127,7 +124,7 @@ pub record WithinFile (c : Tally) : Type 0 where
   pub went : c.went ≤ file_records * 10 ^ 13
 
 -- ---- one group's turn: v is its verdict
-pub record TurnLeaves (v : Verdict) (g : Group) (h : LedgerHeader) (b : bill.Bill) (c : Tally) (writes : Bool) (out₀ out : List ℕ) (r : TurnResult) : Type 0 where
+pub record TurnLeaves (v : Result Posted ErrorCode) (g : Group) (h : LedgerHeader) (b : bill.Bill) (c : Tally) (writes : Bool) (out₀ out : List ℕ) (r : TurnResult) : Type 0 where
   pub header : r.update.header ≡ header_by v (asks_id g) h
   pub bill : r.update.bill ≡ bill_by v (asks_id g) b
   pub tally : r.tally ≡ tallied c v b (length (answer_at v h b g))
@@ -146,7 +143,7 @@ pub record FitForTurn (l : Ledger) (c : Tally) : Type 0 where
 
 -- the turn of the group of record i on l: its bill was found, and what the turn left is stored in k
 pub record TurnLeavesOn (s : List ℕ) (i n : ℕ) (duplicate : Bool) (l : Ledger) (c : Tally) (writes : Bool) (out₀ : List ℕ) (k : Ledger) (out : List ℕ) (d : Tally) : Type 0 where
-  pub found : Found
+  pub found : Option ℕ
   pub place : ℕ
   pub result : TurnResult
   pub finds : found ≡ place_of (identity_at s i n) (live l)

@@ -8,4 +8,4 @@ pub returns-then-line-ne8 : goal.returns-then-line-ne8
 returns-then-line-ne8 c = date-not _ c.if-line-ne8.true
 
 pub returns : goal.returns
-returns c = date-is _ _ c.if-line-ne8.false (c.value.ensures ∙ ap value c.read_digits-f.ensures)
+returns c = date-is _ _ c.if-line-ne8.false (c.unwrap_or.ensures ∙ ap value c.read_digits.ensures)

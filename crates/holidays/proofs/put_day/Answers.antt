@@ -5,12 +5,12 @@ use Rattle.fields.proofs.PutLaws.{first, next}
 use Rattle.fields.proofs.DigitLaws.{length_digits}
 use Rattle.holidays.proofs.put_day.Goals as goal
 
-pub returns-in-On : goal.returns-in-On
-returns-in-On c =
+pub returns-in-Ok : goal.returns-in-Ok
+returns-in-Ok c =
     let a = c.args in
     let w1 = first a.out.now 0 _ (omega arith) c.put_digits.ensures (length_digits _ _) in
     let w2 = next w1 _ c.put_bytes.ensures refl in
-    rw c.in-On.is record { value = sym w2.long; out_after = w2.same }
+    rw c.in-Ok.is record { value = sym w2.long; out_after = w2.same }
 
-pub returns-in-Refused : goal.returns-in-Refused
-returns-in-Refused c = rw c.in-Refused.is c.put_refusal.ensures
+pub returns-in-Err : goal.returns-in-Err
+returns-in-Err c = rw (c.in-Err.is, sym c.number.ensures) c.put_refusal.ensures

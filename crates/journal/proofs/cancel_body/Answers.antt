@@ -11,5 +11,5 @@ returns-in_default c = rw (identity-refused _ _ c.read_identity.ensures c.in_def
 pub returns : goal.returns
 unfolding cancel_body
 returns c =
-    let id = identity-is _ _ _ (sym c.read_identity.ensures ∙ c.in-Numeric.is) in
+    let id = identity-is _ _ _ (sym c.read_identity.ensures ∙ c.in-Some.is) in
     rw (id.0, ← id.1)

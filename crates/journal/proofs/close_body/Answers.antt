@@ -12,5 +12,5 @@ returns-in_default c = rw (field-refused _ c.read_field.ensures c.in_default.is)
 pub returns : goal.returns
 unfolding close_body
 returns c =
-    let today = field_is _ _ (sym c.read_field.ensures ∙ c.in-Number.is) in
+    let today = field_is _ _ (sym c.read_field.ensures ∙ c.in-Some.is) in
     rw (today.0, ← today.1)

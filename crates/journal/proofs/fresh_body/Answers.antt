@@ -5,17 +5,17 @@ use mathlib.Core.Bool.{and-false}
 use mathlib.Core.List.{List}
 use Rattle.fields.specs.Put.{part}
 use Rattle.fields.specs.Field.{field_of}
-use Rattle.fields.specs.declared.Field.TheVariants.{Number}
 use Rattle.fields.proofs.HoldLaws.{field_is}
 use Rattle.causes.specs.declared.Start.{Start}
 use Rattle.journal.specs.declared.Body.TheVariants.{Fresh}
 use Rattle.journal.specs.Entries.{fresh_body}
 use Rattle.journal.proofs.BodyLaws.{field-refused}
 use Rattle.journal.proofs.fresh_body.Goals as goal
+use Rattle.std.specs.Prelude.{Some}
 
 -- the body where its fields hold numbers
 fresh-of : (s : List ℕ) (r : Start)
-    → field_of (part s 0 8) ≡ Number r.today.0 → field_of (part s 8 9) ≡ Number r.tracking → field_of (part s 17 9) ≡ Number r.confirmation
+    → field_of (part s 0 8) ≡ Some r.today.0 → field_of (part s 8 9) ≡ Some r.tracking → field_of (part s 17 9) ≡ Some r.confirmation
     → Fresh r ≡ fresh_body s
 unfolding fresh_body
 fresh-of s r today tracking confirmation =

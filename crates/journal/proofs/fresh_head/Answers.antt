@@ -21,8 +21,8 @@ no-fresh body.Unread n h = refl
 pub returns-in_default : goal.returns-in_default
 returns-in_default c = no-fresh c.args.b c.args.end c.in_default.not-Fresh
 
-pub returns-in-Stop : goal.returns-in-Stop
-returns-in-Stop c = rw (c.in-Fresh.is, sym c.fresh_check-check.ensures ∙ c.in-Stop.is)
+pub returns-in-Err : goal.returns-in-Err
+returns-in-Err c = rw (c.in-Fresh.is, sym c.fresh_check-check.ensures ∙ c.in-Err.is)
 
-pub returns-in-Clear : goal.returns-in-Clear
-returns-in-Clear c = rw (c.in-Fresh.is, sym c.fresh_check-check.ensures ∙ c.in-Clear.is)
+pub returns-in-Ok : goal.returns-in-Ok
+returns-in-Ok c = rw (c.in-Fresh.is, sym c.fresh_check-check.ensures ∙ c.in-Ok.is)

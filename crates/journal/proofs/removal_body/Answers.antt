@@ -5,16 +5,16 @@ use mathlib.Core.Bool.{and-false}
 use mathlib.Core.List.{List}
 use Rattle.fields.specs.Put.{part}
 use Rattle.fields.specs.Field.{field_of}
-use Rattle.fields.specs.declared.Field.TheVariants.{Number}
 use Rattle.fields.proofs.HoldLaws.{field_is}
 use Rattle.causes.specs.declared.AccountRemoval.{AccountRemoval}
 use Rattle.journal.specs.declared.Body.TheVariants.{Removal}
 use Rattle.journal.specs.Entries.{removal_body}
 use Rattle.journal.proofs.BodyLaws.{field-refused}
 use Rattle.journal.proofs.removal_body.Goals as goal
+use Rattle.std.specs.Prelude.{Some}
 
 -- the body where its fields hold numbers
-removal-of : (s : List ℕ) (a : AccountRemoval) → field_of (part s 0 12) ≡ Number a.account → field_of (part s 12 8) ≡ Number a.date.0
+removal-of : (s : List ℕ) (a : AccountRemoval) → field_of (part s 0 12) ≡ Some a.account → field_of (part s 12 8) ≡ Some a.date.0
     → Removal a ≡ removal_body s
 unfolding removal_body
 removal-of s a account date =

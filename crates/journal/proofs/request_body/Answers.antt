@@ -6,26 +6,25 @@ use mathlib.Core.List.{List}
 use lib.ListN.{get_or}
 use Rattle.fields.specs.Put.{part}
 use Rattle.fields.specs.Field.{field_of}
-use Rattle.fields.specs.declared.Field.TheVariants.{Number}
 use Rattle.fields.proofs.HoldLaws.{field_is}
 use Rattle.causes.specs.declared.Request.{Request}
 use Rattle.causes.specs.Causes.{code_field}
 use Rattle.journal.specs.declared.Body.TheVariants as body
-use Rattle.journal.specs.declared.IdentityField.TheVariants.{Numeric}
 use Rattle.journal.specs.parts.Fields.{identity_field_of}
 use Rattle.journal.specs.Entries.{request_body}
 use Rattle.journal.proofs.BodyLaws.{field-refused, identity-is, identity-refused, code_in, byte_at}
 use Rattle.journal.proofs.request_body.Goals as goal
+use Rattle.std.specs.Prelude.{Some}
 
 -- the body where its fields hold numbers
 request-of : (s : List ℕ) (r : Request)
     → r.code ≡ code_field s
-    → identity_field_of (part s 5 12) (part s 17 4) ≡ Numeric r.identity
+    → identity_field_of (part s 5 12) (part s 17 4) ≡ Some r.identity
     → r.product ≡ get_or s 21 0
-    → field_of (part s 22 8) ≡ Number r.billing.0
-    → field_of (part s 30 8) ≡ Number r.from.0
-    → field_of (part s 38 10) ≡ Number r.consumption.0
-    → field_of (part s 48 8) ≡ Number r.scheduled.0
+    → field_of (part s 22 8) ≡ Some r.billing.0
+    → field_of (part s 30 8) ≡ Some r.from.0
+    → field_of (part s 38 10) ≡ Some r.consumption.0
+    → field_of (part s 48 8) ≡ Some r.scheduled.0
     → body.Request r ≡ request_body s
 unfolding request_body
 request-of s r code identity product billing from consumption scheduled =

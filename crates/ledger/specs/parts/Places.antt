@@ -1,12 +1,10 @@
 -- A ledger's header and the bills at its places, and the struct after a change of one place. Assumes nothing.
-use Rattle.std.specs.Prelude.{ℕ, zero, suc, ◌+◌, cond, List, [], ◌∷◌, ltb, get_or, set}
+use Rattle.std.specs.Prelude.{ℕ, zero, suc, ◌+◌, cond, List, [], ◌∷◌, ltb, get_or, set, Option, Some, None}
 use Rattle.units.specs.declared.Date.{Date}
 use Rattle.ledger.specs.declared.Bill.{Bill}
 use Rattle.ledger.specs.declared.Ledger.{Ledger}
 use Rattle.ledger.specs.declared.LedgerHeader.{LedgerHeader}
 use Rattle.ledger.specs.declared.Update.{Update}
-use Rattle.rules.specs.declared.Found.{Found}
-use Rattle.rules.specs.declared.Found.TheVariants.{At, Nothing}
 use Rattle.ledger.specs.Bills.{blank_bill}
 use Rattle.ledger.specs.Books.{with_bills, removed_of}
 use Rattle.ledger.specs.Limits.{ledger_places}
@@ -41,9 +39,9 @@ updated l p u = with_header (replaced l p u.bill) u.header
 abbrev pub within : ℕ → ℕ
 within i = cond (ltb i ledger_places) i 127
 
-abbrev pub place_for : Found → ℕ → ℕ
-place_for (At p) count = within p
-place_for Nothing count = within count
+abbrev pub place_for : Option ℕ → ℕ → ℕ
+place_for (Some p) count = within p
+place_for None count = within count
 
 -- with f applied to each of the first n bills
 abbrev pub map_first : (Bill → Bill) → ℕ → List Bill → List Bill

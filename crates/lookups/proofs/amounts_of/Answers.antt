@@ -31,18 +31,18 @@ returns-in_default c =
 
 pub offset_bounds-l-p : goal.offset_bounds-l-p
 offset_bounds-l-p c =
-    let p = spot (of_id c.args.id) c.args.l _ (sym c.find-f.ensures ∙ c.in-At.is) in
+    let p = spot (of_id c.args.id) c.args.l _ (sym c.find-f.ensures ∙ c.in-Some.is) in
     omega (arith, p.below, ledger-count c.args.l (sym c.sound.ensures ∙ c.if-not-sound.false))
 
 pub bounds-l-p : goal.bounds-l-p
 bounds-l-p c =
-    let p = spot (of_id c.args.id) c.args.l _ (sym c.find-f.ensures ∙ c.in-At.is) in
+    let p = spot (of_id c.args.id) c.args.l _ (sym c.find-f.ensures ∙ c.in-Some.is) in
     omega (arith, p.below, ledger-count c.args.l (sym c.sound.ensures ∙ c.if-not-sound.false))
 
 pub returns : goal.returns
 unfolding amount_causes amounts_in
 returns c =
-    let p = spot (of_id c.args.id) c.args.l _ (sym c.find-f.ensures ∙ c.in-At.is) in
+    let p = spot (of_id c.args.id) c.args.l _ (sym c.find-f.ensures ∙ c.in-Some.is) in
     let g : good_identity c.args.id ≡ true = sym c.good_identity.ensures ∙ c.if-not-good_identity.false in
     rw (
       c.counted.ensures,

@@ -1,13 +1,10 @@
 -- The walk over the bills that finds the open one due first: what it holds, bill after bill. Assumes nothing.
-use Rattle.std.specs.Prelude.{ℕ, suc, Bool, true, false, not, cond, ◌&&◌, List, [], ◌∷◌, leb}
+use Rattle.std.specs.Prelude.{ℕ, suc, Bool, true, false, not, cond, ◌&&◌, List, [], ◌∷◌, leb, Option, Some, None, Result, Ok}
 use Rattle.units.specs.declared.Date.{Date}
 use Rattle.ledger.specs.declared.Bill.{Bill}
-use Rattle.rules.specs.declared.Found.{Found}
-use Rattle.rules.specs.declared.Found.TheVariants.{At, Nothing}
-use Rattle.rules.specs.declared.Check.TheVariants.{Clear}
 use Rattle.lookups.specs.declared.DueFirst.{DueFirst}
-use Rattle.lookups.specs.declared.Place.{Place}
 use Rattle.lookups.specs.Lookups.{is_open_of, due, place_by}
+use Rattle.rules.specs.declared.Cause.{Cause}
 
 -- before the first bill
 abbrev pub none_due : DueFirst
@@ -27,9 +24,9 @@ due_after account today p h [] = h
 due_after account today p h (b ∷ bs) = due_after account today (suc p) (due_with account today p b h) bs
 
 -- what it found
-abbrev pub found_due : DueFirst → Found
-found_due h = cond h.held (At h.place) Nothing
+abbrev pub found_due : DueFirst → Option ℕ
+found_due h = cond h.held (Some h.place) None
 
 -- the answer where 2 is not against it
-abbrev pub place_due : DueFirst → Place
-place_due h = place_by Clear (found_due h)
+abbrev pub place_due : DueFirst → Result ℕ Cause
+place_due h = place_by (Ok tt) (found_due h)

@@ -31,11 +31,10 @@ returns-in_default c =
 pub bill_at-b-requires : goal.bill_at-b-requires
 bill_at-b-requires c =
     let s = sym c.sound.ensures ∙ c.if-not-sound.false in
-    let o = amounts-spot (ledger_of c.args.ws.now) c.args.id s (sym c.good_identity.ensures ∙ c.if-not-good_identity.false) c.header-h.result c.header-h.ensures _ c.find-f.ensures _ c.in-At.is in
+    let o = amounts-spot (ledger_of c.args.ws.now) c.args.id s (sym c.good_identity.ensures ∙ c.if-not-good_identity.false) c.header-h.result c.header-h.ensures _ c.find-f.ensures _ c.in-Some.is in
     (sound-holds _ s, omega (arith, o.below, ledger-count (ledger_of c.args.ws.now) s))
 
 pub returns : goal.returns
 returns c =
-    c.counted.ensures
-    ∙ ap (λ (b : Bill). counted_by b.posted) c.bill_at-b.ensures
-    ∙ amounts-at (ledger_of c.args.ws.now) c.args.id (sym c.sound.ensures ∙ c.if-not-sound.false) (sym c.good_identity.ensures ∙ c.if-not-good_identity.false) c.header-h.result c.header-h.ensures _ c.find-f.ensures _ c.in-At.is
+    rw (c.counted.ensures, c.bill_at-b.ensures)
+    (amounts-at (ledger_of c.args.ws.now) c.args.id (sym c.sound.ensures ∙ c.if-not-sound.false) (sym c.good_identity.ensures ∙ c.if-not-good_identity.false) c.header-h.result c.header-h.ensures _ c.find-f.ensures _ c.in-Some.is)

@@ -1,18 +1,18 @@
 -- The code, account and Bill Key of a group as one number, which the walk over pairs compares. Assumes nothing.
-use Rattle.std.specs.Prelude.{ℕ, ◌+◌, ◌*◌, ◌%◌, cond, List, eqb}
+use Rattle.std.specs.Prelude.{ℕ, ◌+◌, ◌*◌, ◌%◌, cond, List, eqb, Result, Ok, Err}
 use Rattle.fields.specs.Field.{field_of, value}
 use Rattle.records.specs.Layout.{record_at, account_in, key_in}
-use Rattle.file.specs.declared.Form.{Form}
-use Rattle.file.specs.declared.Form.TheVariants.{Broken, Unknown, Response, Supplement}
 use Rattle.file.specs.File.{is_header, Group, detail_of, form_of}
 use Rattle.file.specs.parts.Walk.{group_at}
+use Rattle.records.specs.declared.Notification.{Notification}
+use Rattle.records.specs.declared.Notification.TheVariants.{Response, Supplement}
+use Rattle.rules.specs.declared.ErrorCode.{ErrorCode}
 
 -- 0 for a group that fails line 1 or 2
-abbrev pub code_number : Form → ℕ
-code_number Broken = 0
-code_number Unknown = 0
-code_number Response = 1
-code_number Supplement = 2
+abbrev pub code_number : Result Notification ErrorCode → ℕ
+code_number (Err c) = 0
+code_number (Ok Response) = 1
+code_number (Ok Supplement) = 2
 
 unfoldable pub named_by : List ℕ → List ℕ → ℕ → ℕ
 named_by h d code = code * 10000000000000000 + (value (field_of (account_in h)) * 10000 + value (field_of (key_in d)))

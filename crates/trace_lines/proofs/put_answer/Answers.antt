@@ -1,8 +1,9 @@
 -- `trace_lines::put_answer` meets its contract.
+use mathlib.Core.Path.{sym}
 use Rattle.trace_lines.proofs.put_answer.Goals as goal
 
-pub returns-in-Done : goal.returns-in-Done
-returns-in-Done c = rw c.in-Done.is c.put_figures.ensures
+pub returns-in-Ok : goal.returns-in-Ok
+returns-in-Ok c = rw c.in-Ok.is c.put_figures.ensures
 
-pub returns-in-Refused : goal.returns-in-Refused
-returns-in-Refused c = rw c.in-Refused.is c.put_figures-in-Refused.ensures
+pub returns-in-Err : goal.returns-in-Err
+returns-in-Err c = rw (c.in-Err.is, sym c.number.ensures) c.put_figures-in-Err.ensures

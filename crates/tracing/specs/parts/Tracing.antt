@@ -1,12 +1,10 @@
 -- What a run over the entries at the start of some bytes leaves, and the lines that it writes. Assumes nothing.
-use Rattle.std.specs.Prelude.{ℕ, ◌+◌, ◌-◌, ◌≤◌, ◌≡◌, Bool, true, false, List, ◌++◌, ltb, length}
+use Rattle.std.specs.Prelude.{ℕ, ◌+◌, ◌-◌, ◌≤◌, ◌≡◌, Bool, true, false, List, ◌++◌, ltb, length, Result, Ok, Err}
 use Rattle.fields.specs.Put.{put, part}
 use Rattle.ledger.specs.declared.Ledger.{Ledger}
 use Rattle.ledger.specs.Books.{book}
 use Rattle.ledger.specs.Sound.{sound_ledger}
 use Rattle.words.specs.Layout.{ledger_of}
-use Rattle.calls.specs.declared.Answer.{Answer}
-use Rattle.calls.specs.declared.Answer.TheVariants.{Done, Refused}
 use Rattle.journal.specs.declared.Body.{Body}
 use Rattle.journal.specs.declared.Head.TheVariants.{Whole}
 use Rattle.journal.specs.Entries.{head_of}
@@ -16,18 +14,20 @@ use Rattle.entries.specs.declared.run.Ran.{Ran}
 use Rattle.entries.specs.parts.Running.{entry_at, FirstMade, NoneLeft}
 use Rattle.trace_lines.specs.Trace.{entry_lines, trace_lines}
 use Rattle.records.specs.Limits.{file_size}
+use Rattle.rules.specs.declared.Cause.{Cause}
+use Rattle.calls.specs.declared.Returned.{Returned}
 
 -- a call was carried out
-abbrev pub is_done : Answer → Bool
-is_done (Done r) = true
-is_done (Refused n) = false
+abbrev pub is_done : Result Returned Cause → Bool
+is_done (Ok r) = true
+is_done (Err n) = false
 
 -- an entry's line has at most 52 bytes, and each line of its at most 200 groups at most 43
 abbrev pub entry_room : ℕ
 entry_room = 8652
 
 -- on whatever ledger the call of the entry answered a and wrote what sent begins with: the lines of the entry were put at `at` and end at r
-pub record LinesOf (number : ℕ) (src : List ℕ) (n : ℕ) (a : Answer) (sent out₀ : List ℕ) (at : ℕ) (out : List ℕ) (r : ℕ) : Type 0 where
+pub record LinesOf (number : ℕ) (src : List ℕ) (n : ℕ) (a : Result Returned Cause) (sent out₀ : List ℕ) (at : ℕ) (out : List ℕ) (r : ℕ) : Type 0 where
   pub lines :
       (seen : ℕ) (l : Ledger) (b : Body) (rest : List ℕ) → head_of seen src ≡ Whole b n → sound_ledger l ≡ true
       → a ≡ (entry_called file_size l b (part src 3 (n - 3))).answer → sent ≡ entry_written file_size l b (part src 3 (n - 3)) ++ rest

@@ -6,7 +6,7 @@ use Rattle.verdict.proofs.removed_long.Goals as goal
 
 pub is_days_past-requires : goal.is_days_past-requires
 is_days_past-requires c =
-    (c.requires.0, ap sound_removal (sym c.in-On.is) ∙ c.requires.1, omega arith)
+    (c.requires.0, ap sound_removal (sym c.in-Some.is) ∙ c.requires.1, omega arith)
 
-pub returns-in-On : goal.returns-in-On
-returns-in-On c = rw c.in-On.is c.is_days_past.ensures
+pub returns-in-Some : goal.returns-in-Some
+returns-in-Some c = rw c.in-Some.is c.is_days_past.ensures

@@ -6,4 +6,4 @@ pub returns-in_default : goal.returns-in_default
 returns-in_default c = rw (sym c.tier_1_rate.ensures ∙ c.in_default.is)
 
 pub returns : goal.returns
-returns c = rw (sym c.tier_1_rate.ensures ∙ c.in-Number.is)
+returns c = rw (sym c.tier_1_rate.ensures ∙ c.in-Some.is)

@@ -3,10 +3,10 @@ use mathlib.Core.Path.{sym, ◌∙◌}
 use Rattle.calls.specs.Days.{fresh_by, fresh_called}
 use Rattle.calls.proofs.days.fresh.Goals as goal
 
-pub returns-in-Stop : goal.returns-in-Stop
+pub returns-in-Err : goal.returns-in-Err
 unfolding fresh_by fresh_called
-returns-in-Stop c = rw (sym c.fresh_check-check.ensures ∙ c.in-Stop.is)
+returns-in-Err c = rw (sym c.fresh_check-check.ensures ∙ c.in-Err.is)
 
-pub returns-in-Clear : goal.returns-in-Clear
+pub returns-in-Ok : goal.returns-in-Ok
 unfolding fresh_by fresh_called
-returns-in-Clear c = rw (sym c.fresh_check-check.ensures ∙ c.in-Clear.is, c.empty.ensures, c.quiet.ensures)
+returns-in-Ok c = rw (sym c.fresh_check-check.ensures ∙ c.in-Ok.is, c.empty.ensures, c.quiet.ensures)

@@ -16,16 +16,16 @@ has_account-held-requires c = ledger-count c.args.l c.requires
 pub removed-next-requires : goal.removed-next-requires
 removed-next-requires c = ledger-count c.args.l c.requires
 
-pub returns-in-Stop : goal.returns-in-Stop
-returns-in-Stop c =
+pub returns-in-Err : goal.returns-in-Err
+returns-in-Err c =
     let a = c.args in
     called-stop a.l (removal a.a) _
-    (removal-cause a.l a.a c.requires _ c.has_account-held.ensures _ _ c.removal_check-check.ensures c.in-Stop.is)
+    (removal-cause a.l a.a c.requires _ c.has_account-held.ensures _ _ c.removal_check-check.ensures c.in-Err.is)
 
-pub returns-in-Clear : goal.returns-in-Clear
-returns-in-Clear c =
+pub returns-in-Ok : goal.returns-in-Ok
+returns-in-Ok c =
     let a = c.args in
     let w : a.l.count ≤ length a.l.bills = omega (arith, places a.l _ c.well_formed.0, ledger-count a.l c.requires) in
     rw (c.quiet.ensures, c.removed-next.ensures)
     (sym (removal-done a.l a.a w
-    (removal-cause a.l a.a c.requires _ c.has_account-held.ensures _ _ c.removal_check-check.ensures c.in-Clear.is)))
+    (removal-cause a.l a.a c.requires _ c.has_account-held.ensures _ _ c.removal_check-check.ensures c.in-Ok.is)))

@@ -18,14 +18,14 @@ returns-in_default c = rw (sym c.good_identity.ensures ∙ c.if-not-good_identit
 
 pub returns-then-cancelled : goal.returns-then-cancelled
 unfolding cancel_causes
-returns-then-cancelled c = rw (sym c.good_identity.ensures ∙ c.if-not-good_identity.false, le-ltb _ _ c.if-room-lt-NOTICE_SIZE.false, c.in-Bill.is, c.if-cancelled.true)
+returns-then-cancelled c = rw (sym c.good_identity.ensures ∙ c.if-not-good_identity.false, le-ltb _ _ c.if-room-lt-NOTICE_SIZE.false, c.in-Some.is, c.if-cancelled.true)
 
 pub returns-then-lacks : goal.returns-then-lacks
 unfolding cancel_causes
 returns-then-lacks c =
-    rw (sym c.good_identity.ensures ∙ c.if-not-good_identity.false, le-ltb _ _ c.if-room-lt-NOTICE_SIZE.false, c.in-Bill.is, c.if-cancelled.false, sym c.lacks.ensures ∙ c.if-lacks.true)
+    rw (sym c.good_identity.ensures ∙ c.if-not-good_identity.false, le-ltb _ _ c.if-room-lt-NOTICE_SIZE.false, c.in-Some.is, c.if-cancelled.false, sym c.lacks.ensures ∙ c.if-lacks.true)
 
 pub returns : goal.returns
 unfolding cancel_causes
 returns c =
-    rw (sym c.good_identity.ensures ∙ c.if-not-good_identity.false, le-ltb _ _ c.if-room-lt-NOTICE_SIZE.false, c.in-Bill.is, c.if-cancelled.false, sym c.lacks.ensures ∙ c.if-lacks.false)
+    rw (sym c.good_identity.ensures ∙ c.if-not-good_identity.false, le-ltb _ _ c.if-room-lt-NOTICE_SIZE.false, c.in-Some.is, c.if-cancelled.false, sym c.lacks.ensures ∙ c.if-lacks.false)

@@ -1,8 +1,9 @@
 -- `causes::checks::request_check` meets its contract, cause by cause.
 use mathlib.Core.Path.{sym, ◌∙◌}
 use borrow.Author.Tests.{lt-ltb, le-ltb}
-use Rattle.verdict.proofs.RuleLaws.{first-stop, first-clear}
+use Rattle.rules.proofs.RuleLaws.{first-stop, first-clear}
 use Rattle.causes.specs.Causes.{request_causes}
+use Rattle.std.proofs.Common.{rules}
 use Rattle.causes.proofs.checks.request_check.Goals as goal
 
 pub returns-then-not-good_request : goal.returns-then-not-good_request
@@ -17,20 +18,20 @@ pub returns-then-before : goal.returns-then-before
 unfolding request_causes
 returns-then-before c = rw (sym c.good_request.ensures ∙ c.if-not-good_request.false, le-ltb _ _ c.if-room-lt-NOTICE_SIZE.false, sym c.before-2.ensures ∙ c.if-before.true)
 
-pub returns-in-Stop : goal.returns-in-Stop
+pub returns-in_err-bill_check : goal.returns-in_err-bill_check
 unfolding request_causes
-returns-in-Stop c =
+returns-in_err-bill_check c =
     -- past cause 9 what is left is the bill's causes, and 12
-    rw (sym c.good_request.ensures ∙ c.if-not-good_request.false, le-ltb _ _ c.if-room-lt-NOTICE_SIZE.false, sym c.before-2.ensures ∙ c.if-before.false, first-stop _ _ (sym c.bill_check-check.ensures ∙ c.in-Stop.is))
+    rw (sym c.good_request.ensures ∙ c.if-not-good_request.false, le-ltb _ _ c.if-room-lt-NOTICE_SIZE.false, sym c.before-2.ensures ∙ c.if-before.false, first-stop _ _ (sym c.bill_check.ensures ∙ c.in_err-bill_check.was)) (search rules)
 
 pub returns-then-lacks : goal.returns-then-lacks
 unfolding request_causes
 returns-then-lacks c =
     -- past cause 9 what is left is the bill's causes, and 12
-    rw (sym c.good_request.ensures ∙ c.if-not-good_request.false, le-ltb _ _ c.if-room-lt-NOTICE_SIZE.false, sym c.before-2.ensures ∙ c.if-before.false, first-clear _ _ (sym c.bill_check-check.ensures ∙ c.in_default.is), sym c.lacks.ensures ∙ c.if-lacks.true)
+    rw (sym c.good_request.ensures ∙ c.if-not-good_request.false, le-ltb _ _ c.if-room-lt-NOTICE_SIZE.false, sym c.before-2.ensures ∙ c.if-before.false, first-clear _ _ (sym c.bill_check.ensures ∙ c.in_ok-bill_check.was), sym c.lacks.ensures ∙ c.if-lacks.true)
 
 pub returns : goal.returns
 unfolding request_causes
 returns c =
     -- past cause 9 what is left is the bill's causes, and 12
-    rw (sym c.good_request.ensures ∙ c.if-not-good_request.false, le-ltb _ _ c.if-room-lt-NOTICE_SIZE.false, sym c.before-2.ensures ∙ c.if-before.false, first-clear _ _ (sym c.bill_check-check.ensures ∙ c.in_default.is), sym c.lacks.ensures ∙ c.if-lacks.false)
+    rw (sym c.good_request.ensures ∙ c.if-not-good_request.false, le-ltb _ _ c.if-room-lt-NOTICE_SIZE.false, sym c.before-2.ensures ∙ c.if-before.false, first-clear _ _ (sym c.bill_check.ensures ∙ c.in_ok-bill_check.was), sym c.lacks.ensures ∙ c.if-lacks.false)

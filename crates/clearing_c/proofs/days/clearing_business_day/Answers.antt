@@ -1,8 +1,8 @@
 -- `clearing_c::days::clearing_business_day` meets its contract: the day that was found is stored.
 use mathlib.Core.Path.{ap, ◌∙◌}
-use Rattle.boundary.specs.Boundary.{date_number, date_left}
+use Rattle.boundary.specs.Boundary.{number_of, date_left}
 use Rattle.clearing_c.proofs.days.clearing_business_day.Goals as goal
 
 pub returns : goal.returns
 returns c =
-    let e = c.business_day-found.ensures in record { value = c.store_day.ensures.value ∙ ap date_number e; day_after = c.store_day.ensures.day_after ∙ ap (date_left _) e }
+    let e = c.business_day-found.ensures in record { value = c.store_day.ensures.value ∙ ap number_of e; day_after = c.store_day.ensures.day_after ∙ ap (date_left _) e }

@@ -1,8 +1,8 @@
 -- `decisions::notice::previous` meets its contract, by the place that was told.
 use Rattle.decisions.proofs.notice.previous.Goals as goal
 
-pub returns-in-Nothing : goal.returns-in-Nothing
-returns-in-Nothing c = rw c.in-Nothing.is
+pub returns-in-None : goal.returns-in-None
+returns-in-None c = rw c.in-None.is
 
-pub returns-in-At : goal.returns-in-At
-returns-in-At c = rw c.in-At.is
+pub returns-in-Some : goal.returns-in-Some
+returns-in-Some c = rw c.in-Some.is

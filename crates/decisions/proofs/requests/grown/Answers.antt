@@ -1,5 +1,5 @@
 -- `decisions::requests::grown` meets its contract.
 use Rattle.decisions.proofs.requests.grown.Goals as goal
 
-pub returns-in-Nothing : goal.returns-in-Nothing
-returns-in-Nothing c = rw c.in-Nothing.is
+pub returns-in-None : goal.returns-in-None
+returns-in-None c = rw c.in-None.is

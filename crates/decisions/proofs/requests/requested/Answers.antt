@@ -4,10 +4,10 @@ use native.Mathlib.Omega.{arith}
 use Rattle.decisions.proofs.requests.requested.Goals as goal
 
 pub request-requires : goal.request-requires
-request-requires c = let h = rw c.in-At.is at c.requires in (h.0, omega (arith, h.1))
+request-requires c = let h = rw c.in-Some.is at c.requires in (h.0, omega (arith, h.1))
 
-pub returns-in-Nothing : goal.returns-in-Nothing
-returns-in-Nothing c = rw c.in-Nothing.is c.new_bill.ensures
+pub returns-in-None : goal.returns-in-None
+returns-in-None c = rw c.in-None.is c.new_bill.ensures
 
-pub returns-in-At : goal.returns-in-At
-returns-in-At c = rw c.in-At.is (c.request.ensures ∙ rw c.latest_of.ensures)
+pub returns-in-Some : goal.returns-in-Some
+returns-in-Some c = rw c.in-Some.is (c.request.ensures ∙ rw c.latest_of.ensures)

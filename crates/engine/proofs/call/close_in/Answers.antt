@@ -1,5 +1,6 @@
 -- `engine::call::close_in` meets its contract, by the cause that was told.
-use mathlib.Core.Path.{◌∙◌}
+use Rattle.std.proofs.Common.{rules, Err}
+use mathlib.Core.Path.{◌≡◌, ◌∙◌}
 use Rattle.words.proofs.WordLaws.{sound-holds}
 use Rattle.group.proofs.ReadyLaws.{sound-ready}
 use Rattle.engine.proofs.WordCalls.{close-stops, close-made}
@@ -8,9 +9,10 @@ use Rattle.engine.proofs.call.close_in.Goals as goal
 pub header-h-requires : goal.header-h-requires
 header-h-requires c = (sound-holds _ c.requires)
 
-pub returns-in-Stop : goal.returns-in-Stop
-returns-in-Stop c =
-    let x = close-stops c.args.ws.now c.requires c.args.d _ c.header-h.ensures _ c.close_check-check.ensures _ c.in-Stop.is in ((sound-holds _ c.requires), x.0, x.1)
+pub returns-in_err-close_check : goal.returns-in_err-close_check
+returns-in_err-close_check c =
+    let e : c.from_residual.result ≡ Err c.in_err-close_check.field-0.0 = search rules in
+    let x = close-stops c.args.ws.now c.requires c.args.d _ c.header-h.ensures _ c.close_check.ensures _ (c.in_err-close_check.was) in (sound-holds _ c.requires, x.0, rw e x.1)
 
 pub closed_by-closed-requires : goal.closed_by-closed-requires
 closed_by-closed-requires c =
@@ -22,4 +24,4 @@ put_header-requires c =
 
 pub returns : goal.returns
 returns c =
-    let x = close-made c.args.ws.now c.requires c.args.d _ c.header-h.ensures _ c.close_check-check.ensures c.in_default.is _ c.closed_by-closed.ensures in (c.put_header.ensures.0, c.put_header.ensures.1 ∙ x.0, c.quiet.ensures ∙ x.1)
+    let x = close-made c.args.ws.now c.requires c.args.d _ c.header-h.ensures _ c.close_check.ensures (c.in_ok-close_check.was) _ c.closed_by-closed.ensures in (c.put_header.ensures.0, c.put_header.ensures.1 ∙ x.0, c.quiet.ensures ∙ x.1)

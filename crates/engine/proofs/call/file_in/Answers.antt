@@ -1,5 +1,6 @@
 -- `engine::call::file_in` meets its contract, by the cause that was told.
-use mathlib.Core.Path.{refl, ap, ◌∙◌}
+use Rattle.std.proofs.Common.{rules, Err}
+use mathlib.Core.Path.{◌≡◌, refl, ap, ◌∙◌}
 use native.Mathlib.Omega.{arith}
 use Rattle.ledger.specs.declared.LedgerHeader.{LedgerHeader}
 use Rattle.words.specs.Layout.{ledger_of}
@@ -14,20 +15,21 @@ use Rattle.engine.proofs.call.file_in.Goals as goal
 pub header-h-requires : goal.header-h-requires
 header-h-requires c = (sound-holds _ c.requires.0)
 
-pub file_check-check-requires : goal.file_check-check-requires
-file_check-check-requires c = let r = sound-ready _ c.requires.0 in (rw c.header-h.ensures r.tracking, rw c.header-h.ensures r.confirmation)
+pub file_check-requires : goal.file_check-requires
+file_check-requires c = let r = sound-ready _ c.requires.0 in (rw c.header-h.ensures r.tracking, rw c.header-h.ensures r.confirmation)
 
-pub returns-in-Stop : goal.returns-in-Stop
-returns-in-Stop c =
-    stopped-in c.args.writes _ _ _ (sound-holds _ c.requires.0) _ (file-stops (ledger_of c.args.ws.now) c.requires.0 c.args.s.now c.args.room _ (c.file_check-check.ensures ∙ ap (λ (t : LedgerHeader). first (file_causes c.args.s.now c.args.room t.tracking t.confirmation)) c.header-h.ensures) _ c.in-Stop.is)
+pub returns-in_err-file_check : goal.returns-in_err-file_check
+returns-in_err-file_check c =
+    let e : c.from_residual.result ≡ Err c.in_err-file_check.field-0.0 = search rules in
+    rw e (stopped-in c.args.writes _ _ _ (sound-holds _ c.requires.0) _ (file-stops (ledger_of c.args.ws.now) c.requires.0 c.args.s.now c.args.room _ (c.file_check.ensures ∙ ap (λ (t : LedgerHeader). first (file_causes c.args.s.now c.args.room t.tracking t.confirmation)) c.header-h.ensures) _ (c.in_err-file_check.was)))
 
 pub take-c-requires : goal.take-c-requires
 take-c-requires c =
-    let x = file-short (ledger_of c.args.ws.now) c.requires.0 c.args.s.now c.args.room _ (c.file_check-check.ensures ∙ ap (λ (t : LedgerHeader). first (file_causes c.args.s.now c.args.room t.tracking t.confirmation)) c.header-h.ensures) c.in_default.is in record { n_le_file_records = (omega (arith, x.0), omega arith, λ w. omega (arith, x.1, c.requires.1 w)); ws_value = ((sound-holds _ c.requires.0), sound-ready _ c.requires.0) }
+    let x = file-short (ledger_of c.args.ws.now) c.requires.0 c.args.s.now c.args.room _ (c.file_check.ensures ∙ ap (λ (t : LedgerHeader). first (file_causes c.args.s.now c.args.room t.tracking t.confirmation)) c.header-h.ensures) (c.in_ok-file_check.was) in record { n_le_file_records = (omega (arith, x.0), omega arith, λ w. omega (arith, x.1, c.requires.1 w)); ws_value = ((sound-holds _ c.requires.0), sound-ready _ c.requires.0) }
 
 pub cleared-requires : goal.cleared-requires
 cleared-requires c = (omega (arith, c.take-c.ensures.1.came), omega (arith, c.take-c.ensures.1.went))
 
 pub returns : goal.returns
 returns c =
-    rw c.cleared.ensures (carried-in c.args.writes _ _ _ (sound-holds _ c.requires.0) _ _ _ (file-done (ledger_of c.args.ws.now) c.requires.0 c.args.s.now c.args.room _ (c.file_check-check.ensures ∙ ap (λ (t : LedgerHeader). first (file_causes c.args.s.now c.args.room t.tracking t.confirmation)) c.header-h.ensures) c.in_default.is _ _ _ _ _ c.take-c.ensures.1) _ _ c.take-c.ensures.0 refl c.take-c.ensures.1.bytes)
+    rw c.cleared.ensures (carried-in c.args.writes _ _ _ (sound-holds _ c.requires.0) _ _ _ (file-done (ledger_of c.args.ws.now) c.requires.0 c.args.s.now c.args.room _ (c.file_check.ensures ∙ ap (λ (t : LedgerHeader). first (file_causes c.args.s.now c.args.room t.tracking t.confirmation)) c.header-h.ensures) (c.in_ok-file_check.was) _ _ _ _ _ c.take-c.ensures.1) _ _ c.take-c.ensures.0 refl c.take-c.ensures.1.bytes)

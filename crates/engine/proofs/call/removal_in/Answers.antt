@@ -1,5 +1,6 @@
 -- `engine::call::removal_in` meets its contract, by the cause that was told.
-use mathlib.Core.Path.{◌∙◌}
+use Rattle.std.proofs.Common.{rules, Err}
+use mathlib.Core.Path.{◌≡◌, ◌∙◌}
 use Rattle.words.proofs.WordLaws.{sound-holds}
 use Rattle.group.proofs.ReadyLaws.{sound-ready}
 use Rattle.engine.proofs.WordRemovals.{removal-stops, date-said, removal-made}
@@ -12,19 +13,20 @@ pub has_account-held-requires : goal.has_account-held-requires
 has_account-held-requires c =
     (sound-holds _ c.requires, rw c.header-h.ensures (sound-ready _ c.requires).count)
 
-pub returns-in-Stop : goal.returns-in-Stop
-returns-in-Stop c =
-    let x = removal-stops c.args.ws.now c.requires c.args.a _ c.header-h.ensures _ c.has_account-held.ensures _ c.removal_check-check.ensures _ c.in-Stop.is in
-    (sound-holds _ c.requires, x.0, x.1)
+pub returns-in_err-removal_check : goal.returns-in_err-removal_check
+returns-in_err-removal_check c =
+    let e : c.from_residual.result ≡ Err c.in_err-removal_check.field-0.0 = search rules in
+    let x = removal-stops c.args.ws.now c.requires c.args.a _ c.header-h.ensures _ c.has_account-held.ensures _ c.removal_check.ensures _ (c.in_err-removal_check.was) in
+    (sound-holds _ c.requires, x.0, rw e x.1)
 
 pub remove-requires : goal.remove-requires
 remove-requires c = (
   sound-holds _ c.requires,
   rw c.header-h.ensures (sound-ready _ c.requires).count,
-  date-said c.args.ws.now c.requires c.args.a _ c.header-h.ensures _ c.has_account-held.ensures _ c.removal_check-check.ensures c.in_default.is,
+  date-said c.args.ws.now c.requires c.args.a _ c.header-h.ensures _ c.has_account-held.ensures _ c.removal_check.ensures (c.in_ok-removal_check.was),
 )
 
 pub returns : goal.returns
 returns c =
-    let x = removal-made c.args.ws.now c.requires c.args.a _ c.header-h.ensures _ c.has_account-held.ensures _ c.removal_check-check.ensures c.in_default.is in
+    let x = removal-made c.args.ws.now c.requires c.args.a _ c.header-h.ensures _ c.has_account-held.ensures _ c.removal_check.ensures (c.in_ok-removal_check.was) in
     (c.remove.ensures.0, c.remove.ensures.1 ∙ x.0, c.quiet.ensures ∙ x.1)

@@ -15,7 +15,7 @@ pub returns-then-writes : goal.returns-then-writes
 unfolding answer_at
 returns-then-writes c =
     let a = c.args in
-    let told = c.in-Accepted.is in
+    let told = c.in-Ok.is in
     let z = sized-acf a.v a.h a.b a.s.now a.g.header a.g.records c.requires.header_lt_records.0 c.requires.header_lt_records.1 _ told in
     (rw (c.if-writes.true, told, header_is a.s.now a.g.header a.g.records) (rw c.acf_of.ensures at c.write_acf.ensures), z.0, z.1)
 
@@ -36,28 +36,28 @@ pub returns-then-writes-2 : goal.returns-then-writes-2
 unfolding answer_at
 returns-then-writes-2 c =
     let a = c.args in
-    let told = c.in-Rejected.is in
+    let told = c.in-Err.is in
     let k = c.detail_count-k.ensures in
     let z = sized-rej a.v a.h a.b a.s.now a.g.header a.g.records c.requires.header_lt_records.0 c.requires.header_lt_records.1 _ told _ k in
     (rw (c.if-writes-2.true, told, header_is a.s.now a.g.header a.g.records, details-are a.s.now a.g.header a.g.records _ k) c.write.ensures, z.0, z.1)
 
-pub overflow_add-result-in-Rejected : goal.overflow_add-result-in-Rejected
-overflow_add-result-in-Rejected c = omega (arith, c.requires, c.detail_count-k.ensures, leading-within c.args.s.now c.args.g.header c.args.g.records)
+pub overflow_add-result-in-Err : goal.overflow_add-result-in-Err
+overflow_add-result-in-Err c = omega (arith, c.requires, c.detail_count-k.ensures, leading-within c.args.s.now c.args.g.header c.args.g.records)
 
-pub overflow_mul-result-in-Rejected : goal.overflow_mul-result-in-Rejected
-overflow_mul-result-in-Rejected c = omega (arith, c.requires, c.detail_count-k.ensures, leading-within c.args.s.now c.args.g.header c.args.g.records)
+pub overflow_mul-result-in-Err : goal.overflow_mul-result-in-Err
+overflow_mul-result-in-Err c = omega (arith, c.requires, c.detail_count-k.ensures, leading-within c.args.s.now c.args.g.header c.args.g.records)
 
 pub returns-else-writes : goal.returns-else-writes
 returns-else-writes c =
     let a = c.args in
-    let told = c.in-Accepted.is in
+    let told = c.in-Ok.is in
     let z = sized-acf a.v a.h a.b a.s.now a.g.header a.g.records c.requires.header_lt_records.0 c.requires.header_lt_records.1 _ told in
     (rw c.if-writes.false (put-nil _ _), z.0, z.1)
 
 pub returns-else-writes-2 : goal.returns-else-writes-2
 returns-else-writes-2 c =
     let a = c.args in
-    let told = c.in-Rejected.is in
+    let told = c.in-Err.is in
     let k = c.detail_count-k.ensures in
     let z = sized-rej a.v a.h a.b a.s.now a.g.header a.g.records c.requires.header_lt_records.0 c.requires.header_lt_records.1 _ told _ k in
     (rw c.if-writes-2.false (put-nil _ _), z.0, z.1)

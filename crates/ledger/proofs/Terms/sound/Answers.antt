@@ -15,6 +15,6 @@ returns c =
       c.valid-2.ensures,
       c.valid-3.ensures,
       c.valid-4.ensures,
-      c.sound.ensures,
+      c.is_sound_removal.ensures,
     )
     (all-joined (fits 12 t.identity.account) (drop 1 (terms_tests t)))

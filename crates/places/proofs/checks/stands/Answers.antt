@@ -6,8 +6,8 @@ use Rattle.words.specs.Layout.{ledger_of}
 use Rattle.places.proofs.DistinctLaws.{found-has, not_found}
 use Rattle.places.proofs.checks.stands.Goals as goal
 
-pub returns-in-At : goal.returns-in-At
-returns-in-At c = sym (found-has (of_id c.args.id) 0 _ (take c.args.n (ledger_of c.args.ws.now).bills) (sym c.find-f.ensures ∙ c.in-At.is))
+pub returns-in-Some : goal.returns-in-Some
+returns-in-Some c = sym (found-has (of_id c.args.id) 0 _ (take c.args.n (ledger_of c.args.ws.now).bills) (sym c.find-f.ensures ∙ c.in-Some.is))
 
-pub returns-in-Nothing : goal.returns-in-Nothing
-returns-in-Nothing c = sym (not_found (of_id c.args.id) 0 (take c.args.n (ledger_of c.args.ws.now).bills) (sym c.find-f.ensures ∙ c.in-Nothing.is))
+pub returns-in-None : goal.returns-in-None
+returns-in-None c = sym (not_found (of_id c.args.id) 0 (take c.args.n (ledger_of c.args.ws.now).bills) (sym c.find-f.ensures ∙ c.in-None.is))
