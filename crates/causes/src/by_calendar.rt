@@ -5,8 +5,8 @@ ghost use Rattle.calendar.specs.BusinessDays.{business_day, day_by};
 ghost use Rattle.causes.specs.Causes.{on_date, schedule_causes};
 
 use crate::{CalendarRequest, Request, checks};
-use units::Date;
 use rules::Cause;
+use units::Date;
 
 // The business day that a request by calendar is due, counted from today, or the first of its causes 2, 14 and 15.
 pub fn due_day(q: CalendarRequest, holidays: &[u64], today: Date) -> Result<Date, Cause>

@@ -120,7 +120,12 @@ fn bill_check(r: Request, held: usize, b: Option<Terms>) -> Result<(), Cause>
 }
 
 // The first cause against a request of a sound ledger.
-pub fn request_check(r: Request, room: usize, h: LedgerHeader, b: Option<Terms>) -> Result<(), Cause>
+pub fn request_check(
+    r: Request,
+    room: usize,
+    h: LedgerHeader,
+    b: Option<Terms>,
+) -> Result<(), Cause>
     requires { (h.tracking ≤ used_up) × (h.confirmation ≤ used_up) }
     ensures { result ≡ first (request_causes r room h.today h.tracking h.confirmation h.count b) }
 {
@@ -143,7 +148,13 @@ pub fn request_check(r: Request, room: usize, h: LedgerHeader, b: Option<Terms>)
 }
 
 // The first cause against a cancel of a sound ledger.
-pub fn cancel_check(id: Identity, room: usize, tracking: u64, confirmation: u64, b: Option<Terms>) -> Result<(), Cause>
+pub fn cancel_check(
+    id: Identity,
+    room: usize,
+    tracking: u64,
+    confirmation: u64,
+    b: Option<Terms>,
+) -> Result<(), Cause>
     requires { (tracking ≤ used_up) × (confirmation ≤ used_up) }
     ensures { result ≡ first (cancel_causes id room tracking confirmation b) }
 {

@@ -12,8 +12,8 @@ use calls::Returned;
 use causes::{AccountRemoval, CalendarRequest, Request, Start};
 use ledger::{Identity, Ledger};
 use lookups::Amounts;
-use units::Date;
 use rules::Cause;
+use units::Date;
 
 // Begins a history: whatever the ledger held is gone.
 pub fn fresh(ledger: &mut Ledger, s: Start) -> Result<Returned, Cause>

@@ -12,13 +12,7 @@ pub fn clearing_weekday(date: u64, weekday: &mut u64) -> u64
     ensures weekday_after { weekday.new ≡ number_left weekday.old (weekday_of date) }
 {
     let found = calendar::weekday_of(Date(date));
-    match found {
-        Ok(d) => {
-            *weekday = d;
-            0
-        }
-        Err(cause) => cause.number(),
-    }
+    crate::store_number(weekday, found)
 }
 
 // Stores a day that was found, and gives the number of the answer.

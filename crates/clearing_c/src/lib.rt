@@ -22,6 +22,20 @@ use ledger::Identity;
 use rules::Cause;
 use units::{Ccf, Date};
 
+// Stores a number that was found, and gives the number of the answer.
+fn store_number(place: &mut u64, found: Result<u64, Cause>) -> u64
+    ensures value { result ≡ number_of found }
+    ensures place_after { place.new ≡ number_left place.old found }
+{
+    match found {
+        Ok(n) => {
+            *place = n;
+            0
+        }
+        Err(cause) => cause.number(),
+    }
+}
+
 // Fresh.
 pub fn clearing_fresh(
     ledger: &mut [u64],

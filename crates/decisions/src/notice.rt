@@ -60,7 +60,15 @@ fn put_cxl(out: &mut [u8], h: LedgerHeader, b: Bill)
 }
 
 // The notice of a request or a cancel: b stood at its place, and k does now.
-pub fn put(out: &mut [u8], writes: bool, c: BillCall, h: LedgerHeader, f: Option<usize>, b: Bill, k: Bill)
+pub fn put(
+    out: &mut [u8],
+    writes: bool,
+    c: BillCall,
+    h: LedgerHeader,
+    f: Option<usize>,
+    b: Bill,
+    k: Bill,
+)
     requires { writes ≡ true → notice_size ≤ length out.old }
     ensures { out.new ≡ put out.old 0 (if_written writes (notice_by c h f b k)) }
 {

@@ -95,7 +95,13 @@ pub fn call_identity(c: BillCall) -> Identity
 }
 
 // The first cause against a request or a cancel, where b stands at the place that was found.
-fn first_cause(c: BillCall, room: usize, h: LedgerHeader, f: Option<usize>, b: Bill) -> Result<(), Cause>
+fn first_cause(
+    c: BillCall,
+    room: usize,
+    h: LedgerHeader,
+    f: Option<usize>,
+    b: Bill,
+) -> Result<(), Cause>
     requires { (h.tracking ≤ used_up) × (h.confirmation ≤ used_up) }
     ensures { result ≡ first (causes_by c room h f b) }
 {
@@ -109,7 +115,13 @@ fn first_cause(c: BillCall, room: usize, h: LedgerHeader, f: Option<usize>, b: B
 }
 
 // The header and the bill that a request or a cancel leaves, or the first cause against it, where b stands at the place that was found.
-pub fn decide(c: BillCall, room: usize, h: LedgerHeader, f: Option<usize>, b: Bill) -> Result<Update, Cause>
+pub fn decide(
+    c: BillCall,
+    room: usize,
+    h: LedgerHeader,
+    f: Option<usize>,
+    b: Bill,
+) -> Result<Update, Cause>
     requires tracking_le_used_up { (h.tracking ≤ used_up) × (h.confirmation ≤ used_up) × (h.count ≤ ledger_places) }
     requires sound_at { SoundAt f b }
     ensures { result ≡ decided_by (first (causes_by c room h f b)) c h f b }

@@ -22,7 +22,13 @@ use rules::Cause;
 use units::Date;
 
 // A request or a cancel: its bill found, the call decided, and what that leaves stored.
-fn bill_call_in(ws: &mut [u64], out: &mut [u8], writes: bool, room: usize, c: BillCall) -> Result<Returned, Cause>
+fn bill_call_in(
+    ws: &mut [u64],
+    out: &mut [u8],
+    writes: bool,
+    room: usize,
+    c: BillCall,
+) -> Result<Returned, Cause>
     requires { (sound_ledger (ledger_of ws.old) ≡ true) × (writes ≡ true → room ≤ length out.old) }
     ensures { CalledIn writes (as_call c room) ws.old out.old ws.new out.new result }
 {
@@ -40,7 +46,13 @@ fn bill_call_in(ws: &mut [u64], out: &mut [u8], writes: bool, room: usize, c: Bi
 }
 
 // The call request.
-pub fn request_in(ws: &mut [u64], out: &mut [u8], writes: bool, room: usize, r: Request) -> Result<Returned, Cause>
+pub fn request_in(
+    ws: &mut [u64],
+    out: &mut [u8],
+    writes: bool,
+    room: usize,
+    r: Request,
+) -> Result<Returned, Cause>
     requires { (sound_ledger (ledger_of ws.old) ≡ true) × (writes ≡ true → room ≤ length out.old) }
     ensures { CalledIn writes (request r room) ws.old out.old ws.new out.new result }
 {
@@ -66,7 +78,13 @@ pub fn calendar_in(
 }
 
 // The call cancel.
-pub fn cancel_in(ws: &mut [u64], out: &mut [u8], writes: bool, room: usize, id: Identity) -> Result<Returned, Cause>
+pub fn cancel_in(
+    ws: &mut [u64],
+    out: &mut [u8],
+    writes: bool,
+    room: usize,
+    id: Identity,
+) -> Result<Returned, Cause>
     requires { (sound_ledger (ledger_of ws.old) ≡ true) × (writes ≡ true → room ≤ length out.old) }
     ensures { CalledIn writes (cancel id room) ws.old out.old ws.new out.new result }
 {
@@ -74,7 +92,13 @@ pub fn cancel_in(ws: &mut [u64], out: &mut [u8], writes: bool, room: usize, id: 
 }
 
 // The file call.
-pub fn file_in(ws: &mut [u64], out: &mut [u8], writes: bool, room: usize, s: &[u8]) -> Result<Returned, Cause>
+pub fn file_in(
+    ws: &mut [u64],
+    out: &mut [u8],
+    writes: bool,
+    room: usize,
+    s: &[u8],
+) -> Result<Returned, Cause>
     requires { (sound_ledger (ledger_of ws.old) ≡ true) × (writes ≡ true → room ≤ length out.old) }
     ensures { CalledIn writes (file s.now room) ws.old out.old ws.new out.new result }
 {

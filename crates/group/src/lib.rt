@@ -71,7 +71,14 @@ pub fn identity_at(s: &[u8], i: usize, n: usize) -> Identity
 }
 
 // Lines 1 to 10 for the group whose header is record i; duplicate says what line 3 asks, b is the bill it names.
-pub fn verdict_at(s: &[u8], i: usize, n: usize, duplicate: bool, b: Option<Terms>, today: Date) -> Result<Posted, ErrorCode>
+pub fn verdict_at(
+    s: &[u8],
+    i: usize,
+    n: usize,
+    duplicate: bool,
+    b: Option<Terms>,
+    today: Date,
+) -> Result<Posted, ErrorCode>
     requires i_lt_n { (i < n) × (n * record_size ≤ length s.now) }
     requires dated { Dated today b }
     ensures { result ≡ verdict_on duplicate today b (group_at s.now i n) }

@@ -7,8 +7,8 @@ ghost use Rattle.holidays.specs.Lines.{date_in, digit_in, holidays_of};
 ghost use Rattle.holidays.specs.DayLine.{number_width, refusal_line, day_line, day_room, day_of};
 ghost use Rattle.holidays.specs.parts.FirstLine.{first_line};
 
-use units::Date;
 use rules::Cause;
+use units::Date;
 
 // The bytes of the longest line that is printed.
 pub const DAY_ROOM: usize = 11;

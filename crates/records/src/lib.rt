@@ -11,7 +11,6 @@ ghost use Rattle.fields.specs.Field.{field_of};
 ghost use Rattle.records.specs.Layout.{company_in, rate_code_in, account_in, tracking_in, type_in, notice_in, record_count_in, balance_in, key_in, sequence_in, consumption_in, detail_charge_in, from_in, tier_rate_in, applied_in, owed_in};
 ghost use Rattle.records.specs.Tiers.{four_fields, tier_consumptions, tier_charges};
 
-
 // How many bytes a record has, and a notice of two records; how many records a file has at most, and how many bytes.
 pub const RECORD_SIZE: usize = 321;
 

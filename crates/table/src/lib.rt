@@ -11,8 +11,8 @@ ghost use Rattle.table.specs.Table.{cell, state_byte, terms_cells, amount_cells,
 ghost use Rattle.ledger.specs.Limits.{ledger_places};
 
 use ledger::{Bill, Ledger, Posted, Product, RateCode, State, Terms, bills, books};
-use units::{Cents, Date};
 use rules::Cause;
+use units::{Cents, Date};
 
 // The bytes of the heading, of a bill's line, of the total's line and of the line after a bad entry.
 pub const HEADING_SIZE: usize = 56;

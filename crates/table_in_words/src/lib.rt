@@ -10,9 +10,9 @@ ghost use Rattle.ledger.specs.Limits.{ledger_places};
 ghost use Rattle.table.specs.Table.{lines_of, table_of, line_size, table_room, printed_by, printed};
 
 use places::place;
+use rules::Cause;
 use table::{HEADING_SIZE, LINE_SIZE, TABLE_ROOM, TOTAL_SIZE};
 use units::Date;
-use rules::Cause;
 
 // The lines of the first n bills of a ledger in words, and where they end.
 fn lines_in(ws: &[u64], n: usize, out: &mut [u8], at: usize, today: Date) -> usize

@@ -118,7 +118,13 @@ fn put_call(out: &mut [u8], at: usize, tag: u8) -> usize
 }
 
 // Writes the line of an entry with this number and tag, at most 52 bytes, and answers where it ends.
-pub fn put_entry_line(out: &mut [u8], at: usize, number: u64, tag: u8, answer: Result<Returned, Cause>) -> usize
+pub fn put_entry_line(
+    out: &mut [u8],
+    at: usize,
+    number: u64,
+    tag: u8,
+    answer: Result<Returned, Cause>,
+) -> usize
     requires { at + 52 ≤ length out.old }
     ensures { (out.new ≡ put out.old at (call_line number tag answer)) × (result ≡ at + length (call_line number tag answer)) × (result ≤ at + 52) }
 {

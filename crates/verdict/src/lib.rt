@@ -90,7 +90,13 @@ fn line_6_supplement(h: &[u8], d: &[u8], t: Terms, today: Date) -> Result<(), Er
 }
 
 // Line 6: from the Notification Code to its check lines.
-fn line_6(h: &[u8], d: &[u8], notification: Notification, t: Terms, today: Date) -> Result<(), ErrorCode>
+fn line_6(
+    h: &[u8],
+    d: &[u8],
+    notification: Notification,
+    t: Terms,
+    today: Date,
+) -> Result<(), ErrorCode>
     requires record_size_in_bounds { (record_size ≤ length h.now) × (record_size ≤ length d.now) }
     requires today_value { (is_date today.0 ≡ true) × (dated_terms t ≡ true) }
     ensures { result ≡ first (line6 notification today h.now d.now t) }
@@ -199,7 +205,13 @@ fn amounts(h: &[u8], d: &[u8], t: Terms) -> Result<Posted, ErrorCode>
 }
 
 // Lines 5 to 10.
-fn known(h: &[u8], d: &[u8], notification: Notification, t: Terms, today: Date) -> Result<Posted, ErrorCode>
+fn known(
+    h: &[u8],
+    d: &[u8],
+    notification: Notification,
+    t: Terms,
+    today: Date,
+) -> Result<Posted, ErrorCode>
     requires record_size_in_bounds { (record_size ≤ length h.now) × (record_size ≤ length d.now) }
     requires today_value { (is_date today.0 ≡ true) × (dated_terms t ≡ true) }
     ensures { result ≡ settle (first (lines5to10 notification today h.now d.now t)) (amounts_of (is_prepay t.product) d.now) }
@@ -213,7 +225,13 @@ fn known(h: &[u8], d: &[u8], notification: Notification, t: Terms, today: Date) 
 }
 
 // Lines 4 to 10.
-pub fn verdict_of(h: &[u8], d: &[u8], notification: Notification, b: Option<Terms>, today: Date) -> Result<Posted, ErrorCode>
+pub fn verdict_of(
+    h: &[u8],
+    d: &[u8],
+    notification: Notification,
+    b: Option<Terms>,
+    today: Date,
+) -> Result<Posted, ErrorCode>
     requires record_size_in_bounds { (record_size ≤ length h.now) × (record_size ≤ length d.now) }
     requires dated { Dated today b }
     ensures { result ≡ verdict_of notification today h.now d.now b }

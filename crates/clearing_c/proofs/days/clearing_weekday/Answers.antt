@@ -1,10 +1,8 @@
 -- `clearing_c::days::clearing_weekday` meets its contract.
-use mathlib.Core.Path.{sym, ap, ◌∙◌}
+use mathlib.Core.Path.{ap, ◌∙◌}
 use Rattle.boundary.specs.Boundary.{number_of, number_left}
 use Rattle.clearing_c.proofs.days.clearing_weekday.Goals as goal
 
-pub returns-in-Ok : goal.returns-in-Ok
-returns-in-Ok c = let e = sym c.weekday_of-found.ensures ∙ c.in-Ok.is in record { value = sym (ap number_of e); weekday_after = sym (ap (number_left _) e) }
-
-pub returns-in-Err : goal.returns-in-Err
-returns-in-Err c = let e = sym c.weekday_of-found.ensures ∙ c.in-Err.is in record { value = c.number.ensures ∙ sym (ap number_of e); weekday_after = sym (ap (number_left _) e) }
+pub returns : goal.returns
+returns c =
+    let e = c.weekday_of-found.ensures in record { value = c.store_number.ensures.value ∙ ap number_of e; weekday_after = c.store_number.ensures.place_after ∙ ap (number_left _) e }
