@@ -11,10 +11,8 @@ pub fn put_digits(out: &mut [u8], at: usize, width: usize, n: u64)
     requires { at + width ≤ length out.old }
     ensures { out.new ≡ put out.old at (digits width n) }
 {
-    let mut i = width;
     let mut m = n;
-    while 0 < i {
-        i = i - 1;
+    for i in (0..width).rev() {
         out[at + i] = (48 + m % 10) as u8;
         m = m / 10;
     }
@@ -77,9 +75,7 @@ pub fn read_digits(f: &[u8]) -> Field
     ensures { result ≡ field_of f.now }
 {
     let mut n: u64 = 0;
-    let mut i = 0;
-    while i < f.len() {
-        let x = f[i];
+    for &x in f {
         if x < 48 {
             return Field::NotNumeric;
         }
@@ -87,7 +83,6 @@ pub fn read_digits(f: &[u8]) -> Field
             return Field::NotNumeric;
         }
         n = n * 10 + (x - 48) as u64;
-        i += 1;
     }
     Field::Number(n)
 }
@@ -133,10 +128,8 @@ pub fn is_digits(s: &[u8], at: usize, width: usize, n: u64) -> bool
     requires { at + width ≤ length s.now }
     ensures { result ≡ same_list (part s.now at width) (digits width n) }
 {
-    let mut i = width;
     let mut m = n;
-    while 0 < i {
-        i = i - 1;
+    for i in (0..width).rev() {
         if s[at + i] != (48 + m % 10) as u8 {
             return false;
         }
