@@ -36,14 +36,7 @@ pub enum Day {
 fn is_holiday(d: Date, holidays: &[u64]) -> bool
     ensures { result ≡ has (eqb d.0) holidays.now }
 {
-    let mut i = 0;
-    while i < holidays.len() {
-        if d.0 == holidays[i] {
-            return true;
-        }
-        i += 1;
-    }
-    false
+    holidays.contains(&d.0)
 }
 
 fn is_business_day(d: Date, holidays: &[u64]) -> bool
@@ -64,9 +57,7 @@ fn good_holidays(holidays: &[u64]) -> bool
         return false;
     }
     let mut before = 0;
-    let mut i = 0;
-    while i < holidays.len() {
-        let h = holidays[i];
+    for &h in holidays {
         if h <= before {
             return false;
         }
@@ -74,7 +65,6 @@ fn good_holidays(holidays: &[u64]) -> bool
             return false;
         }
         before = h;
-        i += 1;
     }
     true
 }
@@ -86,6 +76,7 @@ fn further(start: Date, number: u64, holidays: &[u64]) -> Found
 {
     let mut d = start;
     let mut left = number;
+    // A `while`, since `left` is no index: it falls on business days alone. A `for` over the business days would need a second loop, over the dates to each.
     while 0 < left {
         if units::LAST_DATE <= d.0 {
             return Found::Nothing;

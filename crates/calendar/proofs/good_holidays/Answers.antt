@@ -3,7 +3,6 @@ use Prim.Native.Nat.{ℕ, ◌+◌, ◌≤◌, ◌<◌}
 use mathlib.Core.Path.{◌≡◌, sym, ap, ◌∙◌}
 use mathlib.Core.Bool.{true, false}
 use mathlib.Core.List.{List, ◌∷◌}
-use Rattle.std.proofs.Common.{rules}
 use native.Mathlib.Omega.{arith}
 use lib.ListN.{length, get_or}
 use lib.Seq.{slice, take-length}
@@ -36,23 +35,23 @@ module _ (hs : List ℕ) (i b : ℕ) (inside : i < length hs) (same : follow b (
 pub returns-then-holidays-gt-MOST_HOLIDAYS : goal.returns-then-holidays-gt-MOST_HOLIDAYS
 returns-then-holidays-gt-MOST_HOLIDAYS c = sym (over-64 c.args.holidays.now (omega arith))
 
-pub loop-i-init : goal.loop-i-init
-loop-i-init c =
+pub loop-h-init : goal.loop-h-init
+loop-h-init c =
     let hs = c.args.holidays.now in
-    (search rules, ap (follow 0) (take-length hs) ∙ follow-good hs (omega arith))
+    ap (follow 0) (take-length hs) ∙ follow-good hs (omega arith)
 
 pub returns-then-h-before : goal.returns-then-h-before
-returns-then-h-before c = low c.args.holidays.now c.loop-i.i c.loop-i.before c.loop-i-test.true c.loop-i.invariant.1 (omega arith)
+returns-then-h-before c = low c.args.holidays.now c.loop-h.h-index c.loop-h.before c.loop-h-test.true c.loop-h.invariant (omega arith)
 
 pub returns-then-not-valid : goal.returns-then-not-valid
-returns-then-not-valid c = no_date c.args.holidays.now c.loop-i.i c.loop-i.before c.loop-i-test.true c.loop-i.invariant.1 (sym c.valid.ensures ∙ c.if-not-valid.true)
+returns-then-not-valid c = no_date c.args.holidays.now c.loop-h.h-index c.loop-h.before c.loop-h-test.true c.loop-h.invariant (sym c.valid.ensures ∙ c.if-not-valid.true)
 
-pub loop-i-preserved : goal.loop-i-preserved
-loop-i-preserved c =
-    (search rules, on c.args.holidays.now c.loop-i.i c.loop-i.before c.loop-i-test.true c.loop-i.invariant.1 (omega arith) (sym c.valid.ensures ∙ c.if-not-valid.false))
+pub loop-h-preserved : goal.loop-h-preserved
+loop-h-preserved c =
+    on c.args.holidays.now c.loop-h.h-index c.loop-h.before c.loop-h-test.true c.loop-h.invariant (omega arith) (sym c.valid.ensures ∙ c.if-not-valid.false)
 
 pub returns : goal.returns
 returns c =
     let hs = c.args.holidays.now in
-    let l = c.loop-i in
-    sym (sym l.invariant.1 ∙ ap (follow l.before) (slice-end (length hs) l.i hs l.invariant.0 c.loop-i-test.false))
+    let l = c.loop-h in
+    sym (sym l.invariant ∙ ap (follow l.before) (slice-end (length hs) l.h-index hs (omega arith) c.loop-h-test.false))
