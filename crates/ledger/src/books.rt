@@ -1,6 +1,7 @@
 // The ledger: its bills found, stored and summed, and the signed change of its total.
-ghost use Rattle.std.specs.Prelude.{◌≡◌, true, ◌+◌, ◌<◌, ◌≤◌, ◌^◌, length, take, position, pos, ◌-ℤ◌};
+ghost use Rattle.std.specs.Prelude.{◌≡◌, true, ◌+◌, ◌<◌, ◌≤◌, ◌^◌, length, get_or, take, position, pos, ◌-ℤ◌};
 ghost use Rattle.rules.specs.Lists.{every};
+ghost use Rattle.ledger.specs.Bills.{blank_bill};
 ghost use Rattle.ledger.specs.Books.{empty_ledger, live, of_id, place_of, bill_charge, small_charge, total_of};
 ghost use Rattle.ledger.specs.parts.Places.{updated, within, place_for};
 ghost use Rattle.ledger.specs.Limits.{ledger_places};
@@ -83,6 +84,14 @@ pub fn bill_place(f: Found, count: usize) -> usize
         Found::At(p) => within(p),
         Found::Nothing => within(count),
     }
+}
+
+// A bill of a lent slice.
+pub fn bill_at(bills: &[Bill], i: usize) -> Bill
+    requires { i < length bills.now }
+    ensures { result ≡ get_or bills.now i blank_bill }
+{
+    bills[i]
 }
 
 // A sum, and the charge of one bill more.
