@@ -2,7 +2,7 @@
 use Prim.Native.Nat.{ℕ, ◌+◌, ◌-◌, ◌/◌, ◌%◌, ◌^◌, ◌≤◌, ◌<◌, suc}
 use mathlib.Core.Path.{◌≡◌, sym, ap, ◌∙◌}
 use native.Mathlib.Omega.{arith}
-use native.Mathlib.Nat.{div-one, zero-add}
+use native.Mathlib.Nat.{zero-add}
 use native.Mathlib.Decide.{dec_le}
 use lib.ListN.{length, get_or}
 use Rattle.fields.specs.Digits.{digits}
@@ -18,12 +18,6 @@ turn w n m i h k e =
     ∙ digits-at w n (i - 1) (omega arith)
     ∙ ap (λ (j : ℕ). 48 + n / 10 ^ j % 10) f
     ∙ ap (λ (j : ℕ). 48 + j % 10) (sym e)
-
-pub loop-i-init : goal.loop-i-init
-loop-i-init c =
-    let a = c.args in
-    let e : a.width - a.width ≡ 0 = omega arith in
-    (λ k h l. absurd (omega arith), sym (ap (λ (k : ℕ). a.n / 10 ^ k) e ∙ div-one a.n))
 
 pub returns-then-s-at : goal.returns-then-s-at
 returns-then-s-at c =

@@ -31,11 +31,3 @@ loop-i-preserved c =
           ∙ put-digit a.out.now a.at a.width l.i a.n (omega arith) (omega arith) (omega arith),
       ap (λ (m : ℕ). m / 10) f ∙ div-more a.n a.width l.i (omega arith) (omega arith),
     )
-
-pub returns : goal.returns
-returns c =
-    let a = c.args in
-    let z : c.loop-i.i ≡ 0 = omega arith in
-    let e : a.at + c.loop-i.i ≡ a.at = omega arith in
-    let f : a.width - c.loop-i.i ≡ a.width = omega arith in
-    c.loop-i.invariant.0 ∙ ap₂ (λ (p w : ℕ). put a.out.now p (digits w a.n)) e f
