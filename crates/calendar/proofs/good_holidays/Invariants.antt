@@ -1,4 +1,4 @@
--- `calendar::good_holidays` meets its contract. The invariant: the holidays from i on follow the one before where all are good.
+-- `calendar::good_holidays` meets its contract. The invariant: the holidays from this one on follow the one before where all are good.
 use mathlib.Core.Path.{◌≡◌}
 use lib.ListN.{length}
 use lib.Seq.{slice}
