@@ -1,7 +1,6 @@
 -- Lines, and the dates that they hold. Assumes nothing.
 use Prim.Native.Nat.{ℕ, zero, suc, ◌+◌, ◌-◌, ◌≤◌, ◌<◌}
 use mathlib.Core.Path.{◌≡◌, refl, sym, ap, ◌∙◌}
-use mathlib.Core.Bool.{true, false, cond}
 use mathlib.Core.List.{List, [], ◌∷◌, map}
 use native.Mathlib.Omega.{arith}
 use native.Mathlib.Numerals.{add-one}
@@ -12,15 +11,14 @@ use Rattle.std.specs.Option.{unwrap_or}
 use lib.ListN.{length, get_or, take, drop, set, length-take, length-drop, drop_of_length-le}
 use lib.Seq.{drop-drop, get_or-take}
 use borrow.Author.Tests.{eq-eqb, ne_eqb, ltb-false}
-use Rattle.fields.specs.Digits.{is_digit}
 use Rattle.fields.specs.Field.{field_of, value}
 use Rattle.fields.specs.Put.{put}
 use Rattle.fields.proofs.BoolLaws.{cases}
 use Rattle.fields.proofs.PutLaws.{Copied, copied_none, copied_more, copied_all}
-use Rattle.holidays.specs.Lines.{date_in, digit_in, on_first, lines, holidays_of}
+use Rattle.holidays.specs.Lines.{date_in, on_first, lines, holidays_of}
 use Rattle.holidays.specs.parts.FirstLine.{first_line}
 
--- ---- a date, and a digit
+-- ---- a date
 pub date-not : (s : List ℕ) → (length s ≡ 8 → ⊥) → 0 ≡ date_in s
 unfolding date_in
 date-not s h = rw (ne_eqb (length s) 8 h)
@@ -28,22 +26,6 @@ date-not s h = rw (ne_eqb (length s) 8 h)
 pub date-is : (s : List ℕ) (r : ℕ) → length s ≡ 8 → r ≡ value (field_of s) → r ≡ date_in s
 unfolding date_in
 date-is s r h e = rw (eq-eqb (length s) 8 h) e
-
-pub digit_not : (s : List ℕ) → (length s ≡ 1 → ⊥) → 10 ≡ digit_in s
-digit_not [] h = refl
-digit_not (x ∷ []) h = absurd (h refl)
-digit_not (x ∷ y ∷ s) h = refl
-
-digit-one : (s : List ℕ) → length s ≡ 1 → digit_in s ≡ cond (is_digit (get_or s 0 0)) (get_or s 0 0 - 48) 10
-digit-one [] h = let z : ◌≡◌ {A = ℕ} 0 1 = h in absurd (omega arith)
-digit-one (x ∷ []) h = refl
-digit-one (x ∷ y ∷ s) h = absurd (omega arith)
-
-pub digit-no : (s : List ℕ) → length s ≡ 1 → is_digit (get_or s 0 0) ≡ false → 10 ≡ digit_in s
-digit-no s h e = rw (digit-one s h, e)
-
-pub digit-yes : (s : List ℕ) → length s ≡ 1 → is_digit (get_or s 0 0) ≡ true → get_or s 0 0 - 48 ≡ digit_in s
-digit-yes s h e = rw (digit-one s h, e)
 
 -- ---- where a line ends
 pub line-length : (s : List ℕ) → length (first_line s) ≤ length s
@@ -123,15 +105,10 @@ module _ {s hs₀ hs : List ℕ} {at n : ℕ} (t : ReadTo s hs₀ hs at n) where
         rest = ap (λ (j : ℕ). drop j all) (add-one n) ∙ g.2;
       }
 
-  -- the bytes, or the room, came to an end
-  ended : length (take (length hs₀) (holidays_of s)) ≤ n
-      → (n ≡ length (take (length hs₀) (holidays_of s))) × (hs ≡ put hs₀ 0 (take (length hs₀) (holidays_of s)))
-  ended h = (omega (arith, t.copied.fits), copied_all t.copied h)
-
+  -- the bytes came to an end
   pub read_all : length s ≤ at → (n ≡ length (take (length hs₀) (holidays_of s))) × (hs ≡ put hs₀ 0 (take (length hs₀) (holidays_of s)))
   read_all h =
-      ended
-      (omega (arith, length-take (length hs₀) (holidays_of s), ap length (t.rest ∙ ap holidays_of (drop_of_length-le s h) ∙ none), length-drop n (holidays_of s)))
-
-  pub read_full : length hs₀ ≤ n → (n ≡ length (take (length hs₀) (holidays_of s))) × (hs ≡ put hs₀ 0 (take (length hs₀) (holidays_of s)))
-  read_full h = ended (omega (arith, length-take (length hs₀) (holidays_of s)))
+      let src : List ℕ = take (length hs₀) (holidays_of s) in
+      let all : length src ≤ n =
+      omega (arith, length-take (length hs₀) (holidays_of s), ap length (t.rest ∙ ap holidays_of (drop_of_length-le s h) ∙ none), length-drop n (holidays_of s)) in
+      (omega (arith, t.copied.fits), copied_all t.copied all)

@@ -11,6 +11,3 @@ returns-in-On c =
     let w1 = first a.out.now 0 _ (omega arith) c.put_digits.ensures (length_digits _ _) in
     let w2 = next w1 _ c.put_bytes.ensures refl in
     rw c.in-On.is record { value = sym w2.long; out_after = w2.same }
-
-pub returns-in-Refused : goal.returns-in-Refused
-returns-in-Refused c = rw c.in-Refused.is c.put_refusal.ensures

@@ -2,7 +2,7 @@
 use mathlib.Core.Path.{◌∙◌}
 use native.Mathlib.Omega.{arith}
 use Rattle.std.proofs.lemmas.List.{set-get_or}
-use Rattle.holidays.proofs.LineLaws.{end-within, read_none, read_more, read_all, read_full}
+use Rattle.holidays.proofs.LineLaws.{end-within, read_none, read_more, read_all}
 use Rattle.holidays.proofs.read_holidays.Goals as goal
 
 pub loop-n-init : goal.loop-n-init
@@ -18,8 +18,3 @@ slice_bounds-date_in-end c = omega (arith, (end-within c.args.s.now c.loop-n.at 
 
 pub loop-n-preserved : goal.loop-n-preserved
 loop-n-preserved c = read_more c.loop-n.invariant c.if-s-at.false (omega arith) _ _ c.line_end-end.ensures c.date_in.ensures
-
-pub returns : goal.returns
-returns c =
-    let r = read_full c.loop-n.invariant c.loop-n-test.false in
-    record { value = omega (arith, r.0); holidays_after = r.1 }
