@@ -1,12 +1,12 @@
 -- Good holidays, as a loop asks for them: each over the one before it, and a date. Assumes nothing.
-use Prim.Native.Nat.{ℕ, ◌≤◌, ◌<◌}
+use Prim.Native.Nat.{ℕ, ◌≤◌}
 use mathlib.Core.Path.{◌≡◌, refl, sym, ◌∙◌}
-use mathlib.Core.Bool.{Bool, true, false, ◌&&◌, and-true, and-false}
+use mathlib.Core.Bool.{Bool, true, ◌&&◌, and-true, and-false}
 use mathlib.Core.List.{List, [], ◌∷◌}
 use native.Mathlib.Omega.{arith}
 use lib.Dec.{ltb}
 use lib.ListN.{length}
-use borrow.Author.Tests.{ltb-true, lt-ltb, le-ltb, le-leb, lt-leb}
+use borrow.Author.Tests.{ltb-true, lt-ltb, le-leb}
 use Rattle.fields.proofs.BoolLaws.{cases}
 use Rattle.rules.specs.Lists.{every}
 use Rattle.rules.proofs.ListLaws.{every_map}
@@ -44,16 +44,3 @@ follow-good hs h =
     let f = every_map is_date (ltb 0) (λ x d. lt-ltb 0 x (date-some x d)) hs e in
     rw (e, f) (sym (and-true (rise hs && true))))
     (λ e. rw e (and-false (every (ltb 0) hs && rise hs) ∙ sym (and-false (rise hs && true)))))
-
-pub over-64 : (hs : List ℕ) → 64 < length hs → good_holidays hs ≡ false
-over-64 hs h = rw (lt-leb (length hs) 64 h, and-false (rise hs))
-
-module _ (b h : ℕ) (hs : List ℕ) where
-  pub follow-low : h ≤ b → follow b (h ∷ hs) ≡ false
-  follow-low l = rw (le-ltb b h l)
-
-  pub follow-no-date : is_date h ≡ false → follow b (h ∷ hs) ≡ false
-  follow-no-date e = rw (e, and-false (ltb b h && chain h hs))
-
-  pub follow-on : b < h → is_date h ≡ true → follow b (h ∷ hs) ≡ follow h hs
-  follow-on l e = rw (lt-ltb b h l, e)

@@ -22,14 +22,7 @@ const FRIDAY: u64 = 5;
 fn is_holiday(d: Date, holidays: &[u64]) -> bool
     ensures { result ≡ has (eqb d.0) holidays.now }
 {
-    let mut i = 0;
-    while i < holidays.len() {
-        if d.0 == holidays[i] {
-            return true;
-        }
-        i += 1;
-    }
-    false
+    holidays.contains(&d.0)
 }
 
 fn is_business_day(d: Date, holidays: &[u64]) -> bool
@@ -50,9 +43,7 @@ fn good_holidays(holidays: &[u64]) -> bool
         return false;
     }
     let mut before = 0;
-    let mut i = 0;
-    while i < holidays.len() {
-        let h = holidays[i];
+    for &h in holidays {
         if h <= before {
             return false;
         }
@@ -60,7 +51,6 @@ fn good_holidays(holidays: &[u64]) -> bool
             return false;
         }
         before = h;
-        i += 1;
     }
     true
 }
@@ -72,6 +62,7 @@ fn further(start: Date, number: u64, holidays: &[u64]) -> Option<u64>
 {
     let mut d = start;
     let mut left = number;
+    // A `while`, since `left` is no index: it falls on business days alone. A `for` over the business days would need a second loop, over the dates to each.
     while 0 < left {
         if units::LAST_DATE <= d.0 {
             return None;

@@ -11,50 +11,19 @@ pub fn put_digits(out: &mut [u8], at: usize, width: usize, n: u64)
     requires { at + width ≤ length out.old }
     ensures { out.new ≡ put out.old at (digits width n) }
 {
-    let mut i = width;
     let mut m = n;
-    while 0 < i {
-        i = i - 1;
+    for i in (0..width).rev() {
         out[at + i] = (48 + m % 10) as u8;
         m = m / 10;
     }
 }
 
-// Writes src into out from index `at` on, byte by byte.
-fn put_each(out: &mut [u8], at: usize, src: &[u8])
-    requires { at + length src.now ≤ length out.old }
-    ensures { out.new ≡ put out.old at src.now }
-{
-    let mut i = 0;
-    while i < src.len() {
-        out[at + i] = src[i];
-        i += 1;
-    }
-}
-
-// The eight bytes of src from index i on.
-fn eight_from(src: &[u8], i: usize) -> [u8; 8]
-    requires { i + 8 ≤ length src.now }
-    ensures { result ≡ part src.now i 8 }
-{
-    let mut w = [0u8; 8];
-    put_each(&mut w, 0, &src[i..i + 8]);
-    w
-}
-
-// Writes src into out from index `at` on. Eight bytes are read before they are written, so that they are moved as one word.
+// Writes src into out from index `at` on.
 pub fn put_bytes(out: &mut [u8], at: usize, src: &[u8])
     requires { at + length src.now ≤ length out.old }
     ensures { out.new ≡ put out.old at src.now }
 {
-    let n = src.len();
-    let mut i = 0;
-    while 8 <= n - i {
-        let w = eight_from(src, i);
-        put_each(out, at + i, &w);
-        i += 8;
-    }
-    put_each(out, at + i, &src[i..]);
+    out[at..at + src.len()].copy_from_slice(src);
 }
 
 // Writes n bytes of src from index `from` on into out from index `at` on.
@@ -71,11 +40,7 @@ pub fn put_fill(out: &mut [u8], at: usize, width: usize, b: u8)
     requires { at + width ≤ length out.old }
     ensures { out.new ≡ put out.old at (filled width b) }
 {
-    let mut i = 0;
-    while i < width {
-        out[at + i] = b;
-        i += 1;
-    }
+    out[at..at + width].fill(b);
 }
 
 // Whether a code is that of a digit.
@@ -91,9 +56,7 @@ pub fn read_digits(f: &[u8]) -> Option<u64>
     ensures { result ≡ field_of f.now }
 {
     let mut n: u64 = 0;
-    let mut i = 0;
-    while i < f.len() {
-        let x = f[i];
+    for &x in f {
         if x < 48 {
             return None;
         }
@@ -101,7 +64,6 @@ pub fn read_digits(f: &[u8]) -> Option<u64>
             return None;
         }
         n = n * 10 + (x - 48) as u64;
-        i += 1;
     }
     Some(n)
 }
@@ -128,14 +90,7 @@ pub fn same_part(a: &[u8], i: usize, b: &[u8], j: usize, n: usize) -> bool
     requires n_in_bounds_2 { j + n ≤ length b.now }
     ensures { result ≡ same_list (part a.now i n) (part b.now j n) }
 {
-    let mut k = 0;
-    while k < n {
-        if a[i + k] != b[j + k] {
-            return false;
-        }
-        k += 1;
-    }
-    true
+    a[i..i + n] == b[j..j + n]
 }
 
 // Whether s holds `text` from index `at` on.
@@ -151,10 +106,8 @@ pub fn is_digits(s: &[u8], at: usize, width: usize, n: u64) -> bool
     requires { at + width ≤ length s.now }
     ensures { result ≡ same_list (part s.now at width) (digits width n) }
 {
-    let mut i = width;
     let mut m = n;
-    while 0 < i {
-        i = i - 1;
+    for i in (0..width).rev() {
         if s[at + i] != (48 + m % 10) as u8 {
             return false;
         }

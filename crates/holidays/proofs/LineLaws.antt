@@ -1,24 +1,24 @@
 -- Lines, and the dates that they hold. Assumes nothing.
 use Prim.Native.Nat.{ℕ, zero, suc, ◌+◌, ◌-◌, ◌≤◌, ◌<◌}
 use mathlib.Core.Path.{◌≡◌, refl, sym, ap, ◌∙◌}
-use mathlib.Core.Bool.{true, false, cond, ◌&&◌}
 use mathlib.Core.List.{List, [], ◌∷◌, map}
 use native.Mathlib.Omega.{arith}
 use native.Mathlib.Numerals.{add-one}
 use native.Mathlib.Nat.{not-suc-le-zero}
 use lib.Dec.{eqb, ltb}
+use Rattle.std.specs.List.{position, position_or_len}
+use Rattle.std.specs.Option.{unwrap_or}
 use lib.ListN.{length, get_or, take, drop, set, length-take, length-drop, drop_of_length-le}
-use lib.Seq.{drop-cons, drop-drop, get_or-take}
-use borrow.Author.Tests.{eq-eqb, ne_eqb, ltb-true, ltb-false}
-use Rattle.fields.specs.Digits.{is_digit}
+use lib.Seq.{drop-drop, get_or-take}
+use borrow.Author.Tests.{eq-eqb, ne_eqb, ltb-false}
 use Rattle.fields.specs.Field.{field_of, value}
 use Rattle.fields.specs.Put.{put}
-use Rattle.fields.proofs.BoolLaws.{and_left, and_right, cases}
+use Rattle.fields.proofs.BoolLaws.{cases}
 use Rattle.fields.proofs.PutLaws.{Copied, copied_none, copied_more, copied_all}
-use Rattle.holidays.specs.Lines.{date_in, digit_in, on_first, lines, holidays_of}
+use Rattle.holidays.specs.Lines.{date_in, on_first, lines, holidays_of}
 use Rattle.holidays.specs.parts.FirstLine.{first_line}
 
--- ---- a date, and a digit
+-- ---- a date
 pub date-not : (s : List ℕ) → (length s ≡ 8 → ⊥) → 0 ≡ date_in s
 unfolding date_in
 date-not s h = rw (ne_eqb (length s) 8 h)
@@ -27,41 +27,24 @@ pub date-is : (s : List ℕ) (r : ℕ) → length s ≡ 8 → r ≡ value (field
 unfolding date_in
 date-is s r h e = rw (eq-eqb (length s) 8 h) e
 
-pub digit_not : (s : List ℕ) → (length s ≡ 1 → ⊥) → 10 ≡ digit_in s
-digit_not [] h = refl
-digit_not (x ∷ []) h = absurd (h refl)
-digit_not (x ∷ y ∷ s) h = refl
-
-digit-one : (s : List ℕ) → length s ≡ 1 → digit_in s ≡ cond (is_digit (get_or s 0 0)) (get_or s 0 0 - 48) 10
-digit-one [] h = let z : ◌≡◌ {A = ℕ} 0 1 = h in absurd (omega arith)
-digit-one (x ∷ []) h = refl
-digit-one (x ∷ y ∷ s) h = absurd (omega arith)
-
-pub digit-no : (s : List ℕ) → length s ≡ 1 → is_digit (get_or s 0 0) ≡ false → 10 ≡ digit_in s
-digit-no s h e = rw (digit-one s h, e)
-
-pub digit-yes : (s : List ℕ) → length s ≡ 1 → is_digit (get_or s 0 0) ≡ true → get_or s 0 0 - 48 ≡ digit_in s
-digit-yes s h e = rw (digit-one s h, e)
-
 -- ---- where a line ends
-pub line-stop : (s : List ℕ) (i : ℕ) → i < length s → get_or s i 0 ≡ 10 → length (first_line (drop i s)) ≡ 0
-line-stop s i h e = rw (drop-cons s i 0 h, eq-eqb (get_or s i 0) 10 e)
-
-pub line-more : (s : List ℕ) (i : ℕ) → i < length s → (get_or s i 0 ≡ 10 → ⊥)
-    → length (first_line (drop i s)) ≡ suc (length (first_line (drop (i + 1) s)))
-line-more s i h e = rw (add-one i, drop-cons s i 0 h, ne_eqb (get_or s i 0) 10 e)
-
-pub line-out : (s : List ℕ) (i : ℕ) → length s ≤ i → length (first_line (drop i s)) ≡ 0
-line-out s i h = rw (drop_of_length-le s h)
-
-line-length : (s : List ℕ) → length (first_line s) ≤ length s
+pub line-length : (s : List ℕ) → length (first_line s) ≤ length s
 line-length [] = omega arith
 line-length (b ∷ s) = cases (eqb b 10) (λ e. rw e (omega arith)) (λ e. rw e (omega (arith, line-length s)))
 
--- what both tests of a turn say, and where the line of the turn ends
-pub both_below : (a b m n : ℕ) → (ltb a b && ltb m n) ≡ true → (a < b) × (m < n)
-both_below a b m n h = (ltb-true a b (and_left (ltb a b) (ltb m n) h), ltb-true m n (and_right (ltb a b) (ltb m n) h))
+line-prefix : (s : List ℕ) → position_or_len (λ b. eqb b 10) s ≡ length (first_line s)
+line-prefix [] = refl
+line-prefix (b ∷ s) = cases (eqb b 10) (λ e. rw e) (λ e. rw e (omega (arith, line-prefix s)))
 
+-- at the first byte 10, or where the bytes end
+pub line-found : (s : List ℕ) → unwrap_or (position (λ b. eqb b 10) s) (length s) ≡ length (first_line s)
+line-found s =
+    rw (line-prefix s)
+    (cases (ltb (length (first_line s)) (length s))
+    (λ e. rw e)
+    (λ e. rw e (omega (arith, line-length s, ltb-false (length (first_line s)) (length s) e))))
+
+-- where the line of a turn ends
 pub end-within : (s : List ℕ) (at e : ℕ) → at < length s → e ≡ at + length (first_line (drop at s)) → (at ≤ e) × (e ≤ length s)
 end-within s at e h q = (omega arith, omega (arith, line-length (drop at s), length-drop at s))
 
@@ -122,14 +105,10 @@ module _ {s hs₀ hs : List ℕ} {at n : ℕ} (t : ReadTo s hs₀ hs at n) where
         rest = ap (λ (j : ℕ). drop j all) (add-one n) ∙ g.2;
       }
 
-  -- the bytes or the room came to an end
-  pub read_all : (ltb at (length s) && ltb n (length hs)) ≡ false
-      → (n ≡ length (take (length hs₀) (holidays_of s))) × (hs ≡ put hs₀ 0 (take (length hs₀) (holidays_of s)))
+  -- the bytes came to an end
+  pub read_all : length s ≤ at → (n ≡ length (take (length hs₀) (holidays_of s))) × (hs ≡ put hs₀ 0 (take (length hs₀) (holidays_of s)))
   read_all h =
       let src : List ℕ = take (length hs₀) (holidays_of s) in
-      let m = length-take (length hs₀) (holidays_of s) in
       let all : length src ≤ n =
-      cases (ltb at (length s))
-      (λ e. omega (arith, t.copied.kept, ltb-false n (length hs) (rw e at h)))
-      (λ e. omega (arith, ap length (t.rest ∙ ap holidays_of (drop_of_length-le s (ltb-false at (length s) e)) ∙ none), length-drop n (holidays_of s))) in
+      omega (arith, length-take (length hs₀) (holidays_of s), ap length (t.rest ∙ ap holidays_of (drop_of_length-le s h) ∙ none), length-drop n (holidays_of s)) in
       (omega (arith, t.copied.fits), copied_all t.copied all)

@@ -1,7 +1,7 @@
 // What program `business_day` reads and prints: a date and a number as arguments, holidays one date a line, and the date worked out or the refusal.
 #![tactic(auto)]
 
-ghost use Rattle.std.specs.Prelude.{◌≡◌, ◌+◌, ◌≤◌, length, take, drop};
+ghost use Rattle.std.specs.Prelude.{◌≡◌, ◌==◌, ◌+◌, ◌≤◌, length, take, drop, position};
 ghost use Rattle.fields.specs.Put.{put};
 ghost use Rattle.holidays.specs.Lines.{date_in, digit_in, holidays_of};
 ghost use Rattle.holidays.specs.DayLine.{number_width, refusal_line, day_line, day_room, day_of};
@@ -37,19 +37,20 @@ fn digit_in(argument: &[u8]) -> u64
     (x - 48) as u64
 }
 
+// The index of the first byte 10.
+fn newline(s: &[u8]) -> Option<usize>
+    ensures { result ≡ position (λ b. b == 10) s.now }
+{
+    s.iter().position(|b| *b == 10)
+}
+
 // Where the line from index `at` on ends: at its byte 10, or where the bytes end.
 fn line_end(s: &[u8], at: usize) -> usize
     requires { at ≤ length s.now }
     ensures { result ≡ at + length (first_line (drop at s.now)) }
 {
-    let mut i = at;
-    while i < s.len() {
-        if s[i] == 10 {
-            return i;
-        }
-        i += 1;
-    }
-    i
+    let rest = &s[at..];
+    at + newline(rest).unwrap_or(rest.len())
 }
 
 // Puts the dates of the lines into `holidays`, as many as it has room for, and answers how many it put.
@@ -58,14 +59,15 @@ fn read_holidays(s: &[u8], holidays: &mut [u64]) -> usize
     ensures holidays_after { holidays.new ≡ put holidays.old 0 (take (length holidays.old) (holidays_of s.now)) }
 {
     let mut at = 0;
-    let mut n = 0;
-    while (at < s.len()) & (n < holidays.len()) {
+    for (n, holiday) in holidays.iter_mut().enumerate() {
+        if s.len() <= at {
+            return n;
+        }
         let end = line_end(s, at);
-        holidays[n] = date_in(&s[at..end]);
-        n += 1;
+        *holiday = date_in(&s[at..end]);
         at = end + 1;
     }
-    n
+    holidays.len()
 }
 
 // How many digits the number of a cause has.

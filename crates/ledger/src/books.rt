@@ -1,8 +1,8 @@
 // The ledger: its bills found, stored and summed, and the signed change of its total.
-ghost use Rattle.std.specs.Prelude.{◌≡◌, true, ◌+◌, ◌<◌, ◌≤◌, ◌^◌, length, get_or, take, pos, ◌-ℤ◌};
+ghost use Rattle.std.specs.Prelude.{◌≡◌, true, ◌+◌, ◌<◌, ◌≤◌, ◌^◌, length, get_or, take, position, pos, ◌-ℤ◌};
 ghost use Rattle.rules.specs.Lists.{every};
 ghost use Rattle.ledger.specs.Bills.{blank_bill};
-ghost use Rattle.ledger.specs.Books.{empty_ledger, live, place_of, bill_charge, small_charge, total_of};
+ghost use Rattle.ledger.specs.Books.{empty_ledger, live, of_id, place_of, bill_charge, small_charge, total_of};
 ghost use Rattle.ledger.specs.parts.Places.{updated, within, place_for};
 ghost use Rattle.ledger.specs.Limits.{ledger_places};
 
@@ -29,16 +29,7 @@ impl Ledger {
         requires { self.count ≤ ledger_places }
         ensures { result ≡ place_of id (live self) }
     {
-        let n = self.count;
-        let mut i = 0;
-        while i < n {
-            let b = self.bills[i];
-            if b.terms.is_of(id) {
-                return Some(i);
-            }
-            i += 1;
-        }
-        None
+        place_among(&self.bills[..self.count], id)
     }
 
     // The ledger with a header, and a bill at a place.
@@ -66,6 +57,13 @@ impl Ledger {
         let n = self.count;
         total_first(b, n)
     }
+}
+
+// The index of the bill with this identity among lent bills.
+fn place_among(bills: &[Bill], id: Identity) -> Option<usize>
+    ensures { result ≡ position (of_id id) bills.now }
+{
+    bills.iter().position(|b| b.terms.is_of(id))
 }
 
 fn within(i: usize) -> usize
@@ -107,10 +105,8 @@ pub fn total(bills: &[Bill]) -> Cents
     ensures { result.0 ≡ total_of bills.now }
 {
     let mut sum = Cents(0);
-    let mut i: usize = 0;
-    while i < bills.len() {
-        sum = add_charge(sum, bill_at(bills, i));
-        i += 1;
+    for &b in bills {
+        sum = add_charge(sum, b);
     }
     sum
 }

@@ -7,8 +7,8 @@ use native.Mathlib.Omega.{arith}
 use native.Mathlib.Numerals.{add-one}
 use native.Mathlib.Nat.{not-suc-le-zero, le_of_suc-le-suc}
 use lib.ListN.{length, take, drop, get_or, set, length-drop, drop_of_length-le}
-use lib.Seq.{drop-drop, take_all, length-take-le, take-suc, take_at, drop_at, split_at, drop-append-add}
-use Rattle.fields.specs.Put.{put, part}
+use lib.Seq.{drop-drop, take_all, length-take-le, take-suc, take_at, drop-append-add}
+use Rattle.fields.specs.Put.{put}
 use Rattle.fields.proofs.PutLaws.{first, next}
 use Rattle.fields.proofs.BoolLaws.{and_left, and_right}
 use Rattle.ledger.specs.declared.Bill.{Bill}
@@ -118,20 +118,6 @@ module _ (l : Ledger) (ws : List ℕ) where
   written_all i h k =
       ap₂ (λ (x : List Bill) (y : List ℕ). (head_words l ++ bills_words x) ++ y) (take_all i l.bills h) (drop_of_length-le ws k)
       ∙ append-nil (head_words l ++ bills_words l.bills)
-
--- place i stands from word 4 + place_size * i on
-pub place-words : (l : Ledger) (i : ℕ) (d : Bill) → i < length l.bills → part (ledger_words l) (4 + place_size * i) place_size ≡ bill_words (get_or l.bills i d)
-unfolding part ledger_words done bills_words
-place-words l i d h =
-    let b : Bill = get_or l.bills i d in
-    let r : List ℕ = bills_words (drop (suc i) l.bills) in
-    let e : head_words l ++ bills_words l.bills ≡ done l i ++ (bill_words b ++ r) =
-    ap (λ (bs : List Bill). head_words l ++ bills_words bs) (split_at l.bills i d h)
-    ∙ ap (λ (ws : List ℕ). head_words l ++ ws) (words_append (take i l.bills) (b ∷ drop (suc i) l.bills))
-    ∙ sym (append_assoc (head_words l) (bills_words (take i l.bills)) (bill_words b ++ r)) in
-    ap (λ (ws : List ℕ). take place_size (drop (4 + place_size * i) ws)) e
-    ∙ ap (take place_size) (drop_at (done l i) (bill_words b ++ r) (4 + place_size * i) (length-done l i (omega arith)))
-    ∙ take_at (bill_words b) r place_size (length-bill b)
 
 -- a place written in three parts
 pub put-parts : (b : Bill) (at : ℕ) (ws us vs xs : List ℕ) → at ≤ length ws → us ≡ put ws at (terms_words b.terms)

@@ -54,10 +54,8 @@ pub fn fits(words: &[u64]) -> bool
         return false;
     }
     let mut good = true;
-    let mut i = 0;
-    while i < ledger::PLACES {
+    for i in 0..ledger::PLACES {
         good = good & fits_in(words, HEADER_SIZE + PLACE_SIZE * i);
-        i += 1;
     }
     good
 }
@@ -179,11 +177,7 @@ fn put_words(words: &mut [u64], at: usize, src: &[u64])
     requires { at + length src.now ≤ length words.old }
     ensures { words.new ≡ put words.old at src.now }
 {
-    let mut i = 0;
-    while i < src.len() {
-        words[at + i] = src[i];
-        i += 1;
-    }
+    words[at..at + src.len()].copy_from_slice(src);
 }
 
 // 0 or 1.
@@ -284,10 +278,8 @@ pub fn write_empty(words: &mut [u64], today: u64, tracking: u64, confirmation: u
     words[1] = tracking;
     words[2] = confirmation;
     words[3] = 0;
-    let mut i = 0;
-    while i < ledger::PLACES {
+    for i in 0..ledger::PLACES {
         let blank = Bill::blank();
         put_bill(words, HEADER_SIZE + PLACE_SIZE * i, blank);
-        i += 1;
     }
 }

@@ -18,9 +18,6 @@ unfolding further_day further_causes
 returns-then-not-good_holidays c =
     rw ((sym c.valid.ensures ∙ c.if-not-valid.false), le-ltb most_further c.args.number (omega arith), sym c.good_holidays.ensures ∙ c.if-not-good_holidays.true)
 
-pub further-found-requires : goal.further-found-requires
-further-found-requires c = (sym c.valid.ensures ∙ c.if-not-valid.false)
-
 pub returns-in-Some : goal.returns-in-Some
 unfolding further_day further_causes
 returns-in-Some c =

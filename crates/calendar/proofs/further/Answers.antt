@@ -29,9 +29,6 @@ returns-then-d-ge-LAST_DATE c =
     let a = c.args in
     sym (way-none a.holidays.now a.start.0 a.number l.d.0 l.left l.invariant (omega arith) (omega arith))
 
-pub next-d-requires : goal.next-d-requires
-next-d-requires c = (c.loop-left.invariant.date, omega arith)
-
 pub is_business_day-requires : goal.is_business_day-requires
 is_business_day-requires c = (next-date c.loop-left.d.0 c.next-d.result.0 c.next-d.ensures).date
 

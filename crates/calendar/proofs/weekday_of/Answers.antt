@@ -7,9 +7,6 @@ pub returns-then-not-valid : goal.returns-then-not-valid
 unfolding weekday_of
 returns-then-not-valid c = rw (sym c.valid.ensures ∙ c.if-not-valid.true)
 
-pub weekday-requires : goal.weekday-requires
-weekday-requires c = sym c.valid.ensures ∙ c.if-not-valid.false
-
 pub returns : goal.returns
 unfolding weekday_of
 returns c = rw (sym c.valid.ensures ∙ c.if-not-valid.false, c.weekday.ensures)

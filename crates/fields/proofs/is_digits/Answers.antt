@@ -2,7 +2,7 @@
 use Prim.Native.Nat.{ℕ, ◌+◌, ◌-◌, ◌/◌, ◌%◌, ◌^◌, ◌≤◌, ◌<◌, suc}
 use mathlib.Core.Path.{◌≡◌, sym, ap, ◌∙◌}
 use native.Mathlib.Omega.{arith}
-use native.Mathlib.Nat.{div-one, zero-add}
+use native.Mathlib.Nat.{zero-add}
 use native.Mathlib.Decide.{dec_le}
 use lib.ListN.{length, get_or}
 use Rattle.fields.specs.Digits.{digits}
@@ -19,35 +19,28 @@ turn w n m i h k e =
     ∙ ap (λ (j : ℕ). 48 + n / 10 ^ j % 10) f
     ∙ ap (λ (j : ℕ). 48 + j % 10) (sym e)
 
-pub loop-i-init : goal.loop-i-init
-loop-i-init c =
-    let a = c.args in
-    let e : a.width - a.width ≡ 0 = omega arith in
-    (omega arith, λ k h l. absurd (omega arith), sym (ap (λ (k : ℕ). a.n / 10 ^ k) e ∙ div-one a.n))
-
 pub returns-then-s-at : goal.returns-then-s-at
 returns-then-s-at c =
     let a = c.args in
     let l = c.loop-i in
     let g : l.i - 1 < length (digits a.width a.n) = rw length_digits (omega arith) in
-    let t : get_or (digits a.width a.n) (0 + (l.i - 1)) 0 ≡ 48 + l.m % 10 = turn _ _ _ _ (omega arith) l.invariant.0 l.invariant.2 in
+    let t : get_or (digits a.width a.n) (0 + (l.i - 1)) 0 ≡ 48 + l.m % 10 = turn _ _ _ _ (omega arith) c.loop-i.auto.i l.invariant.1 in
     rw length_digits at (sym (holds-differ a.s.now (digits a.width a.n) a.at (l.i - 1) g (λ e. c.if-s-at.true (e ∙ t))))
 
 pub loop-i-preserved : goal.loop-i-preserved
 loop-i-preserved c =
     let a = c.args in
     let l = c.loop-i in
-    let t : get_or (digits a.width a.n) (0 + (l.i - 1)) 0 ≡ 48 + l.m % 10 = turn _ _ _ _ (omega arith) l.invariant.0 l.invariant.2 in (
-      omega arith,
+    let t : get_or (digits a.width a.n) (0 + (l.i - 1)) 0 ≡ 48 + l.m % 10 = turn _ _ _ _ (omega arith) c.loop-i.auto.i l.invariant.1 in (
       λ k h j. elim (dec_le l.i k) [
-        | yes g ↦ l.invariant.1 k g j
+        | yes g ↦ l.invariant.0 k g j
         | no g ↦ (let e : k ≡ l.i - 1 = omega arith in rw e (c.if-s-at.false ∙ sym t))
       ],
-      ap (λ (m : ℕ). m / 10) l.invariant.2 ∙ div-more a.n a.width l.i (omega arith) l.invariant.0,
+      ap (λ (m : ℕ). m / 10) l.invariant.1 ∙ div-more a.n a.width l.i (omega arith) (omega arith),
     )
 
 pub returns : goal.returns
 returns c =
     let a = c.args in
     let e : length (digits a.width a.n) ≡ a.width = length_digits _ _ in
-    rw length_digits at (sym (holds_same a.s.now (digits a.width a.n) a.at (omega arith) (λ k h. c.loop-i.invariant.1 k (omega arith) (omega arith))))
+    rw length_digits at (sym (holds_same a.s.now (digits a.width a.n) a.at (omega arith) (λ k h. c.loop-i.invariant.0 k (omega arith) (omega arith))))

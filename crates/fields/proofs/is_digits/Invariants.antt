@@ -7,9 +7,5 @@ use Rattle.fields.proofs.is_digits.Given as goal
 
 abbrev pub invariant-loop-i : goal.invariant-loop-i
 invariant-loop-i l =
-    (l.i ≤ l.width)
-    × ((k : ℕ) → l.i ≤ k → k < l.width → get_or l.s (l.at + k) 0 ≡ get_or (digits l.width l.n) (0 + k) 0)
+    ((k : ℕ) → l.i ≤ k → k < l.width → get_or l.s (l.at + k) 0 ≡ get_or (digits l.width l.n) (0 + k) 0)
     × (l.m ≡ l.n / 10 ^ (l.width - l.i))
-
-abbrev pub decreases-loop-i : goal.decreases-loop-i
-decreases-loop-i l = l.i

@@ -1,15 +1,11 @@
 -- `fields::put_digits` meets its contract. The invariant: the last width - i digits of n are written from at + i on, and m is what is left of n.
 -- Assumes nothing.
-use Prim.Native.Nat.{◌+◌, ◌-◌, ◌/◌, ◌^◌, ◌≤◌}
+use Prim.Native.Nat.{◌+◌, ◌-◌, ◌/◌, ◌^◌}
 use mathlib.Core.Path.{◌≡◌}
-use lib.ListN.{length}
 use Rattle.fields.specs.Put.{put}
 use Rattle.fields.specs.Digits.{digits}
 use Rattle.fields.proofs.put_digits.Given as goal
 
 abbrev pub invariant-loop-i : goal.invariant-loop-i
 invariant-loop-i l =
-    (l.i ≤ l.width) × (length l.out ≡ length l.initial.out) × (l.out ≡ put l.initial.out (l.at + l.i) (digits (l.width - l.i) l.n)) × (l.m ≡ l.n / 10 ^ (l.width - l.i))
-
-abbrev pub decreases-loop-i : goal.decreases-loop-i
-decreases-loop-i l = l.i
+    (l.out ≡ put l.initial.out (l.at + l.i) (digits (l.width - l.i) l.n)) × (l.m ≡ l.n / 10 ^ (l.width - l.i))

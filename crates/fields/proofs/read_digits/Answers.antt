@@ -17,39 +17,38 @@ small f n i h l k e =
     let q : 10 ^ length (take i f) ≤ 10 ^ 18 = pow-le (length (take i f)) 18 (omega (arith, length-take-le i f (omega arith))) in
     omega arith
 
-pub loop-i-init : goal.loop-i-init
+pub loop-x-init : goal.loop-x-init
 unfolding numeric number
-loop-i-init c = (omega arith, refl, refl)
+loop-x-init c = (refl, refl)
 
 pub returns-then-x-lt48 : goal.returns-then-x-lt48
 returns-then-x-lt48 c =
     let f = c.args.f.now in
-    field-not f (numeric-at f c.loop-i.i (omega arith) (is_digit-low _ c.if-x-lt48.true))
+    field-not f (numeric-at f c.loop-x.x-index (omega arith) (is_digit-low _ c.if-x-lt48.true))
 
 pub returns-then-x-gt57 : goal.returns-then-x-gt57
 returns-then-x-gt57 c =
     let f = c.args.f.now in
-    field-not f (numeric-at f c.loop-i.i (omega arith) (is_digit-high _ c.if-x-gt57.true))
+    field-not f (numeric-at f c.loop-x.x-index (omega arith) (is_digit-high _ c.if-x-gt57.true))
 
 pub overflow_mul-n : goal.overflow_mul-n
-overflow_mul-n c = let l = c.loop-i in omega (arith, small c.args.f.now l.n l.i (omega arith) (omega arith) l.invariant.1 l.invariant.2)
+overflow_mul-n c = let l = c.loop-x in omega (arith, small c.args.f.now l.n l.x-index (omega arith) (omega arith) l.invariant.0 l.invariant.1)
 
 pub overflow_add-n : goal.overflow_add-n
-overflow_add-n c = let l = c.loop-i in omega (arith, small c.args.f.now l.n l.i (omega arith) (omega arith) l.invariant.1 l.invariant.2)
+overflow_add-n c = let l = c.loop-x in omega (arith, small c.args.f.now l.n l.x-index (omega arith) (omega arith) l.invariant.0 l.invariant.1)
 
-pub loop-i-preserved : goal.loop-i-preserved
-loop-i-preserved c =
+pub loop-x-preserved : goal.loop-x-preserved
+loop-x-preserved c =
     let f = c.args.f.now in
-    let l = c.loop-i in
-    let t : take (l.i + 1) f ≡ take l.i f ++ (get_or f l.i 0 ∷ []) = take_more f l.i (omega arith) in (
-      omega arith,
-      rw t (numeric-snoc (take l.i f) (get_or f l.i 0) l.invariant.1 (is_digit-in (get_or f l.i 0) (omega arith) (omega arith))),
-      rw (t, number-snoc (take l.i f) (get_or f l.i 0)) (ap (λ (n : ℕ). n * 10 + (get_or f l.i 0 - 48)) l.invariant.2),
+    let l = c.loop-x in
+    let t : take (l.x-index + 1) f ≡ take l.x-index f ++ (get_or f l.x-index 0 ∷ []) = take_more f l.x-index (omega arith) in (
+      rw t (numeric-snoc (take l.x-index f) (get_or f l.x-index 0) l.invariant.0 (is_digit-in (get_or f l.x-index 0) (omega arith) (omega arith))),
+      rw (t, number-snoc (take l.x-index f) (get_or f l.x-index 0)) (ap (λ (n : ℕ). n * 10 + (get_or f l.x-index 0 - 48)) l.invariant.1),
     )
 
 pub returns : goal.returns
 returns c =
     let f = c.args.f.now in
-    let l = c.loop-i in
-    let t : take l.i f ≡ f = take_all l.i f (omega arith) in
-    field-number f l.n (rw t at l.invariant.1) (rw t at l.invariant.2)
+    let l = c.loop-x in
+    let t : take l.x-index f ≡ f = take_all l.x-index f (omega arith) in
+    field-number f l.n (rw t at l.invariant.0) (rw t at l.invariant.1)

@@ -1,21 +1,26 @@
-use mathlib.Core.Path.{sym}
+-- `fields::same_part` meets its contract: `==` compares element by element, as `same_list` does.
+use mathlib.Core.Path.{◌≡◌, refl, ap, ap₂, ◌∙◌}
+use mathlib.Core.Bool.{◌&&◌}
+use mathlib.Core.List.{List, [], ◌∷◌}
+use Prim.Native.Nat.{ℕ, ◌+◌, ◌-◌}
 use native.Mathlib.Omega.{arith}
-use borrow.Author.Count.{below_more}
-use Rattle.fields.proofs.SameLaws.{same_parts, differ-parts}
+use lib.Dec.{eqb}
+use lib.ListN.{take, drop}
+use lib.Pointwise.{pointwise}
+use Rattle.fields.specs.Put.{part, same_list}
 use Rattle.fields.proofs.same_part.Goals as goal
 
-pub loop-k-init : goal.loop-k-init
-loop-k-init c = (omega arith, λ o h. omega arith)
-
-pub returns-then-a-i : goal.returns-then-a-i
-returns-then-a-i c =
-    let a = c.args in
-    sym (differ-parts a.a.now a.b.now a.i a.j a.n c.loop-k.k (omega arith) c.if-a-i.true)
-
-pub loop-k-preserved : goal.loop-k-preserved
-loop-k-preserved c = (omega arith, below_more _ _ c.loop-k.invariant.1 c.if-a-i.false)
+pointwise-same : (xs ys : List ℕ) → pointwise eqb xs ys ≡ same_list xs ys
+unfolding same_list
+pointwise-same [] [] = refl
+pointwise-same [] (y ∷ ys) = refl
+pointwise-same (x ∷ xs) [] = refl
+pointwise-same (x ∷ xs) (y ∷ ys) = ap (λ b. eqb x y && b) (pointwise-same xs ys)
 
 pub returns : goal.returns
+unfolding part
 returns c =
     let a = c.args in
-    sym (same_parts a.a.now a.b.now a.i a.j a.n (omega arith) (omega arith) (λ k h. c.loop-k.invariant.1 k (omega arith)))
+    let e : a.i + a.n - a.i ≡ a.n = omega arith in
+    let f : a.j + a.n - a.j ≡ a.n = omega arith in
+    c.eq.ensures ∙ pointwise-same _ _ ∙ ap₂ (λ k l. same_list (take k (drop a.i a.a.now)) (take l (drop a.j a.b.now))) e f

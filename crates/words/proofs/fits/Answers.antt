@@ -14,18 +14,15 @@ returns-then-words-ne-LEDGER_SIZE c = rw (ne_eqb _ _ c.if-words-ne-LEDGER_SIZE.t
 
 pub loop-i-init : goal.loop-i-init
 unfolding holds_bills
-loop-i-init c = (omega arith, refl)
+loop-i-init c = refl
 
 pub loop-i-preserved : goal.loop-i-preserved
 loop-i-preserved c =
-    let w = c.args.words.now in
-    let l = c.loop-i in (
-      omega arith,
-      rw (l.invariant.1, c.fits_in-good.ensures) (holds_more w l.i),
-    )
+    let l = c.loop-i in
+    rw (l.invariant, c.fits_in-good.ensures) (holds_more c.args.words.now l.i)
 
 pub returns : goal.returns
 unfolding holds_ledger
 returns c =
     let e : c.loop-i.i ≡ 128 = omega arith in
-    rw (eq-eqb _ _ c.if-words-ne-LEDGER_SIZE.false) (c.loop-i.invariant.1 ∙ ap (λ (n : ℕ). holds_bills n (drop 4 c.args.words.now)) e)
+    rw (eq-eqb _ _ c.if-words-ne-LEDGER_SIZE.false) (c.loop-i.invariant ∙ ap (λ (n : ℕ). holds_bills n (drop 4 c.args.words.now)) e)

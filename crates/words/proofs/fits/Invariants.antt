@@ -1,12 +1,8 @@
 -- `words::fits` meets its contract. The invariant: `good` is the test of the first i places.
-use Prim.Native.Nat.{◌-◌, ◌≤◌}
 use mathlib.Core.Path.{◌≡◌}
 use lib.ListN.{drop}
 use Rattle.words.specs.Layout.{holds_bills}
 use Rattle.words.proofs.fits.Given as goal
 
 abbrev pub invariant-loop-i : goal.invariant-loop-i
-invariant-loop-i l = (l.i ≤ 128) × (l.good ≡ holds_bills l.i (drop 4 l.words))
-
-abbrev pub decreases-loop-i : goal.decreases-loop-i
-decreases-loop-i l = 128 - l.i
+invariant-loop-i l = l.good ≡ holds_bills l.i (drop 4 l.words)

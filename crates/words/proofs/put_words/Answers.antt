@@ -1,16 +1,9 @@
--- `words::put_words` meets its contract: the first i words of src stand in words from index at on.
+-- `words::put_words` meets its contract: the part that was lent came back as src.
+use mathlib.Core.Path.{ap, ◌∙◌}
 use native.Mathlib.Omega.{arith}
-use Rattle.fields.proofs.PutLaws.{copied_none, copied_more, copied_all}
+use Rattle.fields.specs.Put.{put}
+use Rattle.fields.proofs.PutLaws.{put-mid}
 use Rattle.words.proofs.put_words.Goals as goal
 
-pub loop-i-init : goal.loop-i-init
-loop-i-init c = copied_none _ _ _
-
-pub loop-i-preserved : goal.loop-i-preserved
-loop-i-preserved c = copied_more c.loop-i.invariant c.requires (omega arith)
-
-pub shape_of-words : goal.shape_of-words
-shape_of-words c = c.loop-i.invariant.kept
-
 pub returns : goal.returns
-returns c = copied_all c.loop-i.invariant (omega arith)
+returns c = put-mid _ _ _ _ (omega arith) ∙ ap (put _ _) c.copy_from_slice.ensures.after

@@ -1,29 +1,23 @@
--- `ledger::Ledger::find` meets its contract. The invariant: what the search of the bills from i on finds is what the whole search finds.
-use Rattle.std.proofs.Common.{rules}
-use native.Mathlib.Omega.{arith}
-use Prim.Native.Nat.{◌≤◌}
-use mathlib.Core.Path.{sym, ◌∙◌}
-use lib.ListN.{length}
-use Rattle.ledger.specs.Bills.{blank_bill}
-use Rattle.ledger.specs.Books.{of_id}
-use Rattle.ledger.proofs.BookLaws.{places}
-use Rattle.rules.proofs.ListLaws.{find-hit, find-miss, slice-end}
+-- `ledger::Ledger::find` meets its contract: `position` counts as the search does.
+use mathlib.Core.Path.{◌≡◌, refl, ◌∙◌}
+use mathlib.Core.Bool.{Bool}
+use mathlib.Core.List.{List, [], ◌∷◌}
+use Prim.Native.Nat.{ℕ, suc}
+use native.Mathlib.Numerals.{add-one}
+use Rattle.std.specs.List.{position_from}
+use Rattle.std.specs.Prelude.{position}
+use Rattle.std.proofs.lemmas.Iterator.Adapters.{position_from-zero}
+use Rattle.fields.proofs.BoolLaws.{cases}
+use Rattle.rules.specs.Lists.{find}
+use Rattle.ledger.specs.Books.{live, of_id}
 use Rattle.ledger.proofs.Ledger.find.Goals as goal
 
--- the loop's end is within the array
-pub returns-then-is_of : goal.returns-then-is_of
-returns-then-is_of c =
-    let t = c.args.self in
-    let within : t.count ≤ length t.bills = omega (arith, places t _ c.well_formed.0) in
-    sym (find-hit _ _ _ blank_bill c.loop-i-test.true within (of_id _) (sym c.is_of.ensures ∙ c.if-is_of.true)) ∙ c.loop-i.invariant.1
+find-from : {A : Type 0} (p : A → Bool) (n : ℕ) (xs : List A) → position_from p n xs ≡ find p n xs
+find-from p n [] = refl
+find-from p n (x ∷ xs) = cases (p x) (λ e. rw e) (λ e. rw (e, add-one n) (find-from p (suc n) xs))
 
-pub loop-i-preserved : goal.loop-i-preserved
-loop-i-preserved c =
-    let t = c.args.self in
-    let within : t.count ≤ length t.bills = omega (arith, places t _ c.well_formed.0) in (
-      search rules,
-      sym (find-miss _ _ _ blank_bill c.loop-i-test.true within (of_id _) (sym c.is_of.ensures ∙ c.if-is_of.false)) ∙ c.loop-i.invariant.1,
-    )
+find-position : {A : Type 0} (p : A → Bool) (xs : List A) → position p xs ≡ find p 0 xs
+find-position p xs = position_from-zero p xs ∙ find-from p 0 xs
 
 pub returns : goal.returns
-returns c = rw (slice-end _ _ _ c.loop-i.invariant.0 c.loop-i-test.false) at c.loop-i.invariant.1
+returns c = c.place_among.ensures ∙ find-position (of_id c.args.id) (live c.args.self)
