@@ -1,21 +1,22 @@
 -- Laws of the check, of groups by record number, and of lines 1 and 2. Assumes nothing.
-use mathlib.Core.Path.{◌≡◌, refl, ap, ◌∙◌}
+use mathlib.Core.Path.{◌≡◌, refl, ap, ap₂, ◌∙◌}
 use mathlib.Core.Bool.{Bool, true, false, cond, not, ◌&&◌, and-true}
-use mathlib.Core.List.{List, [], ◌∷◌}
-use Prim.Native.Nat.{ℕ, zero, suc, ◌+◌, ◌-◌, ◌≤◌, ◌<◌}
+use mathlib.Core.List.{List, [], ◌∷◌, ◌++◌}
+use Prim.Native.Nat.{ℕ, zero, suc, ◌+◌, ◌-◌, ◌*◌, ◌/◌, ◌≤◌, ◌<◌}
 use native.Mathlib.Omega.{arith}
 use native.Mathlib.Numerals.{add-one}
 use native.Mathlib.Nat.{not-suc-le-zero, sub-zero}
-use lib.ListN.{length, get_or, take}
+use lib.ListN.{length, get_or, take, drop, length-append}
 use lib.Dec.{leb}
-use lib.Seq.{length-take-le, take-suc}
+use lib.Seq.{length-take-le, take-suc, take_at, drop-append-add}
+use Rattle.fields.specs.Put.{part}
 use borrow.Author.Tests.{eq-eqb, ne_eqb}
 use Rattle.rules.specs.Lists.{every, count}
 use Rattle.rules.proofs.ListLaws.{every_append}
 use Rattle.records.specs.Layout.{record_at, records_from, is_rsp, is_sup}
 use Rattle.records.proofs.LayoutLaws.{records-step, records-end, length-records}
 use Rattle.file.specs.declared.Form.TheVariants.{Broken, Unknown, Response, Supplement}
-use Rattle.file.specs.File.{printable, is_header, good_record, headed, Group, leading, groups, asks_id, detail_of, unfit, line1, line2, form_of}
+use Rattle.file.specs.File.{records, printable, is_header, good_record, headed, Group, leading, groups, asks_id, detail_of, unfit, line1, line2, form_of}
 use Rattle.file.specs.parts.Walk.{records_after, group_at, pair_form}
 
 -- ---- the check
@@ -26,17 +27,33 @@ unfolding printable
 printable-more r i good h e =
     rw (add-one i, take-suc r i 0 h, every_append printable (take i r) (get_or r i 0 ∷ []), ← e, and-true)
 
--- the records from record i of n on
-module _ (s : List ℕ) (i n : ℕ) (h : i < n) where
-  pub good-step : good_record (record_at s i) ≡ true
-      → every good_record (records_from s i (n - i)) ≡ every good_record (records_from s (i + 1) (n - (i + 1)))
-  good-step e = ap (every good_record) (records-step s i n h) ∙ rw e
+-- a record r in front of what is left, t
+module _ (r t : List ℕ) (h : length r ≡ 321) where
+  records-past : (i k : ℕ) → records_from (r ++ t) (i + 1) k ≡ records_from t i k
+  unfolding records_from part
+  records-past i zero = refl
+  records-past i (suc k) =
+      let e : (i + 1) * 321 ≡ length r + i * 321 = omega arith in
+      ap₂ (λ (x : List ℕ) (xs : List (List ℕ)). x ∷ xs) (ap (λ (n : ℕ). take 321 (drop n (r ++ t))) e ∙ ap (take 321) (drop-append-add r t (i * 321)))
+      (records-past (i + 1) k)
 
-  pub good-stop : good_record (record_at s i) ≡ false → every good_record (records_from s i (n - i)) ≡ false
-  good-stop e = ap (every good_record) (records-step s i n h) ∙ rw e
+  records-first : records (r ++ t) ≡ r ∷ records t
+  unfolding records records_from part
+  records-first =
+      let e : length (r ++ t) / 321 ≡ suc (length t / 321) = omega (arith, length-append r t) in
+      ap (records_from (r ++ t) 0) e ∙ ap₂ (λ (x : List ℕ) (xs : List (List ℕ)). x ∷ xs) (take_at r t 321 h) (records-past 0 (length t / 321))
 
-pub good-end : (s : List ℕ) (i n : ℕ) → n ≤ i → every good_record (records_from s i (n - i)) ≡ true
-good-end s i n h = ap (every good_record) (records-end s i n h)
+  pub good-step : good_record r ≡ true → every good_record (records (r ++ t)) ≡ every good_record (records t)
+  good-step e = ap (every good_record) records-first ∙ rw e
+
+  pub good-stop : good_record r ≡ false → every good_record (records (r ++ t)) ≡ false
+  good-stop e = ap (every good_record) records-first ∙ rw e
+
+pub good-end : (s : List ℕ) → length s < 321 → every good_record (records s) ≡ true
+unfolding records
+good-end s h =
+    let e : length s / 321 ≡ 0 = omega arith in
+    ap (λ (k : ℕ). every good_record (records_from s 0 k)) e ∙ ap (every good_record) (records-end s 0 0 (omega arith))
 
 -- all records, as a walk from record 0 on has them
 pub from_start : (s : List ℕ) (n : ℕ) → records_from s 0 (n - 0) ≡ records_from s 0 n
