@@ -113,10 +113,10 @@ pub fn count_groups(s: &[u8], n: usize) -> Counts
 {
     let mut g = 0;
     let mut k = 0;
-    for i in 0..n {
-        if header_at(s, i) {
+    for r in s[..n * RECORD_SIZE].chunks_exact(RECORD_SIZE) {
+        if is_header(r) {
             g += 1;
-            if sup_at(s, i) {
+            if records::has_notice(r, b"SUP") {
                 k += 1;
             }
         }

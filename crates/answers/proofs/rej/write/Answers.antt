@@ -17,7 +17,6 @@ pub loop-j-init : goal.loop-j-init
 loop-j-init c =
     let a = c.args in
     record {
-      within = omega arith;
       kept = refl;
       wrote =
           rw (details-none _ a.x a.s.now (a.i + 1))
@@ -35,7 +34,6 @@ loop-j-preserved c =
     let m = details-more c.is_sup-sup.result a.x a.s.now (a.i + 1) l.j in
     let q : l.j * 321 + 321 ≡ (l.j + 1) * 321 = omega arith in
     record {
-      within = omega arith;
       kept = c.put_detail_at.auto.out ∙ l.invariant.kept;
       wrote =
           rw (m, ← q)
