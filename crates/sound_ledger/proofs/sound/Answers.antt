@@ -1,21 +1,27 @@
--- `sound_ledger::sound` meets its contract. The outer invariant: the walk over the bills from i on is the whole walk. The inner one: so is
--- the walk past i, joined with the test that no bill from j on has the identity of the bill at i.
-use Rattle.std.proofs.Common.{rules}
+-- `sound_ledger::sound` meets its contract. The invariant: the walk over the bills from i on is the whole walk.
+use Rattle.std.proofs.Common.{rules, tests, drop-cons}
+use Rattle.std.specs.List.{list_any}
+use Rattle.std.proofs.lemmas.List.{take_rest}
+use Rattle.std.proofs.lemmas.Iterator.{YieldsList-from_slice}
+use Rattle.std.proofs.lemmas.Iterator.Search.{any_from_yields_List}
 use native.Mathlib.Omega.{arith}
-use Prim.Native.Nat.{◌≤◌}
+use native.Mathlib.Numerals.{add-one}
+use Prim.Native.Nat.{ℕ, ◌+◌, ◌≤◌, ◌<◌}
 use mathlib.Core.Path.{◌≡◌, refl, sym, ap, ◌∙◌}
-use mathlib.Core.Bool.{Bool, true, false, ◌&&◌}
+use mathlib.Core.Bool.{Bool, true, false, ◌&&◌, ◌||◌}
+use mathlib.Core.List.{List, [], ◌∷◌}
 use borrow.Author.Tests.{leb-true}
-use lib.ListN.{length}
+use lib.ListN.{length, get_or, drop, drop_of_length-le}
 use lib.Dec.{leb}
 use Rattle.fields.proofs.BoolLaws.{and_right}
 use Rattle.units.specs.Calendar.{is_date}
+use Rattle.rules.specs.Lists.{has}
+use Rattle.ledger.specs.declared.Bill.{Bill}
 use Rattle.ledger.specs.declared.Ledger.{Ledger}
 use Rattle.ledger.specs.Bills.{blank_bill}
 use Rattle.ledger.specs.Books.{live, of_id}
-use Rattle.ledger.specs.Sound.{is_next, distinct, sound_ledger}
+use Rattle.ledger.specs.Sound.{is_next, sound_bill, holds_id, distinct, sound_ledger}
 use Rattle.ledger.proofs.BookLaws.{places}
-use Rattle.rules.proofs.ListLaws.{slice-step, slice-end, has-hit, has-miss}
 use Rattle.ledger.proofs.SoundLaws.{walked, walked-bad, walked-good, past-hit, past-miss, past_end, head_test, split}
 use Rattle.sound_ledger.proofs.sound.Goals as goal
 
@@ -49,77 +55,58 @@ returns-then-not-head c =
     let h = head l _ _ _ c.valid.ensures c.is_next.ensures c.is_next-2.ensures in
     bad-head l long (h ∙ c.if-not-head.true)
 
-pub bills-init : goal.bills-init
-bills-init c =
-    let l = c.args.l in
-    let long = places l _ c.well_formed.0 in
-    let h = head l _ _ _ c.valid.ensures c.is_next.ensures c.is_next-2.ensures in
-    let p = h ∙ c.if-not-head.false in
-    record { within = search rules; range = few l long p; rest = refl }
+-- ---- one turn: the bill at i, and those past it
+same-has : (p : Bill → Bool) (bs : List Bill) → list_any p bs ≡ has p bs
+same-has p [] = refl
+same-has p (b ∷ bs) = ap (λ (t : Bool). p b || t) (same-has p bs)
+
+module _ (bs : List Bill) (i : ℕ) (h : i < length bs) where
+  abbrev here : Bill
+  here = get_or bs i blank_bill
+
+  abbrev later : List Bill
+  later = drop (i + 1) bs
+
+  from_here : drop i bs ≡ here ∷ later
+  from_here = rw (add-one i) (drop-cons bs i blank_bill h)
+
+  walk-bad : sound_bill here ≡ false → walked (drop i bs) ≡ false
+  walk-bad e = ap walked from_here ∙ walked-bad here later e
+
+  walk-twin : sound_bill here ≡ true → holds_id here.terms.identity later ≡ true → walked (drop i bs) ≡ false
+  walk-twin e f = ap walked from_here ∙ walked-good here later e ∙ past-hit later here.terms.identity later f
+
+  walk-on : sound_bill here ≡ true → holds_id here.terms.identity later ≡ false → walked (drop i bs) ≡ walked later
+  walk-on e f = ap walked from_here ∙ walked-good here later e ∙ past-miss later here.terms.identity later [] f ∙ past_end later here.terms.identity [] refl
+
+pub loop-i-init : goal.loop-i-init
+loop-i-init c = refl
 
 pub returns-then-not-sound : goal.returns-then-not-sound
 returns-then-not-sound c =
     let l = c.args.l in
     let long = places l _ c.well_formed.0 in
     let h = head l _ _ _ c.valid.ensures c.is_next.ensures c.is_next-2.ensures in
-    let p = h ∙ c.if-not-head.false in
-    answer l long p false
-    (sym c.bills.invariant.rest
-    ∙ ap walked (slice-step _ _ _ blank_bill c.bills-test.true (within l long p))
-    ∙ walked-bad _ _ (sym c.sound.ensures ∙ c.if-not-sound.true))
+    answer l long (h ∙ c.if-not-head.false) false
+    (sym c.loop-i.invariant ∙ walk-bad (live l) c.loop-i.i c.loop-i-test.true (sym c.sound.ensures ∙ c.if-not-sound.true))
 
-pub others-init : goal.others-init
-others-init c =
+pub returns-then-any : goal.returns-then-any
+returns-then-any c =
     let l = c.args.l in
+    let bs = live l in
+    let i = c.loop-i.i in
     let long = places l _ c.well_formed.0 in
     let h = head l _ _ _ c.valid.ensures c.is_next.ensures c.is_next-2.ensures in
-    let p = h ∙ c.if-not-head.false in
-    record {
-      outer = search rules;
-      within = search rules;
-      range = few l long p;
-      rest =
-          sym (walked-good _ _ (sym c.sound.ensures ∙ c.if-not-sound.false))
-          ∙ sym (ap walked (slice-step _ _ _ blank_bill c.bills-test.true (within l long p)))
-          ∙ c.bills.invariant.rest;
-    }
+    let e = any_from_yields_List (of_id (get_or bs i blank_bill).terms.identity) _ _ _ c.any.ensures.ran (YieldsList-from_slice (drop (i + 1) bs) (c.iter.ensures.rest ∙ take_rest bs (i + 1))) (λ x b q k. search (rules, tests)) in
+    answer l long (h ∙ c.if-not-head.false) false
+    (sym c.loop-i.invariant ∙ walk-twin bs i c.loop-i-test.true (sym c.sound.ensures ∙ c.if-not-sound.false) (sym (same-has _ (drop (i + 1) bs)) ∙ sym e ∙ c.if-any.true))
 
-pub returns-then-is_of : goal.returns-then-is_of
-returns-then-is_of c =
-    let l = c.args.l in
-    let long = places l _ c.well_formed.0 in
-    let h = head l _ _ _ c.valid.ensures c.is_next.ensures c.is_next-2.ensures in
-    let p = h ∙ c.if-not-head.false in
-    answer l long p false
-    (sym c.others.invariant.rest
-    ∙ past-hit _ _ _ (has-hit _ _ _ blank_bill c.others-test.true (within l long p) (of_id _) (sym c.is_of.ensures ∙ c.if-is_of.true)))
-
-pub others-preserved : goal.others-preserved
-others-preserved c =
-    let l = c.args.l in
-    let long = places l _ c.well_formed.0 in
-    let h = head l _ _ _ c.valid.ensures c.is_next.ensures c.is_next-2.ensures in
-    let p = h ∙ c.if-not-head.false in
-    record {
-      outer = search rules;
-      within = search rules;
-      range = few l long p;
-      rest =
-          sym
-          (past-miss _ _ _ _
-          (has-miss _ _ _ blank_bill c.others-test.true (within l long p) (of_id _) (sym c.is_of.ensures ∙ c.if-is_of.false)))
-          ∙ c.others.invariant.rest;
-    }
-
-pub bills-preserved : goal.bills-preserved
-bills-preserved c =
-    record {
-      within = search rules;
-      range = c.others.invariant.range;
-      rest =
-          sym (past_end _ _ _ (slice-end _ _ _ c.others.invariant.within c.others-test.false))
-          ∙ c.others.invariant.rest;
-    }
+pub loop-i-preserved : goal.loop-i-preserved
+loop-i-preserved c =
+    let bs = live c.args.l in
+    let i = c.loop-i.i in
+    let e = any_from_yields_List (of_id (get_or bs i blank_bill).terms.identity) _ _ _ c.any.ensures.ran (YieldsList-from_slice (drop (i + 1) bs) (c.iter.ensures.rest ∙ take_rest bs (i + 1))) (λ x b q k. search (rules, tests)) in
+    sym (walk-on bs i c.loop-i-test.true (sym c.sound.ensures ∙ c.if-not-sound.false) (sym (same-has _ (drop (i + 1) bs)) ∙ sym e ∙ c.if-any.false)) ∙ c.loop-i.invariant
 
 pub returns : goal.returns
 unfolding walked distinct
@@ -127,6 +114,5 @@ returns c =
     let l = c.args.l in
     let long = places l _ c.well_formed.0 in
     let h = head l _ _ _ c.valid.ensures c.is_next.ensures c.is_next-2.ensures in
-    let p = h ∙ c.if-not-head.false in
-    answer l long p true
-    (sym c.bills.invariant.rest ∙ ap walked (slice-end _ _ _ c.bills.invariant.within c.bills-test.false))
+    answer l long (h ∙ c.if-not-head.false) true
+    (sym c.loop-i.invariant ∙ ap walked (drop_of_length-le (live l) c.loop-i-test.false))
