@@ -10,7 +10,7 @@ ghost use Rattle.ledger.specs.Books.{book, live, small_charge};
 ghost use Rattle.table.specs.Table.{cell, state_byte, terms_cells, amount_cells, state_cell, heading, line_of, lines_of, total_line, stop_line, table_of, heading_size, line_size, total_size, stop_size, table_room, printed_by, printed};
 ghost use Rattle.ledger.specs.Limits.{ledger_places};
 
-use ledger::{Bill, Ledger, Posted, Product, RateCode, State, Terms, bills, books};
+use ledger::{Bill, Ledger, Posted, Product, RateCode, State, Terms, bills};
 use units::{Cents, Date};
 
 // The bytes of the heading, of a bill's line, of the total's line and of the line after a bad entry.
@@ -128,11 +128,9 @@ fn put_lines(bills: &[Bill], out: &mut [u8], at: usize, today: Date) -> usize
     ensures { (result ≡ at + line_size * length bills.now) × (out.new ≡ put out.old at (lines_of today bills.now)) }
 {
     let mut end = at;
-    let mut i: usize = 0;
-    while i < bills.len() {
-        put_line(out, end, books::bill_at(bills, i), today);
+    for b in bills {
+        put_line(out, end, *b, today);
         end += LINE_SIZE;
-        i += 1;
     }
     end
 }
