@@ -135,20 +135,6 @@ fn put_lines(bills: &[Bill], out: &mut [u8], at: usize, today: Date) -> usize
     end
 }
 
-// The same of an array's first n bills, which it lends. It takes no slice of bills, so callers need no walk by hand.
-fn lines_first(
-    bills: [Bill; ledger::PLACES],
-    n: usize,
-    out: &mut [u8],
-    at: usize,
-    today: Date,
-) -> usize
-    requires { (n ≤ ledger_places) × (at + line_size * n ≤ length out.old) }
-    ensures { (result ≡ at + line_size * n) × (out.new ≡ put out.old at (lines_of today (take n bills))) }
-{
-    put_lines(&bills[..n], out, at, today)
-}
-
 // Writes the total's line.
 pub fn put_total(out: &mut [u8], at: usize, total: Cents)
     requires { at + total_size ≤ length out.old }
@@ -192,10 +178,8 @@ pub fn write(out: &mut [u8], l: Ledger, stopped: bool) -> usize
     ensures upper_bound { result ≤ table_room }
 {
     put_heading(out);
-    let bills = l.bills;
-    let n = l.count;
     let today = l.today;
-    let end = lines_first(bills, n, out, HEADING_SIZE, today);
+    let end = put_lines(&l.bills[..l.count], out, HEADING_SIZE, today);
     let total = l.total();
     put_total(out, end, total);
     put_stop(out, end + TOTAL_SIZE, stopped)
