@@ -25,8 +25,10 @@ pub fn sound(l: Ledger) -> bool
             return false;
         }
         let id = b.terms.identity;
-        if bills[i + 1..].iter().any(|o| o.terms.is_of(id)) {
-            return false;
+        for o in &bills[i + 1..] {
+            if o.terms.is_of(id) {
+                return false;
+            }
         }
     }
     true

@@ -1,28 +1,26 @@
--- `sound_ledger::sound` meets its contract. The invariant: the walk over the bills from i on is the whole walk.
-use Rattle.std.proofs.Common.{rules, tests, drop-cons}
-use Rattle.std.specs.List.{list_any}
+-- `sound_ledger::sound` meets its contract. The outer invariant: the walk over the bills from i on is the whole walk. The inner one: so is
+-- the walk past i, joined with the test that none of the later bills that are left has the identity of the bill at i.
+use Rattle.std.proofs.Common.{drop-cons}
 use Rattle.std.proofs.lemmas.List.{take_rest}
-use Rattle.std.proofs.lemmas.Iterator.{YieldsList-from_slice}
-use Rattle.std.proofs.lemmas.Iterator.Search.{any_from_yields_List}
 use native.Mathlib.Omega.{arith}
 use native.Mathlib.Numerals.{add-one}
-use Prim.Native.Nat.{ℕ, ◌+◌, ◌≤◌, ◌<◌}
+use Prim.Native.Nat.{ℕ, ◌+◌, ◌-◌, ◌≤◌, ◌<◌}
 use mathlib.Core.Path.{◌≡◌, refl, sym, ap, ◌∙◌}
-use mathlib.Core.Bool.{Bool, true, false, ◌&&◌, ◌||◌}
-use mathlib.Core.List.{List, [], ◌∷◌}
+use mathlib.Core.Bool.{Bool, true, false, ◌&&◌}
+use mathlib.Core.List.{List, ◌∷◌}
 use borrow.Author.Tests.{leb-true}
-use lib.ListN.{length, get_or, drop, drop_of_length-le}
+use lib.ListN.{length, get_or, take, drop, drop_of_length-le}
 use lib.Dec.{leb}
 use Rattle.fields.proofs.BoolLaws.{and_right}
 use Rattle.units.specs.Calendar.{is_date}
-use Rattle.rules.specs.Lists.{has}
+use Rattle.ledger.specs.declared.Identity.{Identity}
 use Rattle.ledger.specs.declared.Bill.{Bill}
 use Rattle.ledger.specs.declared.Ledger.{Ledger}
 use Rattle.ledger.specs.Bills.{blank_bill}
 use Rattle.ledger.specs.Books.{live, of_id}
 use Rattle.ledger.specs.Sound.{is_next, sound_bill, holds_id, distinct, sound_ledger}
 use Rattle.ledger.proofs.BookLaws.{places}
-use Rattle.ledger.proofs.SoundLaws.{walked, walked-bad, walked-good, past-hit, past-miss, past_end, head_test, split}
+use Rattle.ledger.proofs.SoundLaws.{walked, past, walked-bad, walked-good, past-hit, past-miss, past_end, head_test, split}
 use Rattle.sound_ledger.proofs.sound.Goals as goal
 
 same_head : (a a' b b' c c' d : Bool) → a ≡ a' → b ≡ b' → c ≡ c' → (a' && b' && c' && d) ≡ (a && b && c && d)
@@ -56,28 +54,26 @@ returns-then-not-head c =
     bad-head l long (h ∙ c.if-not-head.true)
 
 -- ---- one turn: the bill at i, and those past it
-same-has : (p : Bill → Bool) (bs : List Bill) → list_any p bs ≡ has p bs
-same-has p [] = refl
-same-has p (b ∷ bs) = ap (λ (t : Bool). p b || t) (same-has p bs)
-
 module _ (bs : List Bill) (i : ℕ) (h : i < length bs) where
   abbrev here : Bill
   here = get_or bs i blank_bill
 
-  abbrev later : List Bill
-  later = drop (i + 1) bs
-
-  from_here : drop i bs ≡ here ∷ later
+  from_here : drop i bs ≡ here ∷ drop (i + 1) bs
   from_here = rw (add-one i) (drop-cons bs i blank_bill h)
 
   walk-bad : sound_bill here ≡ false → walked (drop i bs) ≡ false
-  walk-bad e = ap walked from_here ∙ walked-bad here later e
+  walk-bad e = ap walked from_here ∙ walked-bad here (drop (i + 1) bs) e
 
-  walk-twin : sound_bill here ≡ true → holds_id here.terms.identity later ≡ true → walked (drop i bs) ≡ false
-  walk-twin e f = ap walked from_here ∙ walked-good here later e ∙ past-hit later here.terms.identity later f
+  walk-past : sound_bill here ≡ true → walked (drop i bs) ≡ past (drop (i + 1) bs) here.terms.identity (drop (i + 1) bs)
+  walk-past e = ap walked from_here ∙ walked-good here (drop (i + 1) bs) e
 
-  walk-on : sound_bill here ≡ true → holds_id here.terms.identity later ≡ false → walked (drop i bs) ≡ walked later
-  walk-on e f = ap walked from_here ∙ walked-good here later e ∙ past-miss later here.terms.identity later [] f ∙ past_end later here.terms.identity [] refl
+-- one later bill
+module _ (bs : List Bill) (j : ℕ) (h : j < length bs) (id : Identity) where
+  past-twin : of_id id (get_or bs j blank_bill) ≡ true → past bs id (drop j bs) ≡ false
+  past-twin e = past-hit bs id (drop j bs) (ap (holds_id id) (from_here bs j h) ∙ rw e)
+
+  past-other : of_id id (get_or bs j blank_bill) ≡ false → past bs id (drop j bs) ≡ past bs id (drop (j + 1) bs)
+  past-other e = past-miss bs id (drop j bs) (drop (j + 1) bs) (ap (holds_id id) (from_here bs j h) ∙ rw e)
 
 pub loop-i-init : goal.loop-i-init
 loop-i-init c = refl
@@ -90,23 +86,33 @@ returns-then-not-sound c =
     answer l long (h ∙ c.if-not-head.false) false
     (sym c.loop-i.invariant ∙ walk-bad (live l) c.loop-i.i c.loop-i-test.true (sym c.sound.ensures ∙ c.if-not-sound.true))
 
-pub returns-then-any : goal.returns-then-any
-returns-then-any c =
-    let l = c.args.l in
-    let bs = live l in
+pub loop-o-init : goal.loop-o-init
+loop-o-init c =
+    let bs = live c.args.l in
     let i = c.loop-i.i in
+    let id = (get_or bs i blank_bill).terms.identity in
+    ap (λ (xs : List Bill). past xs id xs) (take_rest bs (i + 1))
+    ∙ sym (walk-past bs i c.loop-i-test.true (sym c.sound.ensures ∙ c.if-not-sound.false))
+    ∙ c.loop-i.invariant
+
+pub returns-then-is_of : goal.returns-then-is_of
+returns-then-is_of c =
+    let l = c.args.l in
     let long = places l _ c.well_formed.0 in
     let h = head l _ _ _ c.valid.ensures c.is_next.ensures c.is_next-2.ensures in
-    let e = any_from_yields_List (of_id (get_or bs i blank_bill).terms.identity) _ _ _ c.any.ensures.ran (YieldsList-from_slice (drop (i + 1) bs) (c.iter.ensures.rest ∙ take_rest bs (i + 1))) (λ x b q k. search (rules, tests)) in
     answer l long (h ∙ c.if-not-head.false) false
-    (sym c.loop-i.invariant ∙ walk-twin bs i c.loop-i-test.true (sym c.sound.ensures ∙ c.if-not-sound.false) (sym (same-has _ (drop (i + 1) bs)) ∙ sym e ∙ c.if-any.true))
+    (sym c.loop-o.invariant ∙ past-twin _ c.loop-o.o-index c.loop-o-test.true _ (sym c.is_of.ensures ∙ c.if-is_of.true))
+
+pub loop-o-preserved : goal.loop-o-preserved
+loop-o-preserved c =
+    sym (past-other _ c.loop-o.o-index c.loop-o-test.true _ (sym c.is_of.ensures ∙ c.if-is_of.false)) ∙ c.loop-o.invariant
 
 pub loop-i-preserved : goal.loop-i-preserved
 loop-i-preserved c =
     let bs = live c.args.l in
     let i = c.loop-i.i in
-    let e = any_from_yields_List (of_id (get_or bs i blank_bill).terms.identity) _ _ _ c.any.ensures.ran (YieldsList-from_slice (drop (i + 1) bs) (c.iter.ensures.rest ∙ take_rest bs (i + 1))) (λ x b q k. search (rules, tests)) in
-    sym (walk-on bs i c.loop-i-test.true (sym c.sound.ensures ∙ c.if-not-sound.false) (sym (same-has _ (drop (i + 1) bs)) ∙ sym e ∙ c.if-any.false)) ∙ c.loop-i.invariant
+    let xs = take (length bs - (i + 1)) (drop (i + 1) bs) in
+    sym (past_end xs (get_or bs i blank_bill).terms.identity _ (drop_of_length-le xs c.loop-o-test.false) ∙ ap walked (take_rest bs (i + 1))) ∙ c.loop-o.invariant
 
 pub returns : goal.returns
 unfolding walked distinct
