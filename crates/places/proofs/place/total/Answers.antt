@@ -2,9 +2,7 @@
 use Prim.Native.Nat.{ℕ, ◌+◌, ◌<◌}
 use mathlib.Core.Path.{ap, ap₂, ◌∙◌}
 use native.Mathlib.Omega.{arith}
-use lib.ListN.{take, length-take}
-use lib.Seq.{take_all}
-use Rattle.ledger.specs.Books.{bill_charge, total_of}
+use Rattle.ledger.specs.Books.{bill_charge}
 use Rattle.words.specs.Layout.{ledger_of}
 use Rattle.places.proofs.PartLaws.{places_of}
 use Rattle.places.proofs.TotalLaws.{total-more, total-fits}
@@ -28,8 +26,3 @@ loop-i-preserved c =
     c.add_charge-sum.ensures
     ∙ ap₂ (λ (x y : ℕ). x + y) l.invariant (ap bill_charge c.bill_at.ensures)
     ∙ total-more bs c.args.n l.i (omega (arith, k, c.requires.1)) h
-
-pub returns : goal.returns
-returns c =
-    let xs = take c.args.n (ledger_of c.args.ws.now).bills in
-    c.loop-i.invariant ∙ ap total_of (take_all c.loop-i.i xs (omega (arith, length-take c.args.n (ledger_of c.args.ws.now).bills)))
