@@ -5,7 +5,7 @@ use Rattle.std.proofs.lemmas.List.{take_rest}
 use native.Mathlib.Omega.{arith}
 use native.Mathlib.Numerals.{add-one}
 use Prim.Native.Nat.{ℕ, ◌+◌, ◌-◌, ◌≤◌, ◌<◌}
-use mathlib.Core.Path.{◌≡◌, refl, sym, ap, ◌∙◌}
+use mathlib.Core.Path.{◌≡◌, sym, ap, ◌∙◌}
 use mathlib.Core.Bool.{Bool, true, false, ◌&&◌}
 use mathlib.Core.List.{List, ◌∷◌}
 use borrow.Author.Tests.{leb-true}
@@ -74,9 +74,6 @@ module _ (bs : List Bill) (j : ℕ) (h : j < length bs) (id : Identity) where
 
   past-other : of_id id (get_or bs j blank_bill) ≡ false → past bs id (drop j bs) ≡ past bs id (drop (j + 1) bs)
   past-other e = past-miss bs id (drop j bs) (drop (j + 1) bs) (ap (holds_id id) (from_here bs j h) ∙ rw e)
-
-pub loop-i-init : goal.loop-i-init
-loop-i-init c = refl
 
 pub returns-then-not-sound : goal.returns-then-not-sound
 returns-then-not-sound c =
