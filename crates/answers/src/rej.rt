@@ -103,9 +103,7 @@ pub fn write(out: &mut [u8], at: usize, s: &[u8], i: usize, k: usize, x: Rej)
     let e = a + RECORD_SIZE;
     let sup = is_sup(&s[a..e]);
     put_header(out, at, &s[a..e], x);
-    let mut j = 0;
-    while j < k {
+    for j in 0..k {
         put_detail_at(out, at, s, i, j, sup, x);
-        j += 1;
     }
 }

@@ -1,20 +1,22 @@
 -- Laws of the check, of groups by record number, and of lines 1 and 2. Assumes nothing.
-use mathlib.Core.Path.{◌≡◌, refl, ap, ◌∙◌}
+use mathlib.Core.Path.{◌≡◌, refl, ap, ap₂, ◌∙◌}
 use mathlib.Core.Bool.{Bool, true, false, cond, not, ◌&&◌, and-true}
-use mathlib.Core.List.{List, [], ◌∷◌}
-use Prim.Native.Nat.{ℕ, zero, suc, ◌+◌, ◌-◌, ◌≤◌, ◌<◌}
+use mathlib.Core.List.{List, [], ◌∷◌, ◌++◌}
+use Prim.Native.Nat.{ℕ, zero, suc, ◌+◌, ◌-◌, ◌*◌, ◌/◌, ◌≤◌, ◌<◌}
 use native.Mathlib.Omega.{arith}
 use native.Mathlib.Numerals.{add-one}
-use native.Mathlib.Nat.{not-suc-le-zero, sub-zero}
-use lib.ListN.{length, get_or, take}
+use native.Mathlib.Nat.{not-suc-le-zero}
+use lib.ListN.{length, get_or, take, drop, length-append}
 use lib.Dec.{leb}
-use lib.Seq.{length-take-le, take-suc}
+use Rattle.std.proofs.lemmas.List.{drop-take}
+use lib.Seq.{length-take-le, take-take, take-suc, take_at, drop-append-add}
+use Rattle.fields.specs.Put.{part}
 use borrow.Author.Tests.{eq-eqb, ne_eqb}
 use Rattle.rules.specs.Lists.{every, count}
 use Rattle.rules.proofs.ListLaws.{every_append}
 use Rattle.records.specs.Layout.{record_at, records_from, is_rsp, is_sup}
 use Rattle.records.proofs.LayoutLaws.{records-step, records-end, length-records}
-use Rattle.file.specs.File.{printable, is_header, good_record, headed, Group, leading, groups, asks_id, detail_of, unfit, line1, line2, form_of}
+use Rattle.file.specs.File.{records, printable, is_header, good_record, headed, Group, leading, groups, asks_id, detail_of, unfit, line1, line2, form_of}
 use Rattle.file.specs.parts.Walk.{records_after, group_at, pair_form}
 use Rattle.records.specs.declared.Notification.{Notification}
 use Rattle.records.specs.declared.Notification.TheVariants.{Response, Supplement}
@@ -30,21 +32,33 @@ unfolding printable
 printable-more r i good h e =
     rw (add-one i, take-suc r i 0 h, every_append printable (take i r) (get_or r i 0 ∷ []), ← e, and-true)
 
--- the records from record i of n on
-module _ (s : List ℕ) (i n : ℕ) (h : i < n) where
-  pub good-step : good_record (record_at s i) ≡ true
-      → every good_record (records_from s i (n - i)) ≡ every good_record (records_from s (i + 1) (n - (i + 1)))
-  good-step e = ap (every good_record) (records-step s i n h) ∙ rw e
+-- a record r in front of what is left, t
+module _ (r t : List ℕ) (h : length r ≡ 321) where
+  records-past : (i k : ℕ) → records_from (r ++ t) (i + 1) k ≡ records_from t i k
+  unfolding records_from part
+  records-past i zero = refl
+  records-past i (suc k) =
+      let e : (i + 1) * 321 ≡ length r + i * 321 = omega arith in
+      ap₂ (λ (x : List ℕ) (xs : List (List ℕ)). x ∷ xs) (ap (λ (n : ℕ). take 321 (drop n (r ++ t))) e ∙ ap (take 321) (drop-append-add r t (i * 321)))
+      (records-past (i + 1) k)
 
-  pub good-stop : good_record (record_at s i) ≡ false → every good_record (records_from s i (n - i)) ≡ false
-  good-stop e = ap (every good_record) (records-step s i n h) ∙ rw e
+  records-first : records (r ++ t) ≡ r ∷ records t
+  unfolding records records_from part
+  records-first =
+      let e : length (r ++ t) / 321 ≡ suc (length t / 321) = omega (arith, length-append r t) in
+      ap (records_from (r ++ t) 0) e ∙ ap₂ (λ (x : List ℕ) (xs : List (List ℕ)). x ∷ xs) (take_at r t 321 h) (records-past 0 (length t / 321))
 
-pub good-end : (s : List ℕ) (i n : ℕ) → n ≤ i → every good_record (records_from s i (n - i)) ≡ true
-good-end s i n h = ap (every good_record) (records-end s i n h)
+  pub good-step : good_record r ≡ true → every good_record (records (r ++ t)) ≡ every good_record (records t)
+  good-step e = ap (every good_record) records-first ∙ rw e
 
--- all records, as a walk from record 0 on has them
-pub from_start : (s : List ℕ) (n : ℕ) → records_from s 0 (n - 0) ≡ records_from s 0 n
-from_start s n = ap (λ (k : ℕ). records_from s 0 k) (sub-zero n)
+  pub good-stop : good_record r ≡ false → every good_record (records (r ++ t)) ≡ false
+  good-stop e = ap (every good_record) records-first ∙ rw e
+
+pub good-end : (s : List ℕ) → length s < 321 → every good_record (records s) ≡ true
+unfolding records
+good-end s h =
+    let e : length s / 321 ≡ 0 = omega arith in
+    ap (λ (k : ℕ). every good_record (records_from s 0 k)) e ∙ ap (every good_record) (records-end s 0 0 (omega arith))
 
 pub headed-first : (s : List ℕ) (n : ℕ) → 0 < n → headed (records_from s 0 n) ≡ is_header (record_at s 0)
 unfolding headed records_from
@@ -74,28 +88,6 @@ module _ (s : List ℕ) (i n : ℕ) (h : i < n) where
   unfolding leading
   leading-detail e = ap leading (records-step s i n h) ∙ rw e (omega arith)
 
-  -- how the counts go on
-  abbrev rest : List Group
-  rest = groups (records_from s (i + 1) (n - (i + 1)))
-
-  abbrev here : List Group
-  here = groups (records_from s i (n - i))
-
-  pub length-header : is_header (record_at s i) ≡ true → length here ≡ 1 + length rest
-  length-header e = ap length (groups-header e) ∙ omega arith
-
-  pub length-detail : is_header (record_at s i) ≡ false → length here ≡ length rest
-  length-detail e = ap length (groups-detail e)
-
-  pub count-detail : (p : Group → Bool) → is_header (record_at s i) ≡ false → count p here ≡ count p rest
-  count-detail p e = ap (count p) (groups-detail e)
-
-  pub count-hit : (p : Group → Bool) → is_header (record_at s i) ≡ true → p (group_at s i n) ≡ true → count p here ≡ 1 + count p rest
-  count-hit p e k = ap (count p) (groups-header e) ∙ rw k (omega arith)
-
-  pub count-miss : (p : Group → Bool) → is_header (record_at s i) ≡ true → p (group_at s i n) ≡ false → count p here ≡ count p rest
-  count-miss p e k = ap (count p) (groups-header e) ∙ rw k
-
 pub groups-end : (s : List ℕ) (i n : ℕ) → n ≤ i → groups (records_from s i (n - i)) ≡ []
 unfolding groups
 groups-end s i n h = ap groups (records-end s i n h)
@@ -104,15 +96,54 @@ pub leading_end : (s : List ℕ) (i n : ℕ) → n ≤ i → leading (records_fr
 unfolding leading
 leading_end s i n h = ap leading (records-end s i n h)
 
-pub count-end : (s : List ℕ) (i n : ℕ) → n ≤ i → (p : Group → Bool) → count p (groups (records_from s i (n - i))) ≡ 0
-count-end s i n h p = ap (count p) (groups-end s i n h)
+-- how the counts go on past a record r in front of what is left, t
+module _ (r t : List ℕ) (h : length r ≡ 321) where
+  abbrev rest : List Group
+  rest = groups (records t)
 
-pub length-end : (s : List ℕ) (i n : ℕ) → n ≤ i → length (groups (records_from s i (n - i))) ≡ 0
-length-end s i n h = ap length (groups-end s i n h)
+  abbrev here : List Group
+  here = groups (records (r ++ t))
 
-pub asks : (s : List ℕ) (i n : ℕ) (b : Bool) → is_sup (record_at s i) ≡ b → asks_id (group_at s i n) ≡ b
-unfolding group_at
-asks s i n b e = e
+  pub length-header : is_header r ≡ true → length here ≡ 1 + length rest
+  unfolding groups
+  length-header e = ap (λ (rs : List (List ℕ)). length (groups rs)) (records-first r t h) ∙ rw e (omega arith)
+
+  pub length-detail : is_header r ≡ false → length here ≡ length rest
+  unfolding groups
+  length-detail e = ap (λ (rs : List (List ℕ)). length (groups rs)) (records-first r t h) ∙ rw e
+
+  pub count-header : (b : Bool) → is_header r ≡ true → is_sup r ≡ b → count asks_id here ≡ cond b 1 0 + count asks_id rest
+  unfolding groups
+  count-header true e f = ap (λ (rs : List (List ℕ)). count asks_id (groups rs)) (records-first r t h) ∙ rw (e, f) (omega arith)
+  count-header false e f = ap (λ (rs : List (List ℕ)). count asks_id (groups rs)) (records-first r t h) ∙ rw (e, f) (omega arith)
+
+  pub count-detail : is_header r ≡ false → count asks_id here ≡ count asks_id rest
+  unfolding groups
+  count-detail e = ap (λ (rs : List (List ℕ)). count asks_id (groups rs)) (records-first r t h) ∙ rw e
+
+-- nothing is left
+pub none-left : (t : List ℕ) → length t < 321 → groups (records t) ≡ []
+unfolding records groups
+none-left t h =
+    let e : length t / 321 ≡ 0 = omega arith in
+    ap (λ (k : ℕ). groups (records_from t 0 k)) e ∙ ap groups (records-end t 0 0 (omega arith))
+
+-- the first n records
+module _ (s : List ℕ) (m : ℕ) where
+  same-records : (i k : ℕ) → (i + k) * 321 ≤ m → records_from (take m s) i k ≡ records_from s i k
+  unfolding records_from part
+  same-records i zero l = refl
+  same-records i (suc k) l =
+      let e : m ≡ i * 321 + (m - i * 321) = omega arith in
+      let f = ap (λ (j : ℕ). drop (i * 321) (take j s)) e ∙ drop-take (i * 321) (m - i * 321) s in
+      ap₂ (λ (x : List ℕ) (xs : List (List ℕ)). x ∷ xs) (ap (take 321) f ∙ take-take 321 (m - i * 321) (drop (i * 321) s) (omega arith))
+      (same-records (i + 1) k (omega arith))
+
+pub first-records : (s : List ℕ) (n : ℕ) → n * 321 ≤ length s → records (take (n * 321) s) ≡ records_from s 0 n
+unfolding records
+first-records s n h =
+    let e : length (take (n * 321) s) / 321 ≡ n = omega (arith, length-take-le (n * 321) s h) in
+    ap (records_from (take (n * 321) s) 0) e ∙ same-records s (n * 321) 0 n (omega arith)
 
 -- ---- details
 leading_le : (rs : List (List ℕ)) → leading rs ≤ length rs

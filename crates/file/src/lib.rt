@@ -17,11 +17,8 @@ fn all_printable(r: &[u8], n: usize) -> bool
     ensures { result ≡ every printable (take n r.now) }
 {
     let mut good = true;
-    let mut i = 0;
-    while i < n {
-        let x = r[i];
+    for &x in &r[..n] {
         good = good & ((32 <= x) & (x <= 126));
-        i += 1;
     }
     good
 }
@@ -74,21 +71,12 @@ pub fn good_file(s: &[u8]) -> bool
     if FILE_SIZE < len {
         return false;
     }
-    let n = len / RECORD_SIZE;
-    let mut i = 0;
-    while i < n {
-        let a = i * RECORD_SIZE;
-        let e = a + RECORD_SIZE;
-        if good_record(&s[a..e]) {
-            i += 1;
-        } else {
+    for r in s.chunks_exact(RECORD_SIZE) {
+        if !good_record(r) {
             return false;
         }
     }
-    if n == 0 {
-        return true;
-    }
-    header_at(s, 0)
+    s.is_empty() || header_at(s, 0)
 }
 
 // How many details the group has whose header is record i, in a file of n records.
@@ -96,12 +84,10 @@ pub fn detail_count(s: &[u8], i: usize, n: usize) -> usize
     requires { (i < n) × (n * record_size ≤ length s.now) }
     ensures { result ≡ leading (records_after s.now i n) }
 {
-    let mut j = i + 1;
-    while j < n {
+    for j in i + 1..n {
         if header_at(s, j) {
             return j - (i + 1);
         }
-        j += 1;
     }
     n - (i + 1)
 }
@@ -119,10 +105,10 @@ pub fn count_groups(s: &[u8], n: usize) -> Counts
 {
     let mut g = 0;
     let mut k = 0;
-    for i in 0..n {
-        if header_at(s, i) {
+    for r in s[..n * RECORD_SIZE].chunks_exact(RECORD_SIZE) {
+        if is_header(r) {
             g += 1;
-            if sup_at(s, i) {
+            if records::has_notice(r, b"SUP") {
                 k += 1;
             }
         }

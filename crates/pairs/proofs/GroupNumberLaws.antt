@@ -4,8 +4,7 @@ use mathlib.Core.Path.{◌≡◌, refl, sym, ap, ◌∙◌, subst}
 use mathlib.Core.Bool.{Bool, true, false, cond, not, ◌&&◌, false≢true}
 use mathlib.Core.List.{List}
 use native.Mathlib.Omega.{arith}
-use lib.ListN.{length, get_or, set}
-use lib.Seq.{get_or-set_same, get_or-set_other}
+use lib.ListN.{length}
 use lib.Dec.{eqb}
 use borrow.Author.Tests.{eqb-true, eqb-false, eq-eqb, ne_eqb}
 use Rattle.fields.specs.Text.{text}
@@ -214,15 +213,6 @@ module _ (s : List ℕ) (n : ℕ) (b : n * 321 ≤ length s) where
           alike-none (group_at s i n) (group_at s j n) f
           ∙ sym (ap (λ (x : ℕ). eqb x (group_number (group_at s i n))) (number-none (group_at s j n) f)
           ∙ ne_eqb 0 (group_number (group_at s i n)) (λ z. number-some (group_at s i n) (fits s i n b p) (sym z)))
-
--- ---- for the loop that fills the numbers
-pub numbers_more : (f : ℕ → ℕ) (xs : List ℕ) (i v : ℕ) → i < length xs → v ≡ f i → ((k : ℕ) → k < i → get_or xs k 0 ≡ f k)
-    → (k : ℕ) → k < i + 1 → get_or (set xs i v) k 0 ≡ f k
-numbers_more f xs i v b e w k h = go (eqb k i) refl
-  where
-    go : (t : Bool) → eqb k i ≡ t → get_or (set xs i v) k 0 ≡ f k
-    go true q = let z = eqb-true k i q in ap (λ (m : ℕ). get_or (set xs i v) m 0) z ∙ get_or-set_same xs i v 0 b ∙ e ∙ ap f (sym z)
-    go false q = let z = eqb-false k i q in get_or-set_other xs i k v 0 z ∙ w k (omega (arith, z))
 
 pub code-line1 : (g : Group) → (code_number (form_of g) ≡ 0 → ⊥) → line1 g ≡ false
 unfolding form_of

@@ -82,11 +82,3 @@ none-set (suc n) (suc k) = none-set n k
 
 pub unmarked : (n : ℕ) (f : ℕ → Bool) → Marked (replicate n false) f 0
 unmarked n f = ((λ k h. absurd (omega arith)), (λ k h. none-set n k))
-
--- a test that failed below j, and at j
-pub fails_more : (f : ℕ → Bool) (j : ℕ) → ((k : ℕ) → k < j → f k ≡ false) → f j ≡ false → (k : ℕ) → k < j + 1 → f k ≡ false
-fails_more f j w e k h = go (eqb k j) refl
-  where
-    go : (t : Bool) → eqb k j ≡ t → f k ≡ false
-    go true p = ap f (eqb-true k j p) ∙ e
-    go false p = w k (omega (arith, eqb-false k j p))

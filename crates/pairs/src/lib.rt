@@ -63,8 +63,8 @@ fn group_numbers(s: &[u8], n: usize) -> [u64; FILE_RECORDS]
     ensures { (length result ≡ file_records) × ((k : ℕ) → k < n → get_or result k 0 ≡ number_at s.now n k) }
 {
     let mut r = [0u64; FILE_RECORDS];
-    for i in 0..n {
-        r[i] = number_at(s, i, n);
+    for (i, number) in r[..n].iter_mut().enumerate() {
+        *number = number_at(s, i, n);
     }
     r
 }
@@ -83,8 +83,7 @@ fn shared_slots<'a>(numbers: &'a [u64; FILE_RECORDS], n: usize) -> [bool; 509]
 {
     let mut once = [false; 509];
     let mut twice = [false; 509];
-    for i in 0..n {
-        let own = numbers[i];
+    for &own in &numbers[..n] {
         let h = slot(own);
         let before = once[h];
         let again = twice[h];
@@ -102,13 +101,11 @@ pub fn duplicates(s: &[u8], n: usize) -> [bool; FILE_RECORDS]
     let numbers = group_numbers(s, n);
     let shared = shared_slots(&numbers, n);
     let mut marks = [false; FILE_RECORDS];
-    for i in 0..n {
-        let own = numbers[i];
+    for (i, &own) in numbers[..n].iter().enumerate() {
         let h = slot(own);
         let met = shared[h];
         if (own != 0) & met {
-            'others: for j in 0..n {
-                let other = numbers[j];
+            'others: for (j, &other) in numbers[..n].iter().enumerate() {
                 if (other == own) & (j != i) {
                     marks[i] = true;
                     break 'others;

@@ -12,11 +12,10 @@ use borrow.Author.Tests.{eqb-true, eqb-false, eq-eqb, ne_eqb}
 use Rattle.fields.proofs.BoolLaws.{and_left, and_right, cases}
 use Rattle.ledger.specs.declared.Identity.{Identity}
 use Rattle.ledger.specs.declared.Bill.{Bill}
-use Rattle.rules.specs.Lists.{every, has, find}
+use Rattle.rules.specs.Lists.{has, find}
 use Rattle.ledger.specs.Bills.{blank_bill}
 use Rattle.ledger.specs.Books.{of_id}
 use Rattle.ledger.specs.Sound.{holds_id, distinct}
-use Rattle.rules.proofs.ListLaws.{every_append}
 use Rattle.places.specs.parts.Slots.{slots, identity_slot}
 use Rattle.std.specs.Prelude.{Some, None}
 
@@ -40,15 +39,6 @@ module _ {A : Type 0} (p : A → Bool) where
   not_found n [] e = refl
   not_found n (x ∷ xs) e =
       cases (p x) (λ f. let g = rw f at e in let z : ◌≡◌ {A = ℕ} 0 1 = cc in absurd (omega arith)) (λ f. rw f (not_found (suc n) xs (rw f at e)))
-
-  -- the test of one element more
-  pub every_more : (xs : List A) (i : ℕ) (d : A) → i < length xs → (every p (take i xs) && p (get_or xs i d)) ≡ every p (take (i + 1) xs)
-  every_more xs i d h =
-      sym
-      (ap (λ (n : ℕ). every p (take n xs)) (add-one i)
-      ∙ ap (every p) (take-suc xs i d h)
-      ∙ every_append p (take i xs) (get_or xs i d ∷ [])
-      ∙ ap (λ (b : Bool). every p (take i xs) && b) (cases (p (get_or xs i d)) (λ e. rw e) (λ e. rw e)))
 
 -- ---- no identity stands twice
 eqb_swap : (a b : ℕ) → eqb a b ≡ eqb b a

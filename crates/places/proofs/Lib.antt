@@ -3,4 +3,4 @@ pub mod PartLaws
 pub mod DistinctLaws
 pub mod SoundWordsLaws
 pub mod TotalLaws
-pub mod AccountLaws
+pub mod RangeLaws

@@ -1,25 +1,22 @@
 -- The parts of a ledger in words: what a read gives, and what a store leaves. Assumes nothing.
 use Prim.Native.Nat.{ℕ, zero, suc, ◌+◌, ◌*◌, ◌≤◌, ◌<◌}
 use mathlib.Core.Path.{◌≡◌, refl, sym, ap, ap₂, ◌∙◌}
-use mathlib.Core.Bool.{Bool, true, ◌&&◌}
+use mathlib.Core.Bool.{Bool, true}
 use mathlib.Core.List.{List, [], ◌∷◌, ◌++◌}
 use native.Mathlib.Omega.{arith}
 use native.Mathlib.Nat.{not-suc-le-zero, le_of_suc-le-suc}
 use mir.Val.{Val}
 use denote.Laws.{Is}
-use lib.Dec.{eqb}
 use lib.ListN.{length, drop, get_or, set, length-set, length-drop}
 use lib.Seq.{drop_at}
 use borrow.Author.Tests.{eq-eqb}
 use Rattle.fields.specs.Put.{put}
 use Rattle.fields.proofs.BoolLaws.{and_left, and_right}
-use Rattle.ledger.specs.declared.Identity.{Identity}
 use Rattle.ledger.specs.declared.Bill.{Bill}
 use Rattle.ledger.specs.declared.Ledger.{Ledger}
 use Rattle.ledger.specs.declared.LedgerHeader.{LedgerHeader}
 use Rattle.rules.specs.Lists.{every}
 use Rattle.ledger.specs.Bills.{blank_bill}
-use Rattle.ledger.specs.Books.{of_id, of_account}
 use Rattle.ledger.specs.parts.Places.{bill_at, header_of, replaced, with_header}
 use Rattle.ledger.specs.contracts.Bill.{the_row}
 use Rattle.words.specs.Layout.{place_size, ledger_size, bill_words, bills_words, head_words, ledger_words, holds_code, holds_bill, holds_bills, holds_ledger, code_in, terms_in, bill_in, bills_in, ledger_in, ledger_of, byte_code, removal_said, bill_said}
@@ -134,15 +131,6 @@ module _ (ws : List ℕ) (h : holds_ledger ws ≡ true) where
       (e ∙ ap (λ (xs : List ℕ). put xs (4 + place_size * p) (bill_words b)) (sym (words-ledger ws h)) ∙ put-place l p b (omega (arith, places_of)))
 
   -- the identity at a place
-  pub same_of : (id : Identity) (p : ℕ) → p < 128
-      → of_id id (bill_at (ledger_of ws) p) ≡ (eqb (get_or ws (4 + place_size * p) 0) id.account && eqb (get_or ws (4 + place_size * p + 1) 0) id.key)
-  unfolding bill_in terms_in
-  same_of id p k =
-      ap (of_id id) (sym (bill-of p k))
-      ∙ ap₂ (λ (x y : ℕ). eqb x id.account && eqb y id.key)
-      (get_d_drop ws (4 + place_size * p) 0 ∙ ap (λ (i : ℕ). get_or ws i 0) (omega arith))
-      (get_d_drop ws (4 + place_size * p) 1)
-
   pub identity-of : (p : ℕ) → p < 128
       → record { account = get_or ws (4 + place_size * p) 0; key = get_or ws (4 + place_size * p + 1) 0 } ≡ (bill_at (ledger_of ws) p).terms.identity
   unfolding bill_in terms_in
@@ -151,10 +139,6 @@ module _ (ws : List ℕ) (h : holds_ledger ws ≡ true) where
       (ap (λ (i : ℕ). get_or ws i 0) (omega arith) ∙ sym (get_d_drop ws (4 + place_size * p) 0))
       (sym (get_d_drop ws (4 + place_size * p) 1))
       ∙ ap (λ (b : Bill). b.terms.identity) (bill-of p k)
-
-  -- the account at a place
-  pub account-of : (account p : ℕ) → p < 128 → of_account account (bill_at (ledger_of ws) p) ≡ eqb (get_or ws (4 + place_size * p) 0) account
-  account-of account p k = ap (λ (id : Identity). eqb id.account account) (sym (identity-of p k))
 
 -- the four words of the header, stored one by one
 four-stored : (ws : List ℕ) (a b c d : ℕ) → 4 ≤ length ws → set (set (set (set ws 0 a) 1 b) 2 c) 3 d ≡ a ∷ b ∷ c ∷ d ∷ drop 4 ws

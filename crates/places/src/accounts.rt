@@ -8,23 +8,13 @@ ghost use Rattle.words.specs.Layout.{holds_ledger, ledger_of, removal_said};
 
 use crate::place;
 use units::Date;
-use words::{HEADER_SIZE, PLACE_SIZE};
 
 // Whether one of the first n bills is of the account.
 pub fn has_account(ws: &[u64], n: usize, account: u64) -> bool
     requires { (holds_ledger ws.now ≡ true) × (n ≤ ledger_places) }
     ensures { result ≡ has (of_account account) (take n (ledger_of ws.now).bills) }
 {
-    let mut i = 0;
-    while i < n {
-        let at = HEADER_SIZE + PLACE_SIZE * i;
-        let same = ws[at] == account;
-        if same {
-            return true;
-        }
-        i += 1;
-    }
-    false
+    (0..n).any(|i| place::identity_at(ws, i).account == account)
 }
 
 // Sets the removal date of the bill at place p, if it is of the account.
@@ -32,9 +22,7 @@ fn remove_at(ws: &mut [u64], p: usize, account: u64, date: Date)
     requires { (holds_ledger ws.old ≡ true) × (p < ledger_places) × (removal_said (Some date) ≡ true) }
     ensures { (holds_ledger ws.new ≡ true) × (ledger_of ws.new ≡ replaced (ledger_of ws.old) p (removed_of account date (bill_at (ledger_of ws.old) p))) }
 {
-    let at = HEADER_SIZE + PLACE_SIZE * p;
-    let same = ws[at] == account;
-    if same {
+    if place::identity_at(ws, p).account == account {
         let b = place::bill_at(ws, p);
         place::put_bill(ws, p, b.remove_if_of(account, date));
     }
@@ -45,9 +33,7 @@ pub fn remove(ws: &mut [u64], n: usize, account: u64, date: Date)
     requires { (holds_ledger ws.old ≡ true) × (n ≤ ledger_places) × (removal_said (Some date) ≡ true) }
     ensures { (holds_ledger ws.new ≡ true) × (ledger_of ws.new ≡ removed_first n account date (ledger_of ws.old)) }
 {
-    let mut i = 0;
-    while i < n {
+    for i in 0..n {
         remove_at(ws, i, account, date);
-        i += 1;
     }
 }

@@ -2,7 +2,6 @@
 ghost use Rattle.std.specs.Prelude.{◌≡◌, true, ◌&&◌, ◌≤◌, ◌<◌, leb, take};
 ghost use Rattle.units.specs.Calendar.{is_date};
 ghost use Rattle.rules.specs.Lists.{every};
-ghost use Rattle.ledger.specs.parts.Places.{bill_at};
 ghost use Rattle.ledger.specs.Sound.{is_next, sound_bill, holds_id, distinct, sound_ledger};
 ghost use Rattle.words.specs.Layout.{holds_ledger, ledger_of};
 ghost use Rattle.ledger.specs.Limits.{ledger_places};
@@ -10,7 +9,6 @@ ghost use Rattle.places.specs.parts.Slots.{slots, identity_slot};
 
 use crate::place;
 use ledger::{Identity, LedgerHeader, PLACES};
-use words::{HEADER_SIZE, PLACE_SIZE};
 
 // How many slots there are, and by what a step of the account moves the slot: 10000, which is 329 past a multiple of the slots.
 const SLOTS: u64 = 509;
@@ -33,26 +31,7 @@ pub fn good_bills(ws: &[u64], n: usize) -> bool
     requires { (holds_ledger ws.now ≡ true) × (n ≤ ledger_places) }
     ensures { result ≡ every sound_bill (take n (ledger_of ws.now).bills) }
 {
-    let mut good = true;
-    let mut i = 0;
-    while i < n {
-        let b = place::bill_at(ws, i);
-        good = good & b.sound();
-        i += 1;
-    }
-    good
-}
-
-// The identity at place p.
-fn identity_at(ws: &[u64], p: usize) -> Identity
-    requires { (holds_ledger ws.now ≡ true) × (p < ledger_places) }
-    ensures { result ≡ (bill_at (ledger_of ws.now) p).terms.identity }
-{
-    let at = HEADER_SIZE + PLACE_SIZE * p;
-    Identity {
-        account: ws[at],
-        key: ws[at + 1],
-    }
+    (0..n).all(|i| place::bill_at(ws, i).sound())
 }
 
 // The slot of an identity.
@@ -92,16 +71,14 @@ pub fn all_distinct(ws: &[u64], n: usize) -> bool
     ensures { result ≡ distinct (take n (ledger_of ws.now).bills) }
 {
     let mut met = [false; SLOTS as usize];
-    let mut i = 0;
-    while i < n {
-        let id = identity_at(ws, i);
+    for i in 0..n {
+        let id = place::identity_at(ws, i);
         let s = slot(id);
         let before = met[s];
         if stands_if_met(ws, i, id, before) {
             return false;
         }
         met[s] = true;
-        i += 1;
     }
     true
 }

@@ -42,6 +42,18 @@ pub fn bill_at(ws: &[u64], p: usize) -> Bill
     words::bill_in(ws, HEADER_SIZE + PLACE_SIZE * p)
 }
 
+// The identity of the bill at place p.
+pub fn identity_at(ws: &[u64], p: usize) -> Identity
+    requires { (holds_ledger ws.now ≡ true) × (p < ledger_places) }
+    ensures { result ≡ (bill_at (ledger_of ws.now) p).terms.identity }
+{
+    let at = HEADER_SIZE + PLACE_SIZE * p;
+    Identity {
+        account: ws[at],
+        key: ws[at + 1],
+    }
+}
+
 // Stores a bill at place p: its removal date is not 0, which stands for an empty one.
 pub fn put_bill(ws: &mut [u64], p: usize, b: Bill)
     requires { (holds_ledger ws.old ≡ true) × (p < ledger_places) × (removal_said b.terms.removal ≡ true) }
@@ -55,16 +67,12 @@ pub fn find(ws: &[u64], n: usize, id: Identity) -> Option<usize>
     requires { (holds_ledger ws.now ≡ true) × (n ≤ ledger_places) }
     ensures { result ≡ find (of_id id) 0 (take n (ledger_of ws.now).bills) }
 {
-    let account = id.account;
-    let key = id.key;
-    let mut i = 0;
-    while i < n {
-        let at = HEADER_SIZE + PLACE_SIZE * i;
-        let same = (ws[at] == account) & (ws[at + 1] == key);
+    for i in 0..n {
+        let at = identity_at(ws, i);
+        let same = (at.account == id.account) & (at.key == id.key);
         if same {
             return Some(i);
         }
-        i += 1;
     }
     None
 }
@@ -75,11 +83,8 @@ pub fn total(ws: &[u64], n: usize) -> Cents
     ensures { result.0 ≡ total_of (take n (ledger_of ws.now).bills) }
 {
     let mut sum = Cents(0);
-    let mut i = 0;
-    while i < n {
-        let b = bill_at(ws, i);
-        sum = books::add_charge(sum, b);
-        i += 1;
+    for i in 0..n {
+        sum = books::add_charge(sum, bill_at(ws, i));
     }
     sum
 }

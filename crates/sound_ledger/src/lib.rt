@@ -19,23 +19,17 @@ pub fn sound(l: Ledger) -> bool
     if !head {
         return false;
     }
-    let mut i = 0;
-    'bills: while i < n {
-        let b = l.bills[i];
+    let bills = &l.bills[..n];
+    for (i, b) in bills.iter().enumerate() {
         if !b.sound() {
             return false;
         }
-        let terms = b.terms;
-        let id = terms.identity;
-        let mut j = i + 1;
-        'others: while j < n {
-            let o = l.bills[j];
+        let id = b.terms.identity;
+        for o in &bills[i + 1..] {
             if o.terms.is_of(id) {
                 return false;
             }
-            j += 1;
         }
-        i += 1;
     }
     true
 }

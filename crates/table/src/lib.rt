@@ -10,7 +10,7 @@ ghost use Rattle.ledger.specs.Books.{book, live, small_charge};
 ghost use Rattle.table.specs.Table.{cell, state_byte, terms_cells, amount_cells, state_cell, heading, line_of, lines_of, total_line, stop_line, table_of, heading_size, line_size, total_size, stop_size, table_room, printed_by, printed};
 ghost use Rattle.ledger.specs.Limits.{ledger_places};
 
-use ledger::{Bill, Ledger, Posted, Product, RateCode, State, Terms, bills, books};
+use ledger::{Bill, Ledger, Posted, Product, RateCode, State, Terms, bills};
 use rules::Cause;
 use units::{Cents, Date};
 
@@ -122,27 +122,11 @@ fn put_lines(bills: &[Bill], out: &mut [u8], at: usize, today: Date) -> usize
     ensures { (result ≡ at + line_size * length bills.now) × (out.new ≡ put out.old at (lines_of today bills.now)) }
 {
     let mut end = at;
-    let mut i: usize = 0;
-    while i < bills.len() {
-        put_line(out, end, books::bill_at(bills, i), today);
+    for b in bills {
+        put_line(out, end, *b, today);
         end += LINE_SIZE;
-        i += 1;
     }
     end
-}
-
-// The same of an array's first n bills, which it lends. It takes no slice of bills, so callers need no walk by hand.
-fn lines_first(
-    bills: [Bill; ledger::PLACES],
-    n: usize,
-    out: &mut [u8],
-    at: usize,
-    today: Date,
-) -> usize
-    requires { (n ≤ ledger_places) × (at + line_size * n ≤ length out.old) }
-    ensures { (result ≡ at + line_size * n) × (out.new ≡ put out.old at (lines_of today (take n bills))) }
-{
-    put_lines(&bills[..n], out, at, today)
 }
 
 // Writes the total's line.
@@ -188,10 +172,8 @@ pub fn write(out: &mut [u8], l: Ledger, stopped: bool) -> usize
     ensures upper_bound { result ≤ table_room }
 {
     put_heading(out);
-    let bills = l.bills;
-    let n = l.count;
     let today = l.today;
-    let end = lines_first(bills, n, out, HEADING_SIZE, today);
+    let end = put_lines(&l.bills[..l.count], out, HEADING_SIZE, today);
     let total = l.total();
     put_total(out, end, total);
     put_stop(out, end + TOTAL_SIZE, stopped)

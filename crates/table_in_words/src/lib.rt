@@ -19,11 +19,9 @@ fn lines_in(ws: &[u64], n: usize, out: &mut [u8], at: usize, today: Date) -> usi
     requires { (holds_ledger ws.now ≡ true) × (n ≤ ledger_places) × (at + line_size * n ≤ length out.old) }
     ensures { (result ≡ at + line_size * n) × (out.new ≡ put out.old at (lines_of today (take n (ledger_of ws.now).bills))) }
 {
-    let mut i = 0;
-    while i < n {
+    for i in 0..n {
         let b = place::bill_at(ws, i);
         table::put_line(out, at + LINE_SIZE * i, b, today);
-        i += 1;
     }
     at + LINE_SIZE * n
 }

@@ -4,9 +4,6 @@ use native.Mathlib.Omega.{arith}
 use Rattle.file.proofs.FileLaws.{leading-header, leading-detail, leading_end}
 use Rattle.file.proofs.detail_count.Goals as goal
 
-pub loop-j-init : goal.loop-j-init
-loop-j-init c = (omega arith, omega arith, omega arith)
-
 pub returns-then-header_at : goal.returns-then-header_at
 returns-then-header_at c =
     let e = leading-header c.args.s.now c.loop-j.j c.args.n (omega arith) (sym c.header_at.ensures ∙ c.if-header_at.true) in
@@ -15,7 +12,7 @@ returns-then-header_at c =
 pub loop-j-preserved : goal.loop-j-preserved
 loop-j-preserved c =
     let e = leading-detail c.args.s.now c.loop-j.j c.args.n (omega arith) (sym c.header_at.ensures ∙ c.if-header_at.false) in
-    (omega arith, omega arith, omega arith)
+    omega arith
 
 pub returns : goal.returns
 returns c =

@@ -1,5 +1,5 @@
 -- `file::detail_count` meets its contract. The invariant: the records passed are details, and the rest is counted from j on.
-use Prim.Native.Nat.{◌+◌, ◌-◌, ◌≤◌}
+use Prim.Native.Nat.{◌+◌, ◌-◌}
 use mathlib.Core.Path.{◌≡◌}
 use Rattle.records.specs.Layout.{records_from}
 use Rattle.file.specs.File.{leading}
@@ -7,7 +7,4 @@ use Rattle.file.specs.parts.Walk.{records_after}
 use Rattle.file.proofs.detail_count.Given as goal
 
 abbrev pub invariant-loop-j : goal.invariant-loop-j
-invariant-loop-j l = (l.i + 1 ≤ l.j) × (l.j ≤ l.n) × (leading (records_after l.s l.i l.n) ≡ l.j - (l.i + 1) + leading (records_from l.s l.j (l.n - l.j)))
-
-abbrev pub decreases-loop-j : goal.decreases-loop-j
-decreases-loop-j l = l.n - l.j
+invariant-loop-j l = leading (records_after l.s l.i l.n) ≡ l.j - (l.i + 1) + leading (records_from l.s l.j (l.n - l.j))

@@ -1,13 +1,13 @@
--- `file::good_file` meets its contract. The invariant: the records passed are good, and the check of the rest is that of the whole.
-use Prim.Native.Nat.{◌/◌}
+-- `file::good_file` meets its contract. The invariant: the records passed are good, and the check of those left is that of the whole.
 use mathlib.Core.Path.{sym, ap, ◌∙◌}
+use mathlib.Core.List.{List}
+use Prim.Native.Nat.{ℕ, ◌/◌}
 use native.Mathlib.Omega.{arith}
-use borrow.Author.Tests.{eq-eqb, ne_eqb, le-leb, lt-leb}
+use borrow.Author.Tests.{eqb-true, eqb_apart, eq-eqb, ne_eqb, le-leb, lt-leb}
 use lib.ListN.{length}
 use Rattle.rules.specs.Lists.{every}
-use Rattle.records.proofs.LayoutLaws.{lent-record}
 use Rattle.file.specs.File.{records, good_record, good_file}
-use Rattle.file.proofs.FileLaws.{from_start, good-step, good-stop, good-end, headed-first, headed-none}
+use Rattle.file.proofs.FileLaws.{headed-first, headed-none, good-step, good-stop, good-end}
 use Rattle.file.proofs.good_file.Goals as goal
 
 pub returns-then-len-ne0 : goal.returns-then-len-ne0
@@ -18,35 +18,36 @@ pub returns-then-len-gt-FILE_SIZE : goal.returns-then-len-gt-FILE_SIZE
 unfolding good_file
 returns-then-len-gt-FILE_SIZE c = rw (eq-eqb _ _ c.if-len-ne0.false, lt-leb _ _ c.if-len-gt-FILE_SIZE.true)
 
-pub loop-i-init : goal.loop-i-init
-loop-i-init c = (omega arith, ap (every good_record) (from_start c.args.s.now (length c.args.s.now / 321)))
+pub loop-r-preserved : goal.loop-r-preserved
+loop-r-preserved c =
+    let h = c.in-Some.ensures.steps in
+    let v = c.loop-r.invariant in
+    let t = sym c.good_record.ensures ∙ c.if-not-good_record.false in
+    (omega arith, sym (ap (λ (s : List ℕ). every good_record (records s)) h.1.0 ∙ good-step c.in-Some.r.now c.next.new.self.rest.now (omega arith) t) ∙ v.1)
 
-pub loop-i-preserved : goal.loop-i-preserved
-loop-i-preserved c =
-    let s = c.args.s.now in
-    let i = c.loop-i.i in
-    let t = ap good_record (sym (lent-record s i)) ∙ sym c.good_record.ensures ∙ c.if-good_record.true in
-    (omega arith, sym (good-step s i (length s / 321) (omega arith) t) ∙ c.loop-i.invariant.1)
-
-pub returns-else-good_record : goal.returns-else-good_record
-unfolding good_file records
-returns-else-good_record c =
-    let s = c.args.s.now in
-    let i = c.loop-i.i in
-    let t = ap good_record (sym (lent-record s i)) ∙ sym c.good_record.ensures ∙ c.if-good_record.false in
-    let e = sym c.loop-i.invariant.1 ∙ good-stop s i (length s / 321) (omega arith) t in
+pub returns-then-not-good_record : goal.returns-then-not-good_record
+unfolding good_file
+returns-then-not-good_record c =
+    let h = c.in-Some.ensures.steps in
+    let v = c.loop-r.invariant in
+    let t = sym c.good_record.ensures ∙ c.if-not-good_record.true in
+    let e = sym v.1 ∙ ap (λ (s : List ℕ). every good_record (records s)) h.1.0 ∙ good-stop c.in-Some.r.now c.next.new.self.rest.now (omega arith) t in
     rw (eq-eqb _ _ c.if-len-ne0.false, le-leb _ _ c.if-len-gt-FILE_SIZE.false, e)
 
-pub returns-then-n-eq0 : goal.returns-then-n-eq0
+pub returns-then-is_empty : goal.returns-then-is_empty
 unfolding good_file records
-returns-then-n-eq0 c =
+returns-then-is_empty c =
     let s = c.args.s.now in
-    let e = sym c.loop-i.invariant.1 ∙ good-end s c.loop-i.i (length s / 321) (omega arith) in
-    rw (eq-eqb _ _ c.if-len-ne0.false, le-leb _ _ c.if-len-gt-FILE_SIZE.false, e, headed-none s (length s / 321) (omega arith))
+    let h = c.in-None.ensures.steps in
+    let z = eqb-true _ _ (sym c.is_empty.ensures ∙ c.if-is_empty.true) in
+    let e = sym c.loop-r.invariant.1 ∙ good-end c.loop-r.r-iterator.rest.now (omega arith) in
+    rw (c.if-is_empty.true, eq-eqb _ _ c.if-len-ne0.false, le-leb _ _ c.if-len-gt-FILE_SIZE.false, e, headed-none s (length s / 321) (omega arith))
 
-pub returns : goal.returns
+pub returns-else-is_empty : goal.returns-else-is_empty
 unfolding good_file records
-returns c =
+returns-else-is_empty c =
     let s = c.args.s.now in
-    let e = sym c.loop-i.invariant.1 ∙ good-end s c.loop-i.i (length s / 321) (omega arith) in
+    let h = c.in-None.ensures.steps in
+    let z = eqb_apart _ _ (sym c.is_empty.ensures ∙ c.if-is_empty.false) in
+    let e = sym c.loop-r.invariant.1 ∙ good-end c.loop-r.r-iterator.rest.now (omega arith) in
     rw (eq-eqb _ _ c.if-len-ne0.false, le-leb _ _ c.if-len-gt-FILE_SIZE.false, e, headed-first s (length s / 321) (omega arith)) c.header_at.ensures

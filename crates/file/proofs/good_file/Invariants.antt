@@ -1,13 +1,8 @@
--- `file::good_file` meets its contract. The invariant: the records passed are good, and the check of the rest is that of the whole.
-use Prim.Native.Nat.{◌-◌, ◌≤◌}
+-- `file::good_file` meets its contract. The invariant: the records passed are good, and the check of those left is that of the whole.
 use mathlib.Core.Path.{◌≡◌}
 use Rattle.rules.specs.Lists.{every}
-use Rattle.records.specs.Layout.{records_from}
-use Rattle.file.specs.File.{good_record}
+use Rattle.file.specs.File.{records, good_record}
 use Rattle.file.proofs.good_file.Given as goal
 
-abbrev pub invariant-loop-i : goal.invariant-loop-i
-invariant-loop-i l = (l.i ≤ l.n) × (every good_record (records_from l.s l.i (l.n - l.i)) ≡ every good_record (records_from l.s 0 l.n))
-
-abbrev pub decreases-loop-i : goal.decreases-loop-i
-decreases-loop-i l = l.n - l.i
+abbrev pub invariant-loop-r : goal.invariant-loop-r
+invariant-loop-r l = (l.r-iterator.size ≡ 321) × (every good_record (records l.r-iterator.rest.now) ≡ every good_record (records l.s))

@@ -1,5 +1,5 @@
 -- `pairs::duplicates` meets its contract. The outer invariant: the marks before i are right. The inner one: no record before j matches.
-use Prim.Native.Nat.{ℕ, ◌-◌, ◌≤◌, ◌<◌}
+use Prim.Native.Nat.{ℕ, ◌<◌}
 use mathlib.Core.Path.{◌≡◌}
 use mathlib.Core.Bool.{false}
 use lib.ListN.{length}
@@ -9,13 +9,7 @@ use Rattle.pairs.proofs.SlotLaws.{meets}
 use Rattle.pairs.proofs.duplicates.Given as goal
 
 abbrev pub invariant-others : goal.invariant-others
-invariant-others l = (l.j ≤ l.n) × (l.marks ≡ l.initial.marks) × ((k : ℕ) → k < l.j → meets l.numbers l.i k ≡ false)
-
-abbrev pub decreases-others : goal.decreases-others
-decreases-others l = l.n - l.j
+invariant-others l = (l.marks ≡ l.initial.marks) × ((k : ℕ) → k < l.j → meets l.other-items l.i k ≡ false)
 
 abbrev pub invariant-loop-i : goal.invariant-loop-i
-invariant-loop-i l = (l.i ≤ l.n) × (length l.marks ≡ 200) × Marked l.marks (mark_at l.s l.n) l.i
-
-abbrev pub decreases-loop-i : goal.decreases-loop-i
-decreases-loop-i l = l.n - l.i
+invariant-loop-i l = (length l.marks ≡ 200) × Marked l.marks (mark_at l.s l.n) l.i

@@ -1,5 +1,4 @@
 -- `table_in_words::lines_in` meets its contract. The invariant: the lines of the first i bills are written.
-use Prim.Native.Nat.{◌-◌, ◌≤◌}
 use mathlib.Core.Path.{◌≡◌}
 use lib.ListN.{length, take}
 use Rattle.fields.specs.Put.{put}
@@ -8,7 +7,4 @@ use Rattle.table.specs.Table.{lines_of}
 use Rattle.table_in_words.proofs.lines_in.Given as goal
 
 abbrev pub invariant-loop-i : goal.invariant-loop-i
-invariant-loop-i l = (l.i ≤ l.n) × (length l.out ≡ length l.initial.out) × (l.out ≡ put l.initial.out l.at (lines_of l.today (take l.i (take l.n (ledger_of l.ws).bills))))
-
-abbrev pub decreases-loop-i : goal.decreases-loop-i
-decreases-loop-i l = l.n - l.i
+invariant-loop-i l = (length l.out ≡ length l.initial.out) × (l.out ≡ put l.initial.out l.at (lines_of l.today (take l.i (take l.n (ledger_of l.ws).bills))))

@@ -10,23 +10,15 @@ use Rattle.records.proofs.LayoutLaws.{lent-record, long-record}
 use Rattle.notices.proofs.RecordLaws.{details-none, details-more, long-detail}
 use Rattle.answers.proofs.rej.write.Goals as goal
 
-pub put_header-requires : goal.put_header-requires
-put_header-requires c = (omega (arith, c.requires), omega (arith, c.requires))
-
 pub loop-j-init : goal.loop-j-init
 loop-j-init c =
     let a = c.args in
     record {
-      within = omega arith;
       kept = refl;
       wrote =
           rw (details-none _ a.x a.s.now (a.i + 1))
           (record { same = put-nil _ _; long = refl; fits = omega (arith, c.requires, c.put_header.auto.out) });
     }
-
-pub put_detail_at-requires : goal.put_detail_at-requires
-put_detail_at-requires c =
-    (omega (arith, c.requires, c.loop-j.invariant), omega (arith, c.requires, c.loop-j.invariant))
 
 pub loop-j-preserved : goal.loop-j-preserved
 loop-j-preserved c =
@@ -35,16 +27,12 @@ loop-j-preserved c =
     let m = details-more c.is_sup-sup.result a.x a.s.now (a.i + 1) l.j in
     let q : l.j * 321 + 321 ≡ (l.j + 1) * 321 = omega arith in
     record {
-      within = omega arith;
       kept = c.put_detail_at.auto.out ∙ l.invariant.kept;
       wrote =
           rw (m, ← q)
           (next l.invariant.wrote _ c.put_detail_at.ensures
           (long-detail c.is_sup-sup.result a.x a.s.now (a.i + 1 + l.j) (omega (arith, c.requires, c.loop-j-test.true))));
     }
-
-pub shape_of-out : goal.shape_of-out
-shape_of-out c = c.loop-j.invariant.kept ∙ c.put_header.auto.out
 
 pub returns : goal.returns
 unfolding rej

@@ -1,50 +1,19 @@
--- `places::accounts::has_account` meets its contract: the search from i on is the whole search.
-use mathlib.Core.Path.{refl, sym, ap, ◌∙◌}
+-- `places::accounts::has_account` meets its contract: the places up to n, by number, are the first n bills.
+use mathlib.Core.Path.{refl, ◌∙◌}
 use native.Mathlib.Omega.{arith}
-use Rattle.rules.specs.Lists.{has}
-use Rattle.ledger.specs.Books.{of_account}
+use Rattle.std.proofs.Common.{rules, tests}
+use Rattle.std.proofs.lemmas.Iterator.{YieldsList-from_range}
+use Rattle.std.proofs.lemmas.Iterator.Search.{any_from_yields_List}
 use Rattle.ledger.specs.Bills.{blank_bill}
-use Rattle.rules.proofs.ListLaws.{has-hit, has-miss, slice-end}
+use Rattle.ledger.specs.Books.{of_account}
+use Rattle.ledger.specs.parts.Places.{bill_at}
 use Rattle.words.specs.Layout.{ledger_of}
-use Rattle.words.proofs.WordLaws.{words_long}
-use Rattle.places.proofs.PartLaws.{places_of, account-of}
-use borrow.Author.Tests.{eq-eqb, ne_eqb}
+use Rattle.places.proofs.PartLaws.{places_of}
+use Rattle.places.proofs.RangeLaws.{any-first}
 use Rattle.places.proofs.accounts.has_account.Goals as goal
-
-pub loop-i-init : goal.loop-i-init
-loop-i-init c = (omega arith, refl)
-
-pub overflow_mul-at : goal.overflow_mul-at
-overflow_mul-at c = omega (arith, c.requires.1)
-
-pub overflow_add-at : goal.overflow_add-at
-overflow_add-at c = omega (arith, c.requires.1)
-
-pub offset_bounds-ws-at : goal.offset_bounds-ws-at
-offset_bounds-ws-at c = omega (arith, c.requires.1)
-
-pub bounds-ws-at : goal.bounds-ws-at
-bounds-ws-at c = omega (arith, c.requires.1, words_long _ c.requires.0)
-
-pub returns-then-same : goal.returns-then-same
-returns-then-same c =
-    sym
-    (has-hit _ _ _ blank_bill c.loop-i-test.true (omega (arith, c.requires.1, places_of _ c.requires.0)) (of_account _)
-    (account-of _ c.requires.0 _ c.loop-i.i (omega (arith, c.requires.1)) ∙ eq-eqb _ _ c.if-same.true))
-    ∙ c.loop-i.invariant.1
-
-pub overflow_add-i : goal.overflow_add-i
-overflow_add-i c = omega (arith, c.requires.1)
-
-pub loop-i-preserved : goal.loop-i-preserved
-loop-i-preserved c = (
-  omega arith,
-  sym
-      (has-miss _ _ _ blank_bill c.loop-i-test.true (omega (arith, c.requires.1, places_of _ c.requires.0)) (of_account _)
-      (account-of _ c.requires.0 _ c.loop-i.i (omega (arith, c.requires.1)) ∙ ne_eqb _ _ c.if-same.false))
-      ∙ c.loop-i.invariant.1,
-)
 
 pub returns : goal.returns
 returns c =
-    sym (ap (has (of_account _)) (slice-end _ _ (ledger_of _).bills c.loop-i.invariant.0 c.loop-i-test.false)) ∙ c.loop-i.invariant.1
+    let l = ledger_of c.args.ws.now in
+    any_from_yields_List (λ i. of_account c.args.account (bill_at l i)) _ _ _ c.any.ensures.ran (YieldsList-from_range 0 c.args.n c.args.n refl (omega arith)) (λ x b q k. search (rules, tests))
+    ∙ any-first (of_account c.args.account) l.bills blank_bill c.args.n (omega (arith, c.requires.1, places_of _ c.requires.0))

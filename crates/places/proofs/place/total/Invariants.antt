@@ -1,5 +1,4 @@
 -- `places::place::total` meets its contract. The invariant: the sum is that of the first i bills.
-use Prim.Native.Nat.{◌-◌, ◌≤◌}
 use mathlib.Core.Path.{◌≡◌}
 use lib.ListN.{take}
 use Rattle.ledger.specs.Books.{total_of}
@@ -7,7 +6,4 @@ use Rattle.words.specs.Layout.{ledger_of}
 use Rattle.places.proofs.place.total.Given as goal
 
 abbrev pub invariant-loop-i : goal.invariant-loop-i
-invariant-loop-i l = (l.i ≤ l.n) × (l.sum.0 ≡ total_of (take l.i (take l.n (ledger_of l.ws).bills)))
-
-abbrev pub decreases-loop-i : goal.decreases-loop-i
-decreases-loop-i l = l.n - l.i
+invariant-loop-i l = l.sum.0 ≡ total_of (take l.i (take l.n (ledger_of l.ws).bills))

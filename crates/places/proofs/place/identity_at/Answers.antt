@@ -1,8 +1,8 @@
--- `places::checks::identity_at` meets its contract.
+-- `places::place::identity_at` meets its contract.
 use native.Mathlib.Omega.{arith}
 use Rattle.words.proofs.WordLaws.{words_long}
 use Rattle.places.proofs.PartLaws.{identity-of}
-use Rattle.places.proofs.checks.identity_at.Goals as goal
+use Rattle.places.proofs.place.identity_at.Goals as goal
 
 pub bounds-ws-at : goal.bounds-ws-at
 bounds-ws-at c = omega (arith, c.requires.1, words_long _ c.requires.0)
