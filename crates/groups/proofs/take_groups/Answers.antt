@@ -11,18 +11,9 @@ use Rattle.groups.proofs.take_groups.Goals.{then-header_at, else-header_at}
 pub loop-i-init : goal.loop-i-init
 loop-i-init c = rw c.none.ensures (walk_start c.args.s.now c.args.n c.args.l true c.args.out.now (places c.args.l _ c.well_formed.0) c.requires.ready)
 
-pub header_at-requires : goal.header_at-requires
-header_at-requires c = omega (arith, c.loop-i.invariant.within)
-
-pub bounds-marks-i : goal.bounds-marks-i
-bounds-marks-i c = omega (arith, c.loop-i.invariant.within)
-
 pub turn-t-requires : goal.turn-t-requires
 turn-t-requires c =
     let e = sym c.header_at.ensures ∙ c.if-header_at.true in record { header_lt_records = (omega arith, c.requires.n_le_file_records.1, c.requires.n_le_file_records.0, walk-room _ _ _ _ _ _ _ _ _ c.loop-i.invariant (omega arith) e (λ z. c.requires.n_le_file_records.2) refl); fit_for_turn = walk_fine _ _ _ _ _ _ _ _ _ c.loop-i.invariant (omega arith) e (omega arith) }
-
-pub loop-i-smaller : goal.loop-i-smaller
-loop-i-smaller c = omega (arith, c.loop-i.invariant.within)
 
 pub loop-i-preserved : goal.loop-i-preserved
 loop-i-preserved c =
@@ -35,9 +26,6 @@ loop-i-preserved c =
       | else-header_at w ↦
           rw (w.t-is, w.out-is) (walk-detail _ _ _ _ _ _ _ _ _ c.loop-i.invariant h (sym c.header_at.ensures ∙ w.if-header_at.false))
     ]
-
-pub shape_of-out : goal.shape_of-out
-shape_of-out c = c.loop-i.invariant.wrote.kept
 
 pub returns : goal.returns
 returns c = walk_end _ _ _ _ _ _ _ _ _ c.loop-i.invariant (omega arith) (omega arith)
