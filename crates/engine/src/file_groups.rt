@@ -34,6 +34,7 @@ pub fn take(ws: &mut [u64], out: &mut [u8], writes: bool, s: &[u8], n: usize) ->
 {
     let marks = group::marks(s, n);
     let mut c = group::counts::none();
+    // By the number of a record, which the turn takes too: no slice holds what is walked over.
     for i in 0..n {
         if file::header_at(s, i) {
             let duplicate = marks[i];
