@@ -73,7 +73,7 @@ pub fn run(ws: &mut [u64], out: &mut [u8], writes: bool, src: &[u8], seen: u64) 
     let mut at = 0;
     let mut k = seen;
     let mut n = 0;
-    // No slice that shrinks and no iterator: `at` and `k` are part of the answer, and each entry's step takes the ledger and the output back.
+    // The three counts are the answer: a slice that shrinks or an iterator would only count beside them.
     while !is_full(writes, out.len(), n) {
         let to = place_for(writes, n);
         let r = entry::step(ws, &mut out[to..], &src[at..], k, writes);
