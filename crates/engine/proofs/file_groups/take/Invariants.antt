@@ -13,5 +13,5 @@ pub record Held (s : List ℕ) (n : ℕ) (ws₀ : List ℕ) (writes : Bool) (out
   pub holds : holds_ledger ws ≡ true
   pub walk : Walk s n (ledger_of ws₀) writes out₀ (ledger_of ws) out c i
 
-abbrev pub invariant-loop-i : goal.invariant-loop-i
-invariant-loop-i l = Held l.s l.n l.initial.ws l.writes l.initial.out l.ws l.out l.c l.i
+abbrev pub invariant-loop-header : goal.invariant-loop-header
+invariant-loop-header l = Held l.s l.n l.initial.ws l.writes l.initial.out l.ws l.out l.c l.header
