@@ -1,21 +1,24 @@
 -- Laws of fresh and of close of day. Assumes nothing.
-use Prim.Native.Nat.{ℕ, ◌+◌, ◌≤◌, ◌<◌}
-use mathlib.Core.Path.{◌≡◌, refl}
+use Prim.Native.Nat.{ℕ, ◌≤◌}
+use mathlib.Core.Path.{◌≡◌, refl, sym}
 use mathlib.Core.Bool.{Bool, true, cond}
-use mathlib.Core.List.{List}
+use mathlib.Core.List.{List, [], ◌∷◌}
+use Rattle.std.specs.List.{sum_by}
+use Rattle.std.proofs.lemmas.List.Recursion.{is_sum_by}
 use native.Mathlib.Omega.{arith}
 use lib.Dec.{leb}
 use lib.IntN.{pos, +ℤ_invr}
-use lib.ListN.{length, get_or, take-append-drop}
-use lib.Seq.{slice, length-take-le}
+use lib.ListN.{length, take-append-drop}
+use lib.Seq.{length-take-le}
 use borrow.Author.Tests.{leb-true, le-leb, not-false}
-use Rattle.fields.proofs.BoolLaws.{and_left, and_right}
+use Rattle.fields.proofs.BoolLaws.{cases, and_left, and_right}
 use Rattle.units.specs.declared.Date.{Date}
+use Rattle.ledger.specs.declared.Bill.{Bill}
 use Rattle.ledger.specs.declared.Ledger.{Ledger}
 use Rattle.rules.specs.Lists.{count}
 use Rattle.ledger.specs.Books.{book, live, total_of}
 use Rattle.ledger.specs.Sound.{is_next, distinct, sound_ledger}
-use Rattle.rules.proofs.ListLaws.{all-on, slice-step}
+use Rattle.rules.proofs.ListLaws.{all-on}
 use Rattle.ledger.proofs.SoundLaws.{facts-sound}
 use Rattle.rules.specs.Rules.{first}
 use Rattle.rules.proofs.RuleLaws.{clear-off}
@@ -54,10 +57,16 @@ fresh-sound s e =
     })
 
 -- ---- close of day
--- one turn of the walk that counts
-module _ {A : Type 0} (n i : ℕ) (xs : List A) (d : A) (h : i < n) (k : n ≤ length xs) where
-  pub count_turn : (p : A → Bool) → count p (slice i n xs) ≡ cond (p (get_or xs i d)) 1 0 + count p (slice (i + 1) n xs)
-  count_turn p = rw (slice-step n i xs d h k) (count-step (p (get_or xs i d)) (count p (slice (i + 1) n xs)))
+-- what a bill adds to the count, all of them, and how many at most
+abbrev pub one : (Bill → Bool) → Bill → ℕ
+one p b = cond (p b) 1 0
+
+pub one-by-one : (p : Bill → Bool) (bs : List Bill) → sum_by (one p) bs ≡ count p bs
+one-by-one p bs = sym (is_sum_by (count p) (one p) refl (λ b bs. count-step (p b) (count p bs)) bs)
+
+pub count-few : (p : Bill → Bool) (bs : List Bill) → count p bs ≤ length bs
+count-few p [] = omega arith
+count-few p (b ∷ bs) = cases (p b) (λ e. rw e (omega (arith, count-few p bs))) (λ e. rw e (omega (arith, count-few p bs)))
 
 -- the struct with another date
 abbrev pub dated : Ledger → Date → Ledger

@@ -37,16 +37,10 @@ fn closed_by(l: Ledger, d: Date) -> u64
     requires { l.count ≤ ledger_places }
     ensures { result ≡ count (closes l.today d) (live l) }
 {
-    let today = l.today;
-    let n = l.count;
-    let mut closed = 0;
-    let mut i = 0;
-    while i < n {
-        let b = l.bills[i];
-        closed = closed + checks::one_closed(b, today, d);
-        i += 1;
-    }
-    closed
+    l.bills[..l.count]
+        .iter()
+        .map(|b| checks::one_closed(*b, l.today, d))
+        .sum()
 }
 
 // Sets today to a later date on a ledger that is known to be sound.

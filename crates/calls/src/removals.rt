@@ -18,17 +18,9 @@ fn has_account(l: Ledger, account: u64) -> bool
     requires { l.count ≤ ledger_places }
     ensures { result ≡ has (of_account account) (live l) }
 {
-    let n = l.count;
-    let mut i = 0;
-    while i < n {
-        let b = l.bills[i];
-        let t = b.terms;
-        if t.is_of_account(account) {
-            return true;
-        }
-        i += 1;
-    }
-    false
+    l.bills[..l.count]
+        .iter()
+        .any(|b| b.terms.is_of_account(account))
 }
 
 // The ledger with the removal date on all bills of the account.
@@ -36,17 +28,11 @@ fn removed(l: Ledger, a: AccountRemoval) -> Ledger
     requires { l.count ≤ ledger_places }
     ensures { result ≡ removed_first l.count a.account a.date l }
 {
-    let date = a.date;
-    let n = l.count;
-    let mut next = l;
-    let mut i = 0;
-    while i < n {
-        let b = next.bills[i];
-        let c = b.remove_if_of(a.account, date);
-        next.bills[i] = c;
-        i += 1;
+    let mut bills = l.bills;
+    for b in &mut bills[..l.count] {
+        *b = b.remove_if_of(a.account, a.date);
     }
-    next
+    Ledger { bills, ..l }
 }
 
 // Sets the removal date on all bills of an account, on a ledger that is known to be sound.

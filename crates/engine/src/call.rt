@@ -113,14 +113,9 @@ fn closed_by(ws: &[u64], n: usize, old: Date, new: Date) -> u64
     requires { (holds_ledger ws.now ≡ true) × (n ≤ ledger_places) }
     ensures { result ≡ count (closes old new) (take n (ledger_of ws.now).bills) }
 {
-    let mut closed = 0;
-    let mut i = 0;
-    while i < n {
-        let b = place::bill_at(ws, i);
-        closed = closed + checks::one_closed(b, old, new);
-        i += 1;
-    }
-    closed
+    (0..n)
+        .map(|i| checks::one_closed(place::bill_at(ws, i), old, new))
+        .sum()
 }
 
 // The call close.

@@ -34,13 +34,12 @@ pub fn take(ws: &mut [u64], out: &mut [u8], writes: bool, s: &[u8], n: usize) ->
 {
     let marks = group::marks(s, n);
     let mut c = group::counts::none();
-    for i in 0..n {
-        if file::header_at(s, i) {
-            let duplicate = marks[i];
+    for (header, duplicate) in marks[..n].iter().enumerate() {
+        if file::header_at(s, header) {
             let g = GroupAt {
-                header: i,
+                header,
                 records: n,
-                duplicate,
+                duplicate: *duplicate,
             };
             c = turn(ws, out, writes, c, s, g);
         }

@@ -10,11 +10,10 @@ use lib.ListN.{length, take, drop, length-append}
 use borrow.Rule.Slice.PartMut.{put_mid}
 use borrow.Author.Tests.{ltb-false}
 use Rattle.fields.specs.Put.{put, part}
-use Rattle.fields.proofs.PutLaws.{put-lent, put-nil, length_part}
+use Rattle.fields.proofs.PutLaws.{put-lent, put-nil}
 use Rattle.ledger.specs.Books.{Book, book}
 use Rattle.ledger.specs.Sound.{sound_ledger}
 use Rattle.words.specs.Layout.{ledger_of}
-use Rattle.words.proofs.WordLaws.{words_long, sound-holds}
 use Rattle.group.specs.parts.Turns.{if_written}
 use Rattle.group.proofs.OutputLaws.{Out, out-start, out-more}
 use Rattle.calls.specs.Machine.{outcomes}
@@ -55,16 +54,12 @@ module _ (writes : Bool) (n : ℕ) (out₀ : List ℕ) (room : writes ≡ true �
   to-false : writes ≡ false → to ≡ 0
   to-false e = te ∙ rw e
 
-  pub to-within : to ≤ length out₀
+  to-within : to ≤ length out₀
   to-within = go writes refl
     where
       go : (b : Bool) → writes ≡ b → to ≤ length out₀
       go true e = omega (arith, room e, to-true e)
       go false e = omega (arith, to-false e)
-
-  pub lent-room : writes ≡ true → 64200 ≤ length lent
-  unfolding part
-  lent-room e = omega (arith, length_part out₀ to (length out₀ - to) (omega (arith, to-within)), room e, to-true e)
 
   put-said : (now w : List ℕ) → length w ≤ 64200 → now ≡ put lent 0 (if_written writes w) → put_mid to (length out₀ - to) out₀ now ≡ put out₀ n (if_written writes w)
   unfolding part
@@ -101,10 +96,6 @@ module _ (writes : Bool) (n : ℕ) (out₀ : List ℕ) (room : writes ≡ true �
           let short : length (entry_written 64200 (ledger_of ws₀) b bytes) ≤ 64200 = omega (arith, made-length 64200 (ledger_of ws₀) b bytes, made-short (ledger_of ws₀) b bytes) in
           (w.0, w.1, record { sound = y.sound; ledger = y.ledger; answer = y.answer; bytes = put-said now (entry_written 64200 (ledger_of ws₀) b bytes) short y.bytes })
 
--- the words of two sound ledgers are as many
-pub same-words : (ws ws₀ : List ℕ) → sound_ledger (ledger_of ws) ≡ true → sound_ledger (ledger_of ws₀) ≡ true → length ws ≡ length ws₀
-same-words ws ws₀ h h₀ = omega (arith, words_long ws (sound-holds ws h), words_long ws₀ (sound-holds ws₀ h₀))
-
 -- ---- what holds before each entry
 pub record Running (src ws₀ : List ℕ) (seen₀ : ℕ) (writes : Bool) (out₀ ws out : List ℕ) (at seen n : ℕ) : Type 0 where
   pub done : List Entry
@@ -121,7 +112,7 @@ running-start src ws seen writes out h =
 module _ (src ws₀ : List ℕ) (seen₀ : ℕ) (writes : Bool) (out₀ ws out : List ℕ) (at seen n : ℕ)
     (w : Running src ws₀ seen₀ writes out₀ ws out at seen n) where
   -- what may be asked of the output: it is full only where notices are written
-  pub running-len : writes ≡ true → n ≤ length out
+  running-len : writes ≡ true → n ≤ length out
   running-len z = omega (arith, w.wrote.within z, w.wrote.kept)
 
   full-room : (b : Bool) → writes ≡ b → (writes && ltb (length out - n) 64200) ≡ false → writes ≡ true → n + 64200 ≤ length out

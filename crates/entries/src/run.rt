@@ -74,6 +74,7 @@ pub fn run(ws: &mut [u64], out: &mut [u8], writes: bool, src: &[u8], seen: u64) 
     let mut at = 0;
     let mut k = seen;
     let mut n = 0;
+    // The three counts are the answer: a slice that shrinks or an iterator would only count beside them.
     while !is_full(writes, out.len(), n) {
         let to = place_for(writes, n);
         let r = entry::step(ws, &mut out[to..], &src[at..], k, writes);

@@ -84,13 +84,12 @@ pub fn take_groups(l: Ledger, out: &mut [u8], s: &[u8], n: usize) -> Taken
         ledger: l,
         tally: group::counts::none(),
     };
-    for i in 0..n {
-        if file::header_at(s, i) {
-            let duplicate = marks[i];
+    for (header, duplicate) in marks[..n].iter().enumerate() {
+        if file::header_at(s, header) {
             let g = GroupAt {
-                header: i,
+                header,
                 records: n,
-                duplicate,
+                duplicate: *duplicate,
             };
             t = turn(t, out, s, g);
         }

@@ -1,7 +1,6 @@
 -- Laws that belong to no one function.
 pub mod MadeLaws
 pub mod BodyLaws
-pub mod MoveLaws
 pub mod HeadLaws
 pub mod JournalLaws
 pub mod BeginLaws

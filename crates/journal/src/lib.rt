@@ -260,14 +260,8 @@ pub fn keep(buf: &mut [u8], from: usize, n: usize) -> usize
     requires { (from ≤ n) × (n ≤ length buf.old) }
     ensures { (result ≡ n - from) × (buf.new ≡ put buf.old 0 (part buf.old from (n - from))) }
 {
-    let mut i = 0;
-    let mut j = from;
-    while j < n {
-        buf[i] = buf[j];
-        i += 1;
-        j += 1;
-    }
-    i
+    buf.copy_within(from..n, 0);
+    n - from
 }
 
 // Whether a journal ended bad: a bad entry stopped it, bytes are left (an entry cut short), or it held no entry.

@@ -8,12 +8,13 @@ use native.Mathlib.Omega.{arith}
 use native.Mathlib.Decide.{dec_le}
 use native.Mathlib.Numerals.{add-one}
 use lib.Dec.{ltb, leb}
+use Rattle.std.specs.List.{fold, enumerate_from}
 use lib.ListN.{length, get_or, drop}
 use lib.Seq.{drop-cons, drop-length, slice, slice-cons}
 use borrow.Author.Tests.{leb-true, leb-false, lt-ltb, le-ltb}
 use Rattle.fields.proofs.BoolLaws.{cases}
 use Rattle.rules.specs.Lists.{has, find}
-use Rattle.rules.proofs.ListLaws.{has-none, has_some, find_none, find_first, slice-end}
+use Rattle.rules.proofs.ListLaws.{has-none, has_some, find_none, find_first}
 use Rattle.units.specs.declared.Date.{Date}
 use Rattle.ledger.specs.declared.Bill.{Bill}
 use Rattle.ledger.specs.Bills.{blank_bill}
@@ -22,14 +23,20 @@ use Rattle.lookups.specs.Lookups.{is_open_of, due, is_due_before, is_earliest}
 use Rattle.lookups.specs.parts.Walk.{none_due, is_sooner, due_with, due_after, found_due}
 use Rattle.std.specs.Prelude.{Some, None}
 
--- ---- one turn of a loop over the bills from i up to n, and its end
+-- ---- one turn of a loop over the bills from i up to n
 module _ (account : ℕ) (today : Date) (n i : ℕ) (h : DueFirst) (bs : List Bill) where
   pub due-step : i < n → n ≤ length bs
       → due_after account today i h (slice i n bs) ≡ due_after account today (i + 1) (due_with account today i (get_or bs i blank_bill) h) (slice (i + 1) n bs)
   due-step a b = simp (slice-cons i n bs blank_bill a b, add-one i)
 
-  pub due-end : i ≤ n → n ≤ i → due_after account today i h (slice i n bs) ≡ h
-  due-end a b = rw (slice-end n i bs a b)
+-- ---- the walk as a fold over the bills and their places
+abbrev pub due-turn : ℕ → Date → DueFirst → (ℕ × Bill) → DueFirst
+due-turn account today h x = due_with account today x.0 x.1 h
+
+pub due-folded : (account : ℕ) (today : Date) (p : ℕ) (h : DueFirst) (bs : List Bill)
+    → fold (due-turn account today) h (enumerate_from p bs) ≡ due_after account today p h bs
+due-folded account today p h [] = refl
+due-folded account today p h (b ∷ bs) = rw add-one (due-folded account today (suc p) (due_with account today p b h) bs)
 
 -- ---- the walk over the bills bs
 module _ (account : ℕ) (today : Date) (bs : List Bill) where

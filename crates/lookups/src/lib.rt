@@ -83,16 +83,10 @@ fn due_first(l: Ledger, account: u64) -> DueFirst
     requires { l.count ≤ ledger_places }
     ensures { result ≡ due_after account l.today 0 none_due (live l) }
 {
-    let today = l.today;
-    let n = l.count;
-    let mut first = DueFirst::none();
-    let mut i = 0;
-    while i < n {
-        let b = l.bills[i];
-        first = first.with(i, b, account, today);
-        i += 1;
-    }
-    first
+    l.bills[..l.count].iter().enumerate().fold(
+        DueFirst::none(),
+        |first, (i, b)| first.with(i, *b, account, l.today),
+    )
 }
 
 // The place of the open bill of an account that is due first; of equals it is the one first requested.

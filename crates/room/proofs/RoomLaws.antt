@@ -1,12 +1,12 @@
 -- No journal has more notices than its tags and lengths allow; the walk that adds these up. Assumes nothing.
 use Prim.Native.Nat.{ℕ, zero, suc, ◌+◌, ◌-◌, ◌≤◌, ◌<◌}
-use mathlib.Core.Path.{◌≡◌, refl, sym, ap, ◌∙◌}
+use mathlib.Core.Path.{◌≡◌, refl, sym}
 use mathlib.Core.Bool.{Bool, true, false, cond, ◌&&◌}
 use mathlib.Core.List.{List, [], ◌∷◌, ◌++◌}
 use native.Mathlib.Omega.{arith}
 use lib.Dec.{eqb, leb}
-use lib.ListN.{length, take, drop, length-append, length-drop}
-use lib.Seq.{drop-drop, take_all}
+use lib.ListN.{length, take, drop, length-append, length-drop, length-take}
+use lib.Seq.{take_all}
 use borrow.Author.Tests.{le-leb, lt-leb, leb-true}
 use Rattle.fields.specs.Put.{part}
 use Rattle.fields.proofs.BoolLaws.{and_both}
@@ -26,7 +26,6 @@ use Rattle.journal.specs.declared.Body.{Body}
 use Rattle.journal.specs.declared.Body.TheVariants as body
 use Rattle.journal.specs.declared.Head.{Head}
 use Rattle.journal.specs.declared.Head.TheVariants.{Cut, Bad, Whole}
-use Rattle.journal.specs.declared.Frame.{Frame}
 use Rattle.journal.specs.declared.Frame.TheVariants.{Nothing, Sized}
 use Rattle.journal.specs.Entries.{digits_in, fresh_body, request_body, cancel_body, close_body, removal_body, body_of, good_length, head_of, frame_of}
 use Rattle.journal.specs.Journal.{call_of, after_entry, on_head, parse_up_to, parse, first_book}
@@ -171,15 +170,19 @@ frame-fits s tag n e =
     let x = frame-sized (good_length (tag_in s) (length_in s) && leb (length_in s + 3) (length s)) (tag_in s) (length_in s) tag n e in
     omega (arith, x.1, leb-true (length_in s + 3) (length s) (and_both (good_length (tag_in s) (length_in s)) _ x.0).1)
 
+-- behind an entry there are fewer bytes
+pub shorter : (s : List ℕ) (tag n k : ℕ) → frame_of s ≡ Sized tag n → length (take k (drop (n + 3) s)) < length s
+shorter s tag n k e = omega (arith, frame-fits s tag n e, length-take k (drop (n + 3) s), length-drop (n + 3) s)
+
 -- what holds before each entry: of the room, what the entries before it may take is gone
-pub record Walking (src : List ℕ) (room at left : ℕ) : Type 0 where
-  pub within : at ≤ length src
+pub record Walking (src : List ℕ) (room : ℕ) (rest : List ℕ) (left : ℕ) : Type 0 where
+  pub within : length rest ≤ length src
   -- entries that may still come
   pub fuel : ℕ
-  pub enough : length src ≤ at + fuel
-  pub sum : most_in src + left ≡ room + most_up_to fuel (drop at src)
+  pub enough : length rest ≤ fuel
+  pub sum : most_in src + left ≡ room + most_up_to fuel rest
 
-pub walking_start : (src : List ℕ) (room : ℕ) → Walking src room 0 room
+pub walking_start : (src : List ℕ) (room : ℕ) → Walking src room src room
 unfolding most_in
 walking_start src room = record { within = omega arith; fuel = length src; enough = omega arith; sum = omega arith }
 
@@ -188,36 +191,33 @@ unfolding most_up_to
 none_left zero s e = refl
 none_left (suc f) s e = rw e
 
--- by the frame that is read off the bytes lent
-module _ (src : List ℕ) (room at left : ℕ) (w : Walking src room at left) (f : Frame) (fe : f ≡ frame_of (take (length src - at) (drop at src))) where
-  frame_is : frame_of (drop at src) ≡ f
-  frame_is = ap frame_of (sym (take_all (length src - at) (drop at src) (omega (arith, length-drop at src)))) ∙ sym fe
+-- by the frame that is read
+module _ (src : List ℕ) (room : ℕ) (rest : List ℕ) (left : ℕ) (w : Walking src room rest left) where
+  pub has_room : frame_of rest ≡ Nothing → true ≡ leb (most_in src) room
+  has_room e = sym (le-leb (most_in src) room (omega (arith, w.sum, none_left w.fuel rest e)))
 
-  pub has_room : f ≡ Nothing → true ≡ leb (most_in src) room
-  has_room e = sym (le-leb (most_in src) room (omega (arith, w.sum, none_left w.fuel (drop at src) (frame_is ∙ e))))
-
-  module _ (tag n : ℕ) (e : f ≡ Sized tag n) where
-    pub walk-fits : at + (n + 3) ≤ length src
-    walk-fits = omega (arith, frame-fits (drop at src) tag n (frame_is ∙ e), length-drop at src, w.within)
-
+  module _ (tag n : ℕ) (e : frame_of rest ≡ Sized tag n) where
     -- one of the entries that may come is this one
     abbrev Next : ℕ → Type 0
-    Next fuel = (m : ℕ) × (fuel ≡ suc m) × (most_up_to fuel (drop at src) ≡ most_of tag n + most_up_to m (drop (at + (n + 3)) src))
+    Next fuel = (m : ℕ) × (fuel ≡ suc m) × (most_up_to fuel rest ≡ most_of tag n + most_up_to m (drop (n + 3) rest))
 
-    next : (fuel : ℕ) → length src ≤ at + fuel → Next fuel
+    next : (fuel : ℕ) → length rest ≤ fuel → Next fuel
     unfolding most_up_to
-    next zero h = absurd (omega (arith, walk-fits))
-    next (suc m) h = (m, refl, rw (frame_is ∙ e, drop-drop (n + 3) at src))
+    next zero h = absurd (omega (arith, frame-fits rest tag n e))
+    next (suc m) h = (m, refl, rw e)
 
     pub no_room : left < most_of tag n → false ≡ leb (most_in src) room
     no_room h = sym (lt-leb (most_in src) room (omega (arith, w.sum, (next w.fuel w.enough).2)))
 
-    pub walking_on : most_of tag n ≤ left → Walking src room (at + (n + 3)) (left - most_of tag n)
-    walking_on h =
+    -- the bytes behind it, of which the code takes as many as there are
+    pub walking_on : most_of tag n ≤ left → (k : ℕ) → length rest ≤ k + (n + 3)
+        → Walking src room (take k (drop (n + 3) rest)) (left - most_of tag n)
+    walking_on h k all =
         let x = next w.fuel w.enough in
-        record {
-          within = walk-fits;
+        rw (take_all k (drop (n + 3) rest) (omega (arith, length-drop (n + 3) rest)))
+        (record {
+          within = omega (arith, w.within, length-drop (n + 3) rest);
           fuel = x.0;
-          enough = omega (arith, x.1, w.enough);
+          enough = omega (arith, x.1, w.enough, length-drop (n + 3) rest);
           sum = omega (arith, x.2, w.sum);
-        }
+        })

@@ -21,18 +21,15 @@ fn most_of(tag: u8, n: usize) -> usize
 pub fn has_room_for_any(src: &[u8], room: usize) -> bool
     ensures { result ≡ leb (most_in src.now) room }
 {
-    let mut at = 0;
+    let mut rest = src;
     let mut left = room;
-    loop {
-        let f = journal::frame_at(&src[at..]);
-        let Frame::Sized(tag, n) = f else {
-            return true;
-        };
+    while let Frame::Sized(tag, n) = journal::frame_at(rest) {
         let most = most_of(tag, n);
         if left < most {
             return false;
         }
         left -= most;
-        at += n + 3;
+        rest = &rest[n + 3..];
     }
+    true
 }

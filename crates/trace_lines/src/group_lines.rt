@@ -133,6 +133,7 @@ pub fn put_group_lines(out: &mut [u8], at: usize, s: &[u8], n: usize, sent: &[u8
     ensures out_after { (out.new ≡ put out.old at (read_lines sent.now (groups (records_from s.now 0 n)))) × (result ≡ at + length (read_lines sent.now (groups (records_from s.now 0 n)))) × (result ≤ at + 43 * n) }
 {
     let mut r = Reached { end: at, from: 0 };
+    // By the number of a record, which the turn takes too: no slice holds what is walked over.
     for i in 0..n {
         if file::header_at(s, i) {
             r = group_turn(r, out, s, i, n, sent);

@@ -57,6 +57,7 @@ pub fn run(ws: &mut [u64], sent: &mut [u8], out: &mut [u8], src: &[u8], seen: u6
     let mut used = 0;
     let mut k = seen;
     let mut n = 0;
+    // The three counts are the answer: a slice that shrinks or an iterator would only count beside them.
     while ENTRY_ROOM <= out.len() - n {
         let rest = &src[used..];
         let r = entries::entry::step(ws, sent, rest, k, true);

@@ -1,11 +1,7 @@
 -- `groups::take_groups` meets its contract. The invariant is `Walk`.
-use Prim.Native.Nat.{◌-◌}
 use mathlib.Core.Bool.{true}
 use Rattle.group.proofs.GroupWalk.{Walk}
 use Rattle.groups.proofs.take_groups.Given as goal
 
-abbrev pub invariant-loop-i : goal.invariant-loop-i
-invariant-loop-i l = Walk l.s l.n l.initial.t.ledger true l.initial.out l.t.ledger l.out l.t.tally l.i
-
-abbrev pub decreases-loop-i : goal.decreases-loop-i
-decreases-loop-i l = l.n - l.i
+abbrev pub invariant-loop-header : goal.invariant-loop-header
+invariant-loop-header l = Walk l.s l.n l.initial.t.ledger true l.initial.out l.t.ledger l.out l.t.tally l.header

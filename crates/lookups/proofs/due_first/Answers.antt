@@ -1,24 +1,19 @@
--- `lookups::due_first` meets its contract. The invariant: what the walk of the bills from i on comes to is what the whole walk comes to.
-use Rattle.std.proofs.Common.{rules}
-use native.Mathlib.Omega.{arith}
-use Prim.Native.Nat.{◌≤◌}
-use mathlib.Core.Path.{sym, ◌∙◌}
-use lib.ListN.{length}
-use Rattle.ledger.proofs.BookLaws.{places}
-use Rattle.lookups.proofs.EarliestLaws.{due-step, due-end}
+-- `lookups::due_first` meets its contract: the chain over the bills and their places is the walk over them.
+use Rattle.std.proofs.Common.{rules, tests}
+use mathlib.Core.Path.{ap, ◌∙◌}
+use Rattle.std.proofs.lemmas.Iterator.{YieldsList-from_slice}
+use Rattle.std.proofs.lemmas.Iterator.Consumers.{YieldsList-from_enumerate, fold_from_yields_List}
+use Rattle.ledger.specs.Books.{live}
+use Rattle.lookups.specs.parts.Walk.{none_due}
+use Rattle.std.specs.List.{fold, enumerate_from}
+use Rattle.lookups.specs.declared.DueFirst.{DueFirst}
+use Rattle.lookups.proofs.EarliestLaws.{due-turn, due-folded}
 use Rattle.lookups.proofs.due_first.Goals as goal
 
-pub loop-i-init : goal.loop-i-init
-loop-i-init c = (omega arith, rw c.none-first.ensures)
-
-pub loop-i-preserved : goal.loop-i-preserved
-loop-i-preserved c =
-    let l = c.args.l in
-    let turn = c.loop-i in
-    let long : l.count ≤ length l.bills = omega (arith, places l _ c.well_formed.0) in (
-      search rules,
-      rw c.with-first.ensures (sym (due-step _ _ l.count turn.i turn.first l.bills (omega arith) long) ∙ turn.invariant.1),
-    )
-
 pub returns : goal.returns
-returns c = sym (due-end _ _ _ c.loop-i.i c.loop-i.first _ c.loop-i.invariant.0 c.loop-i-test.false) ∙ c.loop-i.invariant.1
+returns c =
+    let l = c.args.l in
+    fold_from_yields_List _ (due-turn c.args.account l.today) _ _ c.fold.ensures.ran (YieldsList-from_enumerate (YieldsList-from_slice (live l) (cc)) (cc))
+    (λ a x b q k. search (rules, tests))
+    ∙ ap (λ (h : DueFirst). fold (due-turn c.args.account l.today) h (enumerate_from 0 (live l))) c.none.ensures
+    ∙ due-folded c.args.account l.today 0 none_due (live l)

@@ -5,26 +5,12 @@ use native.Mathlib.Omega.{arith}
 use lib.ListN.{length}
 use Rattle.words.specs.Layout.{ledger_of}
 use Rattle.places.proofs.PartLaws.{places_of}
-use Rattle.lookups.proofs.EarliestLaws.{due-step, due-end}
+use Rattle.lookups.proofs.EarliestLaws.{due-step}
 use Rattle.lookups_in_words.proofs.due_first.Goals as goal
-
-pub loop-i-init : goal.loop-i-init
-loop-i-init c = (omega arith, rw c.none-first.ensures)
-
-pub bill_at-b-requires : goal.bill_at-b-requires
-bill_at-b-requires c = (c.requires.0, omega (arith, c.requires.1))
-
-pub overflow_add-i : goal.overflow_add-i
-overflow_add-i c = omega (arith, c.requires.1)
 
 pub loop-i-preserved : goal.loop-i-preserved
 loop-i-preserved c =
     let turn = c.loop-i in
     let bs = (ledger_of c.args.ws.now).bills in
-    let long : c.args.n ≤ length bs = omega (arith, c.requires.1, places_of _ c.requires.0) in (
-      omega arith,
-      rw (c.with-first.ensures, c.bill_at-b.ensures) (sym (due-step _ _ c.args.n turn.i turn.first bs (omega arith) long) ∙ turn.invariant.1),
-    )
-
-pub returns : goal.returns
-returns c = sym (due-end _ _ _ c.loop-i.i c.loop-i.first _ c.loop-i.invariant.0 c.loop-i-test.false) ∙ c.loop-i.invariant.1
+    let long : c.args.n ≤ length bs = omega (arith, c.requires.1, places_of _ c.requires.0) in
+    rw (c.with-first.ensures, c.bill_at-b.ensures) (sym (due-step _ _ c.args.n turn.i turn.first bs (omega arith) long) ∙ turn.invariant)

@@ -1,5 +1,4 @@
 -- `lookups_in_words::due_first` meets its contract. The invariant: what the walk of the bills from i on comes to is what the whole walk comes to.
-use Prim.Native.Nat.{◌-◌, ◌≤◌}
 use mathlib.Core.Path.{◌≡◌}
 use lib.ListN.{take}
 use lib.Seq.{slice}
@@ -8,7 +7,4 @@ use Rattle.lookups.specs.parts.Walk.{none_due, due_after}
 use Rattle.lookups_in_words.proofs.due_first.Given as goal
 
 abbrev pub invariant-loop-i : goal.invariant-loop-i
-invariant-loop-i l = (l.i ≤ l.n) × (due_after l.account l.today l.i l.first (slice l.i l.n (ledger_of l.ws).bills) ≡ due_after l.account l.today 0 none_due (take l.n (ledger_of l.ws).bills))
-
-abbrev pub decreases-loop-i : goal.decreases-loop-i
-decreases-loop-i l = l.n - l.i
+invariant-loop-i l = due_after l.account l.today l.i l.first (slice l.i l.n (ledger_of l.ws).bills) ≡ due_after l.account l.today 0 none_due (take l.n (ledger_of l.ws).bills)

@@ -1,30 +1,17 @@
--- `calls::removals::has_account` meets its contract: the search from i on is the whole search.
-use mathlib.Core.Path.{refl, sym, ◌∙◌}
-use native.Mathlib.Omega.{arith}
-use Rattle.ledger.specs.Bills.{blank_bill}
-use Rattle.ledger.specs.Books.{of_account}
-use Rattle.ledger.proofs.BookLaws.{places}
-use Rattle.rules.proofs.ListLaws.{has-hit, has-miss, slice-end}
+-- `calls::removals::has_account` meets its contract: the search of the bills is the one that the definition names.
+use Rattle.std.proofs.Common.{rules, tests, refl}
+use Rattle.std.proofs.lemmas.Iterator.{YieldsList-from_slice}
+use Rattle.std.proofs.lemmas.Iterator.Search.{any_from_yields_List}
+use Rattle.std.proofs.lemmas.List.Recursion.{same_from_clauses}
+use Rattle.std.specs.List.{list_any}
+use mathlib.Core.Bool.{◌||◌}
+use mathlib.Core.Path.{◌∙◌}
+use Rattle.rules.specs.Lists.{has}
+use Rattle.ledger.specs.Books.{live, of_account}
 use Rattle.calls.proofs.removals.has_account.Goals as goal
 
-pub loop-i-init : goal.loop-i-init
-loop-i-init c = (omega arith, refl)
-
-pub returns-then-is_of_account : goal.returns-then-is_of_account
-returns-then-is_of_account c =
-    sym
-    (has-hit _ _ _ blank_bill c.loop-i-test.true (omega (arith, places c.args.l _ c.well_formed.0)) (of_account _)
-    (sym c.is_of_account.ensures ∙ c.if-is_of_account.true))
-    ∙ c.loop-i.invariant.1
-
-pub loop-i-preserved : goal.loop-i-preserved
-loop-i-preserved c = (
-  omega arith,
-  sym
-      (has-miss _ _ _ blank_bill c.loop-i-test.true (omega (arith, places c.args.l _ c.well_formed.0)) (of_account _)
-      (sym c.is_of_account.ensures ∙ c.if-is_of_account.false))
-      ∙ c.loop-i.invariant.1,
-)
-
 pub returns : goal.returns
-returns c = rw (slice-end _ _ _ c.loop-i.invariant.0 c.loop-i-test.false) at c.loop-i.invariant.1
+returns c =
+    let p = of_account c.args.account in
+    any_from_yields_List p _ _ _ c.any.ensures.ran (YieldsList-from_slice (live c.args.l) (cc)) (λ x b q k. search (rules, tests))
+    ∙ same_from_clauses (list_any p) (has p) (λ b r. p b || r) refl (λ _ _. refl) (λ _ _. refl) (live c.args.l)

@@ -1,53 +1,43 @@
--- `engine::call::closed_by` meets its contract. The invariant: the count so far and that of the bills from i on make the whole count.
-use native.Mathlib.Omega.{arith}
-use Prim.Native.Nat.{ℕ, ◌≤◌}
-use mathlib.Core.Path.{◌≡◌, ap, ◌∙◌}
-use mathlib.Core.Bool.{Bool, true, false, cond}
-use mathlib.Core.List.{List}
-use lib.Seq.{slice}
+-- `engine::call::closed_by` meets its contract: what the bills add one by one is how many a close closes.
+use Rattle.std.proofs.Common.{rules, tests, arith, ℕ, ◌≡◌, ◌≤◌, ◌+◌, List, length, take, sym, ap, ◌∙◌, get_or}
+use Rattle.std.proofs.lemmas.Iterator.{YieldsList-from_range, YieldsList-from_map}
+use Rattle.std.proofs.lemmas.Iterator.Consumers.{sum_by_from_yields_List, fits_by_from_yields_list}
+use Rattle.std.proofs.lemmas.List.{length-take-le, get_or-take}
+use Rattle.std.proofs.lemmas.List.FromFn.{fill_by_all}
+use Rattle.std.proofs.lemmas.List.Folds.{fold-map}
+use Rattle.std.specs.List.{range_with_len, sum_by}
 use Rattle.ledger.specs.declared.Bill.{Bill}
-use Rattle.rules.specs.Lists.{count}
 use Rattle.ledger.specs.Bills.{blank_bill}
-use Rattle.rules.proofs.ListLaws.{slice-end}
-use Rattle.words.specs.Layout.{ledger_of}
 use Rattle.causes.specs.Requests.{closes}
-use Rattle.calls.proofs.FreshCloseLaws.{count_turn}
+use Rattle.words.specs.Layout.{ledger_of}
 use Rattle.places.proofs.PartLaws.{places_of}
+use Rattle.calls.proofs.FreshCloseLaws.{one, one-by-one, count-few}
 use Rattle.engine.proofs.call.closed_by.Goals as goal
 
-cond-le : (b : Bool) → cond b 1 0 ≤ 1
-cond-le true = omega arith
-cond-le false = omega arith
+-- what the first n bills add, by their places
+by-place : (f : Bill → ℕ) (bs : List Bill) (n : ℕ) → n ≤ length bs
+    → sum_by (λ (i : ℕ). f (get_or bs i blank_bill)) (range_with_len 0 n) ≡ sum_by f (take n bs)
+by-place f bs n h =
+    let at = λ (i : ℕ). get_or bs i blank_bill in
+    sym (fold-map (λ (a : ℕ) (b : Bill). a + f b) at 0 (range_with_len 0 n))
+    ∙ ap (sum_by f) (sym (fill_by_all at (take n bs) n blank_bill (length-take-le n bs h) (λ k q. get_or-take n bs k blank_bill q)))
 
--- what the bill at i adds
-small : (x : ℕ) (b : Bool) → x ≡ cond b 1 0 → x ≤ 1
-small x b e = rw e (cond-le b)
-
-pub loop-i-init : goal.loop-i-init
-loop-i-init c = record { within = omega arith; bound = omega arith; rest = omega arith }
-
-pub bill_at-b-requires : goal.bill_at-b-requires
-bill_at-b-requires c = (c.requires.0, omega (arith, c.requires.1))
-
-pub overflow_add-closed : goal.overflow_add-closed
-overflow_add-closed c = omega (arith, small c.one_closed-closed.result (closes c.args.old c.args.new c.bill_at-b.result) c.one_closed-closed.ensures, c.loop-i.invariant.bound, c.requires.1)
-
-pub overflow_add-i : goal.overflow_add-i
-overflow_add-i c = omega (arith, c.requires.1)
-
-pub loop-i-preserved : goal.loop-i-preserved
-loop-i-preserved c =
-    let bs : List Bill = (ledger_of c.args.ws.now).bills in
-    let e = count_turn c.args.n c.loop-i.i bs blank_bill c.loop-i-test.true (omega (arith, c.requires.1, places_of _ c.requires.0)) (closes c.args.old c.args.new) in
-    let x = c.one_closed-closed.ensures ∙ ap (λ (b : Bill). cond (closes c.args.old c.args.new b) 1 0) c.bill_at-b.ensures in
-    record {
-      within = omega arith;
-      bound = omega (arith, small c.one_closed-closed.result (closes c.args.old c.args.new c.bill_at-b.result) c.one_closed-closed.ensures, c.loop-i.invariant.bound);
-      rest = omega (arith, e, x, c.loop-i.invariant.rest);
-    }
+pub sum-requires-clause-fits : goal.sum-requires-clause-fits
+sum-requires-clause-fits c =
+    let a = c.args in
+    let p = closes a.old a.new in
+    let bs = (ledger_of a.ws.now).bills in
+    let h : a.n ≤ length bs = omega (arith, c.requires.1, places_of _ c.requires.0) in
+    fits_by_from_yields_list (λ (i : ℕ). one p (get_or bs i blank_bill)) (range_with_len 0 a.n) c.map.result _
+    (YieldsList-from_map _ _ (YieldsList-from_range 0 a.n a.n (cc) (omega arith)) c.map.ensures.closure (λ x r q k. search (rules, tests)))
+    (omega (arith, by-place (one p) bs a.n h, one-by-one p (take a.n bs), count-few p (take a.n bs), length-take-le a.n bs h, c.requires.1))
 
 pub returns : goal.returns
 returns c =
-    let e : count (closes c.args.old c.args.new) (slice c.loop-i.i c.args.n (ledger_of c.args.ws.now).bills) ≡ 0 =
-    rw (slice-end _ _ _ c.loop-i.invariant.within c.loop-i-test.false) in
-    omega (arith, e, c.loop-i.invariant.rest)
+    let a = c.args in
+    let p = closes a.old a.new in
+    let bs = (ledger_of a.ws.now).bills in
+    sum_by_from_yields_List (λ (i : ℕ). one p (get_or bs i blank_bill)) (range_with_len 0 a.n) c.map.result _ c.sum.ensures.ran
+    (YieldsList-from_map _ _ (YieldsList-from_range 0 a.n a.n (cc) (omega arith)) c.map.ensures.closure (λ x r q k. search (rules, tests)))
+    ∙ by-place (one p) bs a.n (omega (arith, c.requires.1, places_of _ c.requires.0))
+    ∙ one-by-one p (take a.n bs)

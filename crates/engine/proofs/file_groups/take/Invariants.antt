@@ -1,5 +1,5 @@
 -- `engine::file_groups::take` meets its contract. The invariant is `Walk` of the ledger that the words hold.
-use Prim.Native.Nat.{ℕ, ◌-◌}
+use Prim.Native.Nat.{ℕ}
 use mathlib.Core.Path.{◌≡◌}
 use mathlib.Core.Bool.{Bool, true}
 use mathlib.Core.List.{List}
@@ -13,8 +13,5 @@ pub record Held (s : List ℕ) (n : ℕ) (ws₀ : List ℕ) (writes : Bool) (out
   pub holds : holds_ledger ws ≡ true
   pub walk : Walk s n (ledger_of ws₀) writes out₀ (ledger_of ws) out c i
 
-abbrev pub invariant-loop-i : goal.invariant-loop-i
-invariant-loop-i l = Held l.s l.n l.initial.ws l.writes l.initial.out l.ws l.out l.c l.i
-
-abbrev pub decreases-loop-i : goal.decreases-loop-i
-decreases-loop-i l = l.n - l.i
+abbrev pub invariant-loop-header : goal.invariant-loop-header
+invariant-loop-header l = Held l.s l.n l.initial.ws l.writes l.initial.out l.ws l.out l.c l.header

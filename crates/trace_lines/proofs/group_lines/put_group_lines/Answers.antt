@@ -13,20 +13,11 @@ use Rattle.trace_lines.proofs.group_lines.put_group_lines.Goals.{then-header_at,
 pub loop-i-init : goal.loop-i-init
 loop-i-init c = walk_start c.args.s.now c.args.sent.now c.args.n c.args.out.now c.args.at (omega (arith, c.requires))
 
-pub header_at-requires : goal.header_at-requires
-header_at-requires c = omega (arith, c.loop-i.invariant.within, c.requires)
-
 pub group_turn-r-requires : goal.group_turn-r-requires
 group_turn-r-requires c =
     let w = c.loop-i.invariant in
     let e = sym c.header_at.ensures ∙ c.if-header_at.true in
     let r = leading-header c.args.s.now c.loop-i.i c.args.n (omega arith) e in record { i_lt_n = (omega arith, omega arith, omega arith, omega (arith, w.room)); end_in_bounds = omega (arith, w.few, w.long, w.within, c.requires.n_in_bounds) }
-
-pub overflow_step-i : goal.overflow_step-i
-overflow_step-i c = omega (arith, c.loop-i.invariant.within, c.requires)
-
-pub loop-i-smaller : goal.loop-i-smaller
-loop-i-smaller c = omega (arith, c.loop-i.invariant.within)
 
 pub loop-i-preserved : goal.loop-i-preserved
 loop-i-preserved c =
@@ -42,9 +33,6 @@ loop-i-preserved c =
           walk-header s _ n _ _ _ _ _ i q _ _ _ h e l (w.out-is ∙ w.group_turn-r.ensures.0) (ap (λ (r : Reached). r.end) w.r-is ∙ w.group_turn-r.ensures.1) (ap (λ (r : Reached). r.from) w.r-is ∙ w.group_turn-r.ensures.2)
       | else-header_at w ↦ rw (w.out-is, w.r-is) (walk-detail s _ n _ _ _ _ _ i q h (sym c.header_at.ensures ∙ w.if-header_at.false))
     ]
-
-pub shape_of-out : goal.shape_of-out
-shape_of-out c = c.loop-i.invariant.long
 
 pub returns : goal.returns
 returns c =
