@@ -5,7 +5,7 @@ use mathlib.Core.List.{List, [], ◌∷◌, ◌++◌}
 use Prim.Native.Nat.{ℕ, zero, suc, ◌+◌, ◌-◌, ◌*◌, ◌/◌, ◌≤◌, ◌<◌}
 use native.Mathlib.Omega.{arith}
 use native.Mathlib.Numerals.{add-one}
-use native.Mathlib.Nat.{not-suc-le-zero}
+use native.Mathlib.Nat.{not-suc-le-zero, sub-zero}
 use lib.ListN.{length, get_or, take, drop, length-append}
 use lib.Dec.{leb}
 use Rattle.std.proofs.lemmas.List.{drop-take}
@@ -59,6 +59,10 @@ unfolding records
 good-end s h =
     let e : length s / 321 ≡ 0 = omega arith in
     ap (λ (k : ℕ). every good_record (records_from s 0 k)) e ∙ ap (every good_record) (records-end s 0 0 (omega arith))
+
+-- all records, as a walk from record 0 on has them
+pub from_start : (s : List ℕ) (n : ℕ) → records_from s 0 (n - 0) ≡ records_from s 0 n
+from_start s n = ap (λ (k : ℕ). records_from s 0 k) (sub-zero n)
 
 pub headed-first : (s : List ℕ) (n : ℕ) → 0 < n → headed (records_from s 0 n) ≡ is_header (record_at s 0)
 unfolding headed records_from
