@@ -6,7 +6,7 @@ use mathlib.Core.List.{List}
 use native.Mathlib.Omega.{arith}
 use lib.ListN.{length, take, drop}
 use lib.Seq.{length-take-le, take-add, drop_at}
-use Rattle.std.proofs.Common.{Option, subst}
+use Rattle.std.proofs.Common.{Option, None, Some, Ok, Err, subst}
 use Rattle.std.proofs.KnownBytes.{Consumes-nil}
 use Rattle.std.proofs.lemmas.List.{drop-take as drop-take-of}
 use Rattle.std.specs.Io.KnownBytes.{Consumes}
@@ -14,20 +14,18 @@ use Rattle.fields.specs.Put.{part, put}
 use Rattle.fields.proofs.PutLaws.{length_part, front-put}
 use Rattle.entries.specs.declared.run.Ran.{Ran}
 use Rattle.entries.specs.parts.Running.{ran_to, RanIn}
-use Rattle.input.specs.declared.Filled as filled
-use Rattle.input.specs.declared.Filled.TheVariants as filled-as
-use Rattle.input.specs.Filled.{HoldsRead, Fills}
+use Rattle.input.specs.Filled.{Filled, HoldsRead, Fills}
 use Rattle.replay.specs.declared.Wanted.{Wanted}
 use Rattle.replay.specs.declared.Wanted.TheVariants.{Nothing, Notices}
 use Rattle.replay.specs.parts.Pieces.{HoldsMore, FillsMore, PieceRuns, PieceLeaves}
 
 -- ---- a read: no fewer bytes are held
-holds_more : (have : ℕ) (full : Bool) (room : ℕ) (r : filled.Filled) → full ≡ false → HoldsRead have room r → HoldsMore have full room r
-holds_more have full room (filled-as.Bytes n) e h = (omega (arith, h.0), h.1)
-holds_more have full room filled-as.Ended e h = e
-holds_more have full room (filled-as.Failed x) e h = tt
+holds_more : (have : ℕ) (full : Bool) (room : ℕ) (r : Filled) → full ≡ false → HoldsRead have room r → HoldsMore have full room r
+holds_more have full room (Ok (Some n)) e h = (omega (arith, h.0), h.1)
+holds_more have full room (Ok None) e h = e
+holds_more have full room (Err x) e h = tt
 
-pub fills-more : (have : ℕ) (full : Bool) (before after : List ℕ) (r : filled.Filled) → full ≡ false → Fills have before after r
+pub fills-more : (have : ℕ) (full : Bool) (before after : List ℕ) (r : Filled) → full ≡ false → Fills have before after r
     → FillsMore have full before after r
 fills-more have full before after r e f = record { stay = f.stay; holds = holds_more have full (length after) r e f.holds }
 

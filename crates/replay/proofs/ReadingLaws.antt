@@ -1,12 +1,12 @@
 -- A journal that comes in pieces is read whole. Assumes nothing.
 use Prim.Native.Nat.{ℕ, ◌+◌, ◌-◌, ◌≤◌, ◌<◌}
 use mathlib.Core.Path.{◌≡◌, refl, sym, ap, ap₂, subst, ◌∙◌}
-use mathlib.Core.Bool.{Bool, true, false, not, ◌||◌, true≢false}
+use mathlib.Core.Bool.{Bool, true, false, ◌||◌, true≢false}
 use mathlib.Core.List.{List, [], ◌++◌, append_assoc, append-nil}
 use native.Mathlib.Omega.{arith}
 use lib.ListN.{length, take, drop, length-append}
 use lib.Seq.{length-take-le, take-add}
-use Rattle.std.proofs.Common.{Option, pos}
+use Rattle.std.proofs.Common.{Option, None, Some, Result, Ok, Err, IfOk, is_err}
 use Rattle.std.proofs.KnownBytes.{Consumes-nil, Consumes-trans, Consumes-kept, Appends-nil, Appends-trans}
 use Rattle.std.proofs.lemmas.List.{drop-take}
 use Rattle.std.specs.Io.KnownBytes.{Keeps, Consumes, Appends, IsAtEnd}
@@ -28,10 +28,7 @@ use Rattle.entries.proofs.FirstMadeLaws.{made-append}
 use Rattle.entries.proofs.RunNotices.{notices-append}
 use Rattle.trace_lines.specs.Trace.{trace_lines}
 use Rattle.tracing.proofs.RunLines.{lines-append}
-use Rattle.input.specs.declared.Filled as filled
-use Rattle.input.specs.declared.Filled.TheVariants.{Ended}
-use Rattle.input.specs.Filled.{Comes, not_ended}
-use Rattle.input.proofs.FilledLaws.{ended}
+use Rattle.input.specs.Filled.{Filled, Comes}
 use Rattle.replay.specs.declared.Wanted.{Wanted}
 use Rattle.replay.specs.declared.Wanted.TheVariants.{Nothing, Notices, Lines}
 use Rattle.streams.specs.declared.pieces.End.{End}
@@ -40,8 +37,10 @@ use Rattle.replay.specs.Reading.{written_of, ReadsFrom}
 use Rattle.replay.specs.parts.Pieces.{Waits, PieceLeaves}
 use Rattle.replay.proofs.WholeLaws.{waits-short}
 use Rattle.streams.specs.Ends.{piece_output, end_of_input, end_of_piece}
-use Rattle.streams.specs.Written.{Sends}
+use Rattle.streams.specs.Written.{Writes}
+use Rattle.streams.specs.declared.output.Failed.{Failed}
 use Rattle.streams.specs.declared.output.Output.{Output}
+use Rattle.streams.specs.declared.output.Stream.TheVariants.{Stdout}
 
 -- ---- entries behind entries
 behind-behind : (es fs : List Entry) (p : Parsed) → behind es (behind fs p) ≡ behind (es ++ fs) p
@@ -229,11 +228,11 @@ module _ (t : Wanted) (had left held holds : Option (List ℕ)) (ws buf : List �
 
 -- ---- the end
 -- where no entry stands whole in the bytes held the reading has come to its end
-pub reading-ended : (t : Wanted) (had left held holds : Option (List ℕ)) (ws buf : List ℕ) (seen have total : ℕ) (stopped failed : Bool)
+pub reading-ended : (t : Wanted) (had left held holds : Option (List ℕ)) (ws buf : List ℕ) (seen have total : ℕ) (stopped : Bool)
     → Reading t had left held holds ws buf seen have total → Waits seen (take have buf) stopped → (stopped ≡ false → IsAtEnd left)
-    → ReadsFrom t had left held holds ws buf (record { seen = seen; stopped = stopped; left = have; total = total; failed = failed })
+    → ReadsFrom t had left held holds ws buf (record { seen = seen; stopped = stopped; left = have; total = total })
 unfolding journal_ledger is_bad
-reading-ended t had left held holds ws buf seen have total stopped failed x w none =
+reading-ended t had left held holds ws buf seen have total stopped x w none =
     let e = x.parsed ∙ ap (behind x.done) w in
     let entries : (parse 0 x.bytes).entries ≡ x.done = ap (λ (p : Parsed). p.entries) e ∙ append-nil x.done in
     let bad : stopped ≡ (parse 0 x.bytes).stopped = sym (ap (λ (p : Parsed). p.stopped) e) in
@@ -259,36 +258,32 @@ reading-ended t had left held holds ws buf seen have total stopped failed x w no
     }
 
 -- the input has ended
-pub input-ended : (t : Wanted) (had left left₁ held holds : Option (List ℕ)) (ws buf : List ℕ) (seen have total : ℕ) (f : filled.Filled) (e : End)
+pub input-ended : (t : Wanted) (had left left₁ held holds : Option (List ℕ)) (ws buf : List ℕ) (seen have total : ℕ) (f : Filled) (e : Result End Failed)
     → e ≡ end_of_input f seen have total → Reading t had left held holds ws buf seen have total → length buf ≡ 262144 → Comes have buf left left₁ f
-    → (f ≡ Ended → Waits seen (take have buf) false) → e.failed ≡ false → ReadsFrom t had left₁ held holds ws buf e
-input-ended t had left left₁ held holds ws buf seen have total f e q x room c w z =
-    let none = ended f (sym (ap (λ (k : End). k.failed) q) ∙ z) in
-    let end = subst (Comes have buf left left₁) none c in
-    let fits : have < length buf = omega (arith, room, length-take-le have buf x.within, waits-short seen (take have buf) (w none)) in
-    let read = reading-left t had left left₁ held holds ws buf seen have total x end.0 in
-    subst (ReadsFrom t had left₁ held holds ws buf) (sym q)
-    (reading-ended t had left₁ held holds ws buf seen have total false (not_ended f) read (w none) (λ _. end.1 fits))
-
-stopped_by : (a b : Bool) → (not a || b) ≡ true → not a ≡ false → (a ≡ true) × (b ≡ true)
-stopped_by true b h z = (refl, h)
-stopped_by false b h z = absurd (true≢false z)
+    → (f ≡ Ok None → Waits seen (take have buf) false) → IfOk e (λ e. ReadsFrom t had left₁ held holds ws buf e)
+input-ended t had left left₁ held holds ws buf seen have total (Err x) e q read room c w = subst (λ r. IfOk r (λ e. ReadsFrom t had left₁ held holds ws buf e)) (sym q) tt
+input-ended t had left left₁ held holds ws buf seen have total (Ok (Some n)) e q read room c w =
+    subst (λ r. IfOk r (λ e. ReadsFrom t had left₁ held holds ws buf e)) (sym q) tt
+input-ended t had left left₁ held holds ws buf seen have total (Ok None) e q x room c w =
+    let fits : have < length buf = omega (arith, room, length-take-le have buf x.within, waits-short seen (take have buf) (w refl)) in
+    let read = reading-left t had left left₁ held holds ws buf seen have total x c.0 in
+    subst (λ r. IfOk r (λ e. ReadsFrom t had left₁ held holds ws buf e)) (sym q)
+    (reading-ended t had left₁ held holds ws buf seen have total false read (w refl) (λ _. c.1 fits))
 
 -- a bad entry has stopped it
-pub piece-ended : (t : Wanted) (had left held holds : Option (List ℕ)) (ws buf : List ℕ) (total : ℕ) (p : Piece) (written : Bool) (e : End)
-    → e ≡ end_of_piece p total written → (written ≡ true → Reading t had left held holds ws buf p.seen p.left total)
-    → (p.full ≡ false → Waits p.seen (take p.left buf) p.stopped) → (p.full ≡ true → p.stopped ≡ false) → (not written || p.stopped) ≡ true
-    → e.failed ≡ false → ReadsFrom t had left held holds ws buf e
-piece-ended t had left held holds ws buf total p written e q x w goes h z =
-    let s = stopped_by written p.stopped h (sym (ap (λ (k : End). k.failed) q) ∙ z) in
-    let o = cases p.full (λ y. absurd (true≢false (sym s.1 ∙ goes y))) (λ y. y) in
-    subst (ReadsFrom t had left held holds ws buf) (sym q)
-    (reading-ended t had left held holds ws buf p.seen p.left total p.stopped (not written) (x s.0) (w o) (λ y. absurd (true≢false (sym s.1 ∙ y))))
+pub piece-ended : (t : Wanted) (had left held holds : Option (List ℕ)) (ws buf : List ℕ) (total : ℕ) (p : Piece) (sent : Result (Unit {0}) Failed)
+    (e : Result End Failed) → e ≡ end_of_piece p total sent → (is_err sent ≡ false → Reading t had left held holds ws buf p.seen p.left total)
+    → (p.full ≡ false → Waits p.seen (take p.left buf) p.stopped) → (p.full ≡ true → p.stopped ≡ false) → (is_err sent || p.stopped) ≡ true
+    → IfOk e (λ e. ReadsFrom t had left held holds ws buf e)
+piece-ended t had left held holds ws buf total p (Err x) e q read w goes h = subst (λ r. IfOk r (λ e. ReadsFrom t had left held holds ws buf e)) (sym q) tt
+piece-ended t had left held holds ws buf total p (Ok u) e q x w goes h =
+    let o = cases p.full (λ y. absurd (true≢false (sym h ∙ goes y))) (λ y. y) in
+    subst (λ r. IfOk r (λ e. ReadsFrom t had left held holds ws buf e)) (sym q)
+    (reading-ended t had left held holds ws buf p.seen p.left total p.stopped (x refl) (w o) (λ y. absurd (true≢false (sym h ∙ y))))
 
 -- what of a piece was sent to standard output
-pub sent : (o : Output) (p : Piece) (out : List ℕ) (all : Bool) (a b : Option (List ℕ)) → o ≡ piece_output p
-    → (o.descriptor ≡ pos 1 → Sends all (take o.length out) a b) → all ≡ true → Appends a b (take p.written out)
-sent o p out all a b e s w =
-    let first = s (ap (λ (k : Output). k.descriptor) e) in
-    let whole : Appends a b (take o.length out) = subst (λ (k : Bool). Sends k (take o.length out) a b) w first in
-    subst (λ (n : ℕ). Appends a b (take n out)) (ap (λ (k : Output). k.length) e) whole
+pub sent : (o : Output) (p : Piece) (out : List ℕ) (all : Result (Unit {0}) Failed) (a b : Option (List ℕ)) → o ≡ piece_output p
+    → (o.stream ≡ Stdout → Writes all (take o.length out) a b) → is_err all ≡ false → Appends a b (take p.written out)
+sent o p out (Ok u) a b e s w =
+    subst (λ (n : ℕ). Appends a b (take n out)) (ap (λ (k : Output). k.length) e) (s (ap (λ (k : Output). k.stream) e))
+sent o p out (Err x) a b e s w = absurd (true≢false w)

@@ -9,16 +9,16 @@ use crate::Wanted;
 use entries::run;
 use std::io::{Read, Write};
 use streams::output;
-use streams::output::{Output, STDERR_FILENO, STDOUT_FILENO};
+use streams::output::{Failed, Output, Stream};
 use streams::pieces::End;
 
 // Puts the line that says that a bad entry stopped the reading, if one did and nothing failed; answers its length.
-fn stop_line(out: &mut [u8], e: End) -> usize
+fn stop_line(out: &mut [u8], e: Result<End, Failed>) -> usize
     requires { stop_size ≤ length out.old }
     ensures { StopLine e out.old out.new result }
 {
-    let bad = journal::ends_bad(e.stopped, e.left, e.seen);
-    table::put_stop(out, 0, !e.failed & bad)
+    let bad = e.is_ok_and(|e| journal::ends_bad(e.stopped, e.left, e.seen));
+    table::put_stop(out, 0, bad)
 }
 
 // Reads standard input and writes what is asked for of its entries; what is left to write is the line in `out`, of so many bytes.
@@ -40,13 +40,13 @@ fn read_input<R: Read, O: Write, E: Write>(
 }
 
 // Where that line goes.
-fn last_to(wanted: Wanted) -> i32
+fn last_to(wanted: Wanted) -> Stream
     ensures { result ≡ last_to wanted }
 {
     match wanted {
-        Wanted::Nothing => STDOUT_FILENO,
-        Wanted::Notices => STDERR_FILENO,
-        Wanted::Lines => STDOUT_FILENO,
+        Wanted::Nothing => Stream::Stdout,
+        Wanted::Notices => Stream::Stderr,
+        Wanted::Lines => Stream::Stdout,
     }
 }
 
@@ -61,11 +61,11 @@ fn last_of_input<R: Read, O: Write, E: Write>(
     wanted: Wanted,
 ) -> Output
     requires { (length ws.old ≡ ledger_size) × (length buf.old ≡ piece_size) × (length out.old ≡ piece_size) }
-    ensures { (result.descriptor ≡ last_to wanted) × StopLineWritten out.new result.length }
+    ensures { (result.stream ≡ last_to wanted) × StopLineWritten out.new result.length }
 {
     let length = read_input(reader, output, error, ws, buf, out, wanted);
     Output {
-        descriptor: last_to(wanted),
+        stream: last_to(wanted),
         length,
     }
 }
@@ -77,12 +77,12 @@ pub fn write_wanted<R: Read, O: Write, E: Write>(
     error: &mut E,
     wanted: Wanted,
 ) -> Output
-    ensures { (result.descriptor ≡ last_to wanted) × StopLineSize result.length }
+    ensures { (result.stream ≡ last_to wanted) × StopLineSize result.length }
 {
     let mut ws = [0u64; words::LEDGER_SIZE];
     let mut buf = [0u8; streams::PIECE_SIZE];
     let mut out = [0u8; streams::PIECE_SIZE];
     let o = last_of_input(reader, output, error, &mut ws, &mut buf, &mut out, wanted);
-    output::send(output, error, o, &out);
+    let _ = output::send(output, error, o, &out);
     o
 }

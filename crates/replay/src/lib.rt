@@ -2,7 +2,7 @@
 // caller asks for of them is written to standard output.
 #![tactic(auto)]
 
-ghost use Rattle.std.specs.Prelude.{◌≡◌, true, false, ◌≤◌, length};
+ghost use Rattle.std.specs.Prelude.{◌≡◌, true, ◌≤◌, length, IfOk};
 ghost use Rattle.ledger.specs.Sound.{sound_ledger};
 ghost use Rattle.words.specs.Layout.{ledger_of};
 ghost use Rattle.input.specs.Filled.{Comes};
@@ -14,8 +14,9 @@ ghost use Rattle.streams.specs.Ends.{piece_size};
 
 use entries::run;
 use entries::run::Ran;
-use input::Filled;
+use std::io;
 use std::io::{Read, Write};
+use streams::output::Failed;
 use streams::pieces::{End, Piece};
 use streams::{output, pieces};
 
@@ -30,13 +31,18 @@ pub enum Wanted {
 }
 
 // Reads on where all entries that were read are made.
-fn more<R: Read>(reader: &mut R, buf: &mut [u8], have: usize, full: bool) -> Filled
+fn more<R: Read>(
+    reader: &mut R,
+    buf: &mut [u8],
+    have: usize,
+    full: bool,
+) -> io::Result<Option<usize>>
     requires { have ≤ length buf.old }
     ensures held { FillsMore have full buf.old buf.new result }
     ensures bytes { Comes have buf.new (R.remaining reader.old) (R.remaining reader.new) result }
 {
     if full {
-        return Filled::Bytes(have);
+        return Ok(Some(have));
     }
     input::fill(reader, buf, have)
 }
@@ -97,38 +103,30 @@ pub fn read_all<R: Read, O: Write, E: Write>(
     buf: &mut [u8],
     out: &mut [u8],
     wanted: Wanted,
-) -> End
+) -> Result<End, Failed>
     requires { (ledger_of ws.old ≡ first_ledger) × (length buf.old ≡ piece_size) × (length out.old ≤ piece_size) }
-    ensures reads { result.failed ≡ false → Reads wanted ws.new buf.new result }
-    ensures bytes { result.failed ≡ false → ReadsFrom wanted (R.remaining reader.old) (R.remaining reader.new)
-        (O.contents output.old) (O.contents output.new) ws.new buf.new result }
+    ensures reads { IfOk result (λ e. Reads wanted ws.new buf.new e) }
+    ensures bytes { IfOk result (λ e. ReadsFrom wanted (R.remaining reader.old) (R.remaining reader.new)
+        (O.contents output.old) (O.contents output.new) ws.new buf.new e) }
 {
     let mut seen = 0;
     let mut left = 0;
     let mut total = 0;
     let mut full = false;
-    let mut turns = 70000000000000u64;
-    while 0 < turns {
-        turns -= 1;
-        let f = more(reader, buf, left, full);
-        let Filled::Bytes(n) = f else {
-            return pieces::end_of_input(error, f, seen, left, total);
+    for _turn in 0..70000000000000u64 {
+        let came = more(reader, buf, left, full);
+        let Ok(Some(n)) = came else {
+            return pieces::end_of_input(error, came, seen, left, total);
         };
         let p = make(ws, buf, out, wanted, n, seen);
         total += p.written;
-        let is_written = output::send(output, error, pieces::output_of(p), out);
-        if !is_written | p.stopped {
-            return pieces::end_of_piece(p, total, is_written);
+        let sent = output::send(output, error, pieces::output_of(p), out);
+        if sent.is_err() | p.stopped {
+            return pieces::end_of_piece(p, total, sent);
         }
         seen = p.seen;
         left = p.left;
         full = p.full;
     }
-    End {
-        seen,
-        stopped: false,
-        left,
-        total,
-        failed: true,
-    }
+    Err(Failed::Read)
 }
