@@ -1,7 +1,7 @@
 // Reads a journal on standard input and writes its posted table.
 #![tactic(auto)]
 
-ghost use Rattle.std.specs.Prelude.{◌≡◌, true, false, length, IfSome};
+ghost use Rattle.std.specs.Prelude.{◌≡◌, true, length, IfSome, OnOk};
 ghost use Rattle.ledger.specs.Sound.{sound_ledger};
 ghost use Rattle.words.specs.Layout.{ledger_size, ledger_of};
 ghost use Rattle.table.specs.Table.{table_room};
@@ -11,7 +11,7 @@ ghost use Rattle.streams.specs.Ends.{piece_size};
 use entries::run;
 use replay::Wanted;
 use std::io::{Read, Write};
-use streams::output::{Output, STDOUT_FILENO};
+use streams::output::{Failed, Output, Stream};
 use streams::pieces::End;
 use streams::{arguments, output};
 
@@ -20,19 +20,19 @@ fn printed(length: usize) -> Output
     ensures { result ≡ to_print length }
 {
     Output {
-        descriptor: STDOUT_FILENO,
+        stream: Stream::Stdout,
         length,
     }
 }
 
 // What is written at the end: to standard output, the table of the ledger in words, in `out`; nothing where a read failed.
-fn table_of(ws: &[u64], out: &mut [u8], e: End) -> Output
-    requires { (e.failed ≡ false → sound_ledger (ledger_of ws.now) ≡ true) × (length out.old ≡ table_room) }
+fn table_of(ws: &[u64], out: &mut [u8], e: Result<End, Failed>) -> Output
+    requires { OnOk e (sound_ledger (ledger_of ws.now) ≡ true) × (length out.old ≡ table_room) }
     ensures { TableWritten e ws.now out.old out.new result }
 {
-    if e.failed {
+    let Ok(e) = e else {
         return printed(0);
-    }
+    };
     let bad = journal::ends_bad(e.stopped, e.left, e.seen);
     let length = table_in_words::write_words(out, ws, bad);
     printed(length)
@@ -62,7 +62,7 @@ fn post<R: Read, O: Write, E: Write>(reader: &mut R, output: &mut O, error: &mut
     let mut buf = [0u8; streams::PIECE_SIZE];
     let mut out = [0u8; table::TABLE_ROOM];
     let o = post_input(reader, output, error, &mut ws, &mut buf, &mut out);
-    output::send(output, error, o, &out);
+    let _ = output::send(output, error, o, &out);
 }
 
 fn main(rt: HostRuntime) {
