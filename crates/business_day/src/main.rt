@@ -7,7 +7,7 @@ ghost use Rattle.business_day.specs.Answering.{input_room, StopsAt, Took, Answer
 
 use std::io;
 use std::io::{Read, Write};
-use streams::output::{Failed, Output, Stream};
+use streams::output::{Failed, Output, Stream, Streams};
 use streams::{arguments, output};
 
 // One byte more than the longest input that is not refused.
@@ -39,9 +39,8 @@ fn read_input<R: Read>(reader: &mut R, buf: &mut [u8]) -> Input
 }
 
 // Reads standard input and puts the line for it into `out`. Answers its length, 0 where a read failed, which is told on standard error.
-fn line_of_input<R: Read, E: Write>(
-    reader: &mut R,
-    error: &mut E,
+fn line_of_input<R: Read, O, E: Write>(
+    streams: &mut Streams<R, O, E>,
     out: &mut [u8],
     buf: &mut [u8],
     date: &[u8],
@@ -49,20 +48,20 @@ fn line_of_input<R: Read, E: Write>(
 ) -> usize
     requires { (length buf.old ≡ input_room) × (day_room ≤ length out.old) }
     ensures answer { Answers date.now number.now buf.new out.new result }
-    ensures all { IfSome (R.remaining reader.old) (λ input. AnswersAll date.now number.now input out.new result) }
+    ensures all { IfSome (R.remaining streams.old.input) (λ input. AnswersAll date.now number.now input out.new result) }
+    ensures output { streams.new.output ≡ streams.old.output }
 {
-    let Input { length, last } = read_input(reader, buf);
+    let Input { length, last } = read_input(&mut streams.input, buf);
     if let Err(e) = last {
-        input::tell(error, "read", e);
+        input::tell(&mut streams.error, "read", e);
         return 0;
     }
     holidays::print_day(out, date, number, &buf[..length])
 }
 
 // Reads standard input; what is left to write, to standard output, is the line in `out`.
-fn answer_input<R: Read, E: Write>(
-    reader: &mut R,
-    error: &mut E,
+fn answer_input<R: Read, O, E: Write>(
+    streams: &mut Streams<R, O, E>,
     out: &mut [u8],
     buf: &mut [u8],
     date: &[u8],
@@ -70,9 +69,10 @@ fn answer_input<R: Read, E: Write>(
 ) -> Output
     requires { (length buf.old ≡ input_room) × (day_room ≤ length out.old) }
     ensures answer { (result.stream ≡ Stream.Stdout) × Answers date.now number.now buf.new out.new result.length }
-    ensures all { IfSome (R.remaining reader.old) (λ input. AnswersAll date.now number.now input out.new result.length) }
+    ensures all { IfSome (R.remaining streams.old.input) (λ input. AnswersAll date.now number.now input out.new result.length) }
+    ensures output { streams.new.output ≡ streams.old.output }
 {
-    let length = line_of_input(reader, error, out, buf, date, number);
+    let length = line_of_input(streams, out, buf, date, number);
     Output {
         stream: Stream::Stdout,
         length,
@@ -81,19 +81,17 @@ fn answer_input<R: Read, E: Write>(
 
 // Writes the answer to standard output; whether it could be written. What failed is told on standard error.
 fn answer<R: Read, O: Write, E: Write>(
-    reader: &mut R,
-    output: &mut O,
-    error: &mut E,
+    streams: &mut Streams<R, O, E>,
     date: &[u8],
     number: &[u8],
 ) -> Result<(), Failed>
-    ensures { IfSome (R.remaining reader.old)
-        (λ input. WritesAll date.now number.now input (O.contents output.old) (O.contents output.new) result) }
+    ensures { IfSome (R.remaining streams.old.input)
+        (λ input. WritesAll date.now number.now input (O.contents streams.old.output) (O.contents streams.new.output) result) }
 {
     let mut buf = [0u8; INPUT_ROOM];
     let mut out = [0u8; holidays::DAY_ROOM];
-    let o = answer_input(reader, error, &mut out, &mut buf, date, number);
-    output::send(output, error, o, &out)
+    let o = answer_input(streams, &mut out, &mut buf, date, number);
+    streams.send(o, &out)
 }
 
 fn main(rt: HostRuntime) {
@@ -110,11 +108,10 @@ fn main(rt: HostRuntime) {
     let mut number = [0u8; 1];
     let date_length = arguments::argument(&rt, 1, &mut date);
     let number_length = arguments::argument(&rt, 2, &mut number);
-    let _ = answer(
-        &mut rt.stdin(),
-        &mut rt.stdout(),
-        &mut rt.stderr(),
-        &date[..date_length],
-        &number[..number_length],
-    );
+    let mut streams = Streams {
+        input: rt.stdin(),
+        output: rt.stdout(),
+        error: rt.stderr(),
+    };
+    let _ = answer(&mut streams, &date[..date_length], &number[..number_length]);
 }

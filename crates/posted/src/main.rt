@@ -11,7 +11,7 @@ ghost use Rattle.streams.specs.Ends.{piece_size};
 use entries::run;
 use replay::Wanted;
 use std::io::{Read, Write};
-use streams::output::{Failed, Output, Stream};
+use streams::output::{Failed, Output, Stream, Streams};
 use streams::pieces::End;
 use streams::{arguments, output};
 
@@ -40,29 +40,27 @@ fn table_of(ws: &[u64], out: &mut [u8], e: Result<End, Failed>) -> Output
 
 // Reads standard input; what is left to write is its posted table in `out`.
 fn post_input<R: Read, O: Write, E: Write>(
-    reader: &mut R,
-    output: &mut O,
-    error: &mut E,
+    streams: &mut Streams<R, O, E>,
     ws: &mut [u64],
     buf: &mut [u8],
     out: &mut [u8],
 ) -> Output
     requires { (length ws.old ≡ ledger_size) × (length buf.old ≡ piece_size) × (length out.old ≡ table_room) }
     ensures posts { Posts out.new result }
-    ensures all { IfSome (R.remaining reader.old) (λ input. PostsAll input out.new result) }
+    ensures all { IfSome (R.remaining streams.old.input) (λ input. PostsAll input out.new result) }
 {
     run::start(ws);
-    let e = replay::read_all(reader, output, error, ws, buf, out, Wanted::Nothing);
+    let e = replay::read_all(streams, ws, buf, out, Wanted::Nothing);
     table_of(ws, out, e)
 }
 
 // Reads standard input and writes its posted table to standard output.
-fn post<R: Read, O: Write, E: Write>(reader: &mut R, output: &mut O, error: &mut E) {
+fn post<R: Read, O: Write, E: Write>(streams: &mut Streams<R, O, E>) {
     let mut ws = [0u64; words::LEDGER_SIZE];
     let mut buf = [0u8; streams::PIECE_SIZE];
     let mut out = [0u8; table::TABLE_ROOM];
-    let o = post_input(reader, output, error, &mut ws, &mut buf, &mut out);
-    let _ = output::send(output, error, o, &out);
+    let o = post_input(streams, &mut ws, &mut buf, &mut out);
+    let _ = streams.send(o, &out);
 }
 
 fn main(rt: HostRuntime) {
@@ -75,5 +73,10 @@ fn main(rt: HostRuntime) {
         );
         return;
     }
-    post(&mut rt.stdin(), &mut rt.stdout(), &mut rt.stderr());
+    let mut streams = Streams {
+        input: rt.stdin(),
+        output: rt.stdout(),
+        error: rt.stderr(),
+    };
+    post(&mut streams);
 }

@@ -8,8 +8,7 @@ ghost use Rattle.table.specs.Table.{stop_size};
 use crate::Wanted;
 use entries::run;
 use std::io::{Read, Write};
-use streams::output;
-use streams::output::{Failed, Output, Stream};
+use streams::output::{Failed, Output, Stream, Streams};
 use streams::pieces::End;
 
 // Puts the line that says that a bad entry stopped the reading, if one did and nothing failed; answers its length.
@@ -23,9 +22,7 @@ fn stop_line(out: &mut [u8], e: Result<End, Failed>) -> usize
 
 // Reads standard input and writes what is asked for of its entries; what is left to write is the line in `out`, of so many bytes.
 fn read_input<R: Read, O: Write, E: Write>(
-    reader: &mut R,
-    output: &mut O,
-    error: &mut E,
+    streams: &mut Streams<R, O, E>,
     ws: &mut [u64],
     buf: &mut [u8],
     out: &mut [u8],
@@ -35,7 +32,7 @@ fn read_input<R: Read, O: Write, E: Write>(
     ensures { StopLineWritten out.new result }
 {
     run::start(ws);
-    let e = crate::read_all(reader, output, error, ws, buf, out, wanted);
+    let e = crate::read_all(streams, ws, buf, out, wanted);
     stop_line(out, e)
 }
 
@@ -52,9 +49,7 @@ fn last_to(wanted: Wanted) -> Stream
 
 // What is left to write once standard input is read, and where it goes.
 fn last_of_input<R: Read, O: Write, E: Write>(
-    reader: &mut R,
-    output: &mut O,
-    error: &mut E,
+    streams: &mut Streams<R, O, E>,
     ws: &mut [u64],
     buf: &mut [u8],
     out: &mut [u8],
@@ -63,7 +58,7 @@ fn last_of_input<R: Read, O: Write, E: Write>(
     requires { (length ws.old ≡ ledger_size) × (length buf.old ≡ piece_size) × (length out.old ≡ piece_size) }
     ensures { (result.stream ≡ last_to wanted) × StopLineWritten out.new result.length }
 {
-    let length = read_input(reader, output, error, ws, buf, out, wanted);
+    let length = read_input(streams, ws, buf, out, wanted);
     Output {
         stream: last_to(wanted),
         length,
@@ -72,9 +67,7 @@ fn last_of_input<R: Read, O: Write, E: Write>(
 
 // Reads standard input and writes what is asked for of its entries, and the line behind; answers what was last to write.
 pub fn write_wanted<R: Read, O: Write, E: Write>(
-    reader: &mut R,
-    output: &mut O,
-    error: &mut E,
+    streams: &mut Streams<R, O, E>,
     wanted: Wanted,
 ) -> Output
     ensures { (result.stream ≡ last_to wanted) × StopLineSize result.length }
@@ -82,7 +75,7 @@ pub fn write_wanted<R: Read, O: Write, E: Write>(
     let mut ws = [0u64; words::LEDGER_SIZE];
     let mut buf = [0u8; streams::PIECE_SIZE];
     let mut out = [0u8; streams::PIECE_SIZE];
-    let o = last_of_input(reader, output, error, &mut ws, &mut buf, &mut out, wanted);
-    let _ = output::send(output, error, o, &out);
+    let o = last_of_input(streams, &mut ws, &mut buf, &mut out, wanted);
+    let _ = streams.send(o, &out);
     o
 }

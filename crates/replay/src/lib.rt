@@ -16,9 +16,9 @@ use entries::run;
 use entries::run::Ran;
 use std::io;
 use std::io::{Read, Write};
-use streams::output::Failed;
+use streams::output::{Failed, Streams};
+use streams::pieces;
 use streams::pieces::{End, Piece};
-use streams::{output, pieces};
 
 pub mod ending;
 
@@ -96,9 +96,7 @@ fn make(
 
 // Reads standard input in pieces and makes its entries. A billion entries have fewer bytes than there are turns.
 pub fn read_all<R: Read, O: Write, E: Write>(
-    reader: &mut R,
-    output: &mut O,
-    error: &mut E,
+    streams: &mut Streams<R, O, E>,
     ws: &mut [u64],
     buf: &mut [u8],
     out: &mut [u8],
@@ -106,21 +104,21 @@ pub fn read_all<R: Read, O: Write, E: Write>(
 ) -> Result<End, Failed>
     requires { (ledger_of ws.old ≡ first_ledger) × (length buf.old ≡ piece_size) × (length out.old ≤ piece_size) }
     ensures reads { IfOk result (λ e. Reads wanted ws.new buf.new e) }
-    ensures bytes { IfOk result (λ e. ReadsFrom wanted (R.remaining reader.old) (R.remaining reader.new)
-        (O.contents output.old) (O.contents output.new) ws.new buf.new e) }
+    ensures bytes { IfOk result (λ e. ReadsFrom wanted (R.remaining streams.old.input) (R.remaining streams.new.input)
+        (O.contents streams.old.output) (O.contents streams.new.output) ws.new buf.new e) }
 {
     let mut seen = 0;
     let mut left = 0;
     let mut total = 0;
     let mut full = false;
     for _turn in 0..70000000000000u64 {
-        let came = more(reader, buf, left, full);
+        let came = more(&mut streams.input, buf, left, full);
         let Ok(Some(n)) = came else {
-            return pieces::end_of_input(error, came, seen, left, total);
+            return pieces::end_of_input(&mut streams.error, came, seen, left, total);
         };
         let p = make(ws, buf, out, wanted, n, seen);
         total += p.written;
-        let sent = output::send(output, error, pieces::output_of(p), out);
+        let sent = streams.send(pieces::output_of(p), out);
         if sent.is_err() | p.stopped {
             return pieces::end_of_piece(p, total, sent);
         }

@@ -21,6 +21,14 @@ pub struct Output {
     pub length: usize,
 }
 
+// The streams of a program: what it reads, what it writes, and where it tells what failed.
+#[derive(Drop)]
+pub struct Streams<R, O, E> {
+    pub input: R,
+    pub output: O,
+    pub error: E,
+}
+
 // What failed; why it did was told on standard error.
 #[derive(Clone, Copy)]
 pub enum Failed {
@@ -62,41 +70,35 @@ pub fn explain<E: Write>(error: &mut E, usage: &[u8], does: &[u8], ends: &[u8]) 
     }
 }
 
-// Writes the bytes to that stream.
-fn write_to<O: Write, E: Write>(
-    out: &mut O,
-    error: &mut E,
-    stream: Stream,
-    bytes: &[u8],
-) -> io::Result<()>
-    ensures to_output { stream ≡ Stream.Stdout → Writes result bytes.now (O.contents out.old) (O.contents out.new)
-        × Keeps (E.contents error.old) (E.contents error.new) }
-    ensures to_error { stream ≡ Stream.Stderr → Writes result bytes.now (E.contents error.old) (E.contents error.new)
-        × Keeps (O.contents out.old) (O.contents out.new) }
-{
-    match stream {
-        Stream::Stdout => write_all(out, bytes),
-        Stream::Stderr => write_all(error, bytes),
+impl<R, O: Write, E: Write> Streams<R, O, E> {
+    // Writes the bytes to that stream.
+    fn write_to(&mut self, stream: Stream, bytes: &[u8]) -> io::Result<()>
+        ensures to_output { stream ≡ Stream.Stdout → Writes result bytes.now (O.contents self.old.output) (O.contents self.new.output)
+            × Keeps (E.contents self.old.error) (E.contents self.new.error) }
+        ensures to_error { stream ≡ Stream.Stderr → Writes result bytes.now (E.contents self.old.error) (E.contents self.new.error)
+            × Keeps (O.contents self.old.output) (O.contents self.new.output) }
+        ensures input { self.new.input ≡ self.old.input }
+    {
+        match stream {
+            Stream::Stdout => write_all(&mut self.output, bytes),
+            Stream::Stderr => write_all(&mut self.error, bytes),
+        }
     }
-}
 
-// Writes what is to be written of the bytes; a write that failed is told on standard error.
-pub fn send<O: Write, E: Write>(
-    out: &mut O,
-    error: &mut E,
-    o: Output,
-    bytes: &[u8],
-) -> Result<(), Failed>
-    requires { o.length ≤ length bytes.now }
-    ensures to_output { o.stream ≡ Stream.Stdout → Writes result (take o.length bytes.now) (O.contents out.old) (O.contents out.new) }
-    ensures to_error { o.stream ≡ Stream.Stderr → OnOk result (Appends (E.contents error.old) (E.contents error.new) (take o.length bytes.now))
-        × Keeps (O.contents out.old) (O.contents out.new) }
-{
-    match write_to(out, error, o.stream, &bytes[..o.length]) {
-        Ok(()) => Ok(()),
-        Err(e) => {
-            input::tell(error, "write", e);
-            Err(Failed::Write)
+    // Writes what is to be written of the bytes; a write that failed is told on standard error.
+    pub fn send(&mut self, o: Output, bytes: &[u8]) -> Result<(), Failed>
+        requires { o.length ≤ length bytes.now }
+        ensures to_output { o.stream ≡ Stream.Stdout → Writes result (take o.length bytes.now) (O.contents self.old.output) (O.contents self.new.output) }
+        ensures to_error { o.stream ≡ Stream.Stderr → OnOk result (Appends (E.contents self.old.error) (E.contents self.new.error) (take o.length bytes.now))
+            × Keeps (O.contents self.old.output) (O.contents self.new.output) }
+        ensures input { self.new.input ≡ self.old.input }
+    {
+        match self.write_to(o.stream, &bytes[..o.length]) {
+            Ok(()) => Ok(()),
+            Err(e) => {
+                input::tell(&mut self.error, "write", e);
+                Err(Failed::Write)
+            }
         }
     }
 }

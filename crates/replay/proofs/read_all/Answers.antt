@@ -57,10 +57,11 @@ returns-then-is_err-p-clause-bytes g c =
     let kept = reading-kept _ _ _ _ _ _ _ _ _ _ _ c.loop-turn.invariant.reads more.ensures.held.stay more.auto.buf in
     let is : more.result ≡ Ok (Some c.in-Ok-Some.n) = c.in-Ok-Some.is ∙ ap Ok (rw c.in-Ok-Some.is at c.in-Ok-Some.field-0-is) in
     let holds = (subst (FillsMore _ _ _ _) is more.ensures.held).holds in
-    piece-ended _ _ _ _ _ _ _ _ p.result c.send-sent.result _ c.end_of_piece.ensures
+    rw c.send-sent.ensures.input
+    (piece-ended _ _ _ _ _ _ _ _ p.result c.send-sent.result _ c.end_of_piece.ensures
     (λ w. reading-more _ _ _ _ _ _ _ _ _ _ kept _ holds.0 _ _ _ _ _ p.ensures _ _ (subst (Comes _ _ _ _) is more.ensures.bytes)
     (sent _ p.result _ c.send-sent.result _ _ c.output_of.ensures c.send-sent.ensures.to_output w))
-    p.ensures.waits p.ensures.goes (rw (← c.is_err.ensures.value) c.if-is_err-p.true)
+    p.ensures.waits p.ensures.goes (rw (← c.is_err.ensures.value) c.if-is_err-p.true))
 
 pub returns-then-is_err-p-clause-reads : goal.returns-then-is_err-p-clause-reads
 returns-then-is_err-p-clause-reads g c = IfOk-weaker _ _ _ reads-of (returns-then-is_err-p-clause-bytes g c)
@@ -76,8 +77,8 @@ loop-turn-preserved g c =
     let s = or-both c.is_err.result p.result.stopped c.if-is_err-p.false in
     record {
       room = p.auto.buf ∙ more.auto.buf ∙ inv.room;
-      reads = reading-more _ _ _ _ _ _ _ _ _ _ kept _ holds.0 _ _ _ _ _ p.ensures _ _ (subst (Comes _ _ _ _) is more.ensures.bytes)
-          (sent _ p.result _ c.send-sent.result _ _ c.output_of.ensures c.send-sent.ensures.to_output (sym c.is_err.ensures.value ∙ s.0));
+      reads = rw c.send-sent.ensures.input (reading-more _ _ _ _ _ _ _ _ _ _ kept _ holds.0 _ _ _ _ _ p.ensures _ _ (subst (Comes _ _ _ _) is more.ensures.bytes)
+          (sent _ p.result _ c.send-sent.result _ _ c.output_of.ensures c.send-sent.ensures.to_output (sym c.is_err.ensures.value ∙ s.0)));
       waits = λ z. rw s.1 at (p.ensures.waits z);
       small = omega (arith, inv.small, p.ensures.room, p.auto.out, c.loop-turn.auto.out, c.requires.2);
     }
