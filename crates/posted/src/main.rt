@@ -3,13 +3,12 @@
 
 ghost use Rattle.std.specs.Prelude.{◌≡◌, true, length, IfSome, OnOk};
 ghost use Rattle.ledger.specs.Sound.{sound_ledger};
-ghost use Rattle.words.specs.Layout.{ledger_size, ledger_of};
+ghost use Rattle.words.specs.Layout.{ledger_of};
 ghost use Rattle.table.specs.Table.{table_room};
 ghost use Rattle.posted.specs.Posting.{to_print, TableWritten, Posts, PostsAll};
-ghost use Rattle.streams.specs.Ends.{piece_size};
 
 use entries::run;
-use replay::Wanted;
+use replay::{Buffers, Wanted};
 use std::io::{Read, Write};
 use streams::output::{Failed, Output, Stream, Streams};
 use streams::pieces::End;
@@ -41,26 +40,25 @@ fn table_of(ws: &[u64], out: &mut [u8], e: Result<End, Failed>) -> Output
 // Reads standard input; what is left to write is its posted table in `out`.
 fn post_input<R: Read, O: Write, E: Write>(
     streams: &mut Streams<R, O, E>,
-    ws: &mut [u64],
-    buf: &mut [u8],
-    out: &mut [u8],
+    buffers: &mut Buffers<{ table::TABLE_ROOM }>,
 ) -> Output
-    requires { (length ws.old ≡ ledger_size) × (length buf.old ≡ piece_size) × (length out.old ≡ table_room) }
-    ensures posts { Posts out.new result }
-    ensures all { IfSome (R.remaining streams.old.input) (λ input. PostsAll input out.new result) }
+    ensures posts { Posts buffers.new.out result }
+    ensures all { IfSome (R.remaining streams.old.input) (λ input. PostsAll input buffers.new.out result) }
 {
-    run::start(ws);
-    let e = replay::read_all(streams, ws, buf, out, Wanted::Nothing);
-    table_of(ws, out, e)
+    run::start(&mut buffers.ws);
+    let e = replay::read_all(streams, buffers, Wanted::Nothing);
+    table_of(&buffers.ws, &mut buffers.out, e)
 }
 
 // Reads standard input and writes its posted table to standard output.
 fn post<R: Read, O: Write, E: Write>(streams: &mut Streams<R, O, E>) {
-    let mut ws = [0u64; words::LEDGER_SIZE];
-    let mut buf = [0u8; streams::PIECE_SIZE];
-    let mut out = [0u8; table::TABLE_ROOM];
-    let o = post_input(streams, &mut ws, &mut buf, &mut out);
-    let _ = streams.send(o, &out);
+    let mut buffers = Buffers {
+        ws: [0u64; words::LEDGER_SIZE],
+        buf: [0u8; streams::PIECE_SIZE],
+        out: [0u8; table::TABLE_ROOM],
+    };
+    let o = post_input(streams, &mut buffers);
+    let _ = streams.send(o, &buffers.out);
 }
 
 fn main(rt: HostRuntime) {

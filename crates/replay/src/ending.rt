@@ -1,11 +1,9 @@
 // What a program that writes as it reads has left to say at the end: that a bad entry stopped the reading.
 ghost use Rattle.std.specs.Prelude.{◌≡◌, ◌≤◌, length};
-ghost use Rattle.words.specs.Layout.{ledger_size};
 ghost use Rattle.replay.specs.Ending.{StopLine, last_to, StopLineWritten, StopLineSize};
-ghost use Rattle.streams.specs.Ends.{piece_size};
 ghost use Rattle.table.specs.Table.{stop_size};
 
-use crate::Wanted;
+use crate::{Buffers, Wanted};
 use entries::run;
 use std::io::{Read, Write};
 use streams::output::{Failed, Output, Stream, Streams};
@@ -23,17 +21,14 @@ fn stop_line(out: &mut [u8], e: Result<End, Failed>) -> usize
 // Reads standard input and writes what is asked for of its entries; what is left to write is the line in `out`, of so many bytes.
 fn read_input<R: Read, O: Write, E: Write>(
     streams: &mut Streams<R, O, E>,
-    ws: &mut [u64],
-    buf: &mut [u8],
-    out: &mut [u8],
+    buffers: &mut Buffers<{ streams::PIECE_SIZE }>,
     wanted: Wanted,
 ) -> usize
-    requires { (length ws.old ≡ ledger_size) × (length buf.old ≡ piece_size) × (length out.old ≡ piece_size) }
-    ensures { StopLineWritten out.new result }
+    ensures { StopLineWritten buffers.new.out result }
 {
-    run::start(ws);
-    let e = crate::read_all(streams, ws, buf, out, wanted);
-    stop_line(out, e)
+    run::start(&mut buffers.ws);
+    let e = crate::read_all(streams, buffers, wanted);
+    stop_line(&mut buffers.out, e)
 }
 
 // Where that line goes.
@@ -50,15 +45,12 @@ fn last_to(wanted: Wanted) -> Stream
 // What is left to write once standard input is read, and where it goes.
 fn last_of_input<R: Read, O: Write, E: Write>(
     streams: &mut Streams<R, O, E>,
-    ws: &mut [u64],
-    buf: &mut [u8],
-    out: &mut [u8],
+    buffers: &mut Buffers<{ streams::PIECE_SIZE }>,
     wanted: Wanted,
 ) -> Output
-    requires { (length ws.old ≡ ledger_size) × (length buf.old ≡ piece_size) × (length out.old ≡ piece_size) }
-    ensures { (result.stream ≡ last_to wanted) × StopLineWritten out.new result.length }
+    ensures { (result.stream ≡ last_to wanted) × StopLineWritten buffers.new.out result.length }
 {
-    let length = read_input(streams, ws, buf, out, wanted);
+    let length = read_input(streams, buffers, wanted);
     Output {
         stream: last_to(wanted),
         length,
@@ -72,10 +64,12 @@ pub fn write_wanted<R: Read, O: Write, E: Write>(
 ) -> Output
     ensures { (result.stream ≡ last_to wanted) × StopLineSize result.length }
 {
-    let mut ws = [0u64; words::LEDGER_SIZE];
-    let mut buf = [0u8; streams::PIECE_SIZE];
-    let mut out = [0u8; streams::PIECE_SIZE];
-    let o = last_of_input(streams, &mut ws, &mut buf, &mut out, wanted);
-    let _ = streams.send(o, &out);
+    let mut buffers = Buffers {
+        ws: [0u64; words::LEDGER_SIZE],
+        buf: [0u8; streams::PIECE_SIZE],
+        out: [0u8; streams::PIECE_SIZE],
+    };
+    let o = last_of_input(streams, &mut buffers, wanted);
+    let _ = streams.send(o, &buffers.out);
     o
 }

@@ -30,6 +30,14 @@ pub enum Wanted {
     Lines,
 }
 
+// The memory that a program reads with: the ledger in words, the bytes that came, and those that are to be written.
+#[derive(Drop)]
+pub struct Buffers<const ROOM: usize> {
+    pub ws: [u64; words::LEDGER_SIZE],
+    pub buf: [u8; streams::PIECE_SIZE],
+    pub out: [u8; ROOM],
+}
+
 // Reads on where all entries that were read are made.
 fn more<R: Read>(
     reader: &mut R,
@@ -95,30 +103,35 @@ fn make(
 }
 
 // Reads standard input in pieces and makes its entries. A billion entries have fewer bytes than there are turns.
-pub fn read_all<R: Read, O: Write, E: Write>(
+pub fn read_all<R: Read, O: Write, E: Write, const ROOM: usize>(
     streams: &mut Streams<R, O, E>,
-    ws: &mut [u64],
-    buf: &mut [u8],
-    out: &mut [u8],
+    buffers: &mut Buffers<ROOM>,
     wanted: Wanted,
 ) -> Result<End, Failed>
-    requires { (ledger_of ws.old ≡ first_ledger) × (length buf.old ≡ piece_size) × (length out.old ≤ piece_size) }
-    ensures reads { IfOk result (λ e. Reads wanted ws.new buf.new e) }
+    requires { (ledger_of buffers.old.ws ≡ first_ledger) × (ROOM ≤ piece_size) }
+    ensures reads { IfOk result (λ e. Reads wanted buffers.new.ws buffers.new.buf e) }
     ensures bytes { IfOk result (λ e. ReadsFrom wanted (R.remaining streams.old.input) (R.remaining streams.new.input)
-        (O.contents streams.old.output) (O.contents streams.new.output) ws.new buf.new e) }
+        (O.contents streams.old.output) (O.contents streams.new.output) buffers.new.ws buffers.new.buf e) }
 {
     let mut seen = 0;
     let mut left = 0;
     let mut total = 0;
     let mut full = false;
     for _turn in 0..70000000000000u64 {
-        let came = more(&mut streams.input, buf, left, full);
+        let came = more(&mut streams.input, &mut buffers.buf, left, full);
         let Ok(Some(n)) = came else {
             return pieces::end_of_input(&mut streams.error, came, seen, left, total);
         };
-        let p = make(ws, buf, out, wanted, n, seen);
+        let p = make(
+            &mut buffers.ws,
+            &mut buffers.buf,
+            &mut buffers.out,
+            wanted,
+            n,
+            seen,
+        );
         total += p.written;
-        let sent = streams.send(pieces::output_of(p), out);
+        let sent = streams.send(pieces::output_of(p), &buffers.out);
         if sent.is_err() | p.stopped {
             return pieces::end_of_piece(p, total, sent);
         }

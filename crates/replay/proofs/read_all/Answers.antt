@@ -3,7 +3,6 @@ use Rattle.std.proofs.Common.{◌≡◌, ◌∙◌, ℕ, List, false, Ok, Some, 
 use Rattle.std.proofs.lemmas.Result.{IfOk-weaker}
 use Rattle.fields.proofs.BoolLaws.{or-both}
 use Rattle.input.specs.Filled.{Comes}
-use Rattle.streams.specs.declared.output.Output.{Output}
 use Rattle.streams.specs.declared.pieces.End.{End}
 use Rattle.replay.specs.declared.Wanted.{Wanted}
 use Rattle.replay.specs.Reading.{Reads, ReadsFrom}
@@ -17,14 +16,11 @@ reads-of e r = r.reads
 pub loop-turn-init : goal.loop-turn-init
 loop-turn-init g c =
     record {
-      room = c.requires.1;
+      room = omega arith;
       reads = reading-start _ _ _ _ _ c.requires.0;
-      waits = λ z. waits_start c.args.buf.now;
+      waits = λ z. waits_start c.args.buffers.now.buf;
       small = omega arith;
     }
-
-pub more-came-requires : goal.more-came-requires
-more-came-requires g c = c.loop-turn.invariant.reads.within
 
 pub returns-in_default-clause-bytes : goal.returns-in_default-clause-bytes
 returns-in_default-clause-bytes g c =
@@ -36,19 +32,6 @@ returns-in_default-clause-bytes g c =
 
 pub returns-in_default-clause-reads : goal.returns-in_default-clause-reads
 returns-in_default-clause-reads g c = IfOk-weaker _ _ _ reads-of (returns-in_default-clause-bytes g c)
-
-pub make-p-requires : goal.make-p-requires
-make-p-requires g c =
-    let is : c.more-came.result ≡ Ok (Some c.in-Ok-Some.n) = c.in-Ok-Some.is ∙ ap Ok (rw c.in-Ok-Some.is at c.in-Ok-Some.field-0-is) in
-    (c.loop-turn.invariant.reads.sound, (subst (FillsMore _ _ _ _) is c.more-came.ensures.held).holds.1)
-
-pub overflow_add-total : goal.overflow_add-total
-overflow_add-total g c =
-    omega (arith, c.loop-turn.invariant.small, c.make-p.ensures.room, c.make-p.auto.out, c.loop-turn.auto.out, c.requires.2, c.loop-turn-test.true)
-
-pub send-sent-requires : goal.send-sent-requires
-send-sent-requires g c =
-    omega (arith, ap (λ (o : Output). o.length) c.output_of.ensures, c.make-p.ensures.room)
 
 pub returns-then-is_err-p-clause-bytes : goal.returns-then-is_err-p-clause-bytes
 returns-then-is_err-p-clause-bytes g c =
@@ -80,5 +63,5 @@ loop-turn-preserved g c =
       reads = rw c.send-sent.ensures.input (reading-more _ _ _ _ _ _ _ _ _ _ kept _ holds.0 _ _ _ _ _ p.ensures _ _ (subst (Comes _ _ _ _) is more.ensures.bytes)
           (sent _ p.result _ c.send-sent.result _ _ c.output_of.ensures c.send-sent.ensures.to_output (sym c.is_err.ensures.value ∙ s.0)));
       waits = λ z. rw s.1 at (p.ensures.waits z);
-      small = omega (arith, inv.small, p.ensures.room, p.auto.out, c.loop-turn.auto.out, c.requires.2);
+      small = omega (arith, inv.small, p.ensures.room, p.auto.out, c.requires.1);
     }
