@@ -1,15 +1,10 @@
 -- What a read came to. Assumes nothing.
-use Rattle.std.proofs.Common.{◌≡◌, ℕ, zero, suc, false, List, [], ◌++◌, Option, None, Some, Result, Ok, Err, length, take, true≢false, refl, sym, ap, subst, ◌∙◌, arith, drop_at, length-append}
+use Rattle.std.proofs.Common.{◌≡◌, ℕ, zero, suc, List, [], ◌++◌, Option, None, Some, Result, Ok, Err, length, take, refl, sym, ap, subst, ◌∙◌, arith, drop_at, length-append}
 use Rattle.std.proofs.lemmas.List.{drop-take}
 use lib.Seq.{take-append-le}
 use Rattle.std.specs.Io.KnownBytes.{Keeps, Consumes, ReadConsumes}
 use Rattle.std.specs.declared.io.Error.{Error}
-use Rattle.input.specs.Filled.{Filled, filled_by, Moved, Comes, not_ended}
-
-pub ended : (f : Filled) → not_ended f ≡ false → f ≡ Ok None
-ended (Ok (Some n)) z = absurd (true≢false z)
-ended (Ok None) z = refl
-ended (Err e) z = absurd (true≢false z)
+use Rattle.input.specs.Filled.{Filled, filled_by, Moved, Comes}
 
 -- a reader that took no byte keeps its own
 none_taken : (a b : Option (List ℕ)) → Consumes a b [] → Keeps a b

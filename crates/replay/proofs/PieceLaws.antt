@@ -1,7 +1,7 @@
 -- One piece of a journal: a read, and what a run over the bytes leaves with the rest kept at the start. Assumes nothing.
 use Prim.Native.Nat.{ℕ, ◌+◌, ◌-◌, ◌≤◌}
-use mathlib.Core.Path.{◌≡◌, refl, sym, ap, ap₂, ◌∙◌}
-use mathlib.Core.Bool.{Bool, true, false}
+use mathlib.Core.Path.{◌≡◌, sym, ap, ap₂, ◌∙◌}
+use mathlib.Core.Bool.{Bool, false}
 use mathlib.Core.List.{List}
 use native.Mathlib.Omega.{arith}
 use lib.ListN.{length, take, drop}
@@ -13,10 +13,8 @@ use Rattle.std.specs.Io.KnownBytes.{Consumes}
 use Rattle.fields.specs.Put.{part, put}
 use Rattle.fields.proofs.PutLaws.{length_part, front-put}
 use Rattle.entries.specs.declared.run.Ran.{Ran}
-use Rattle.entries.specs.parts.Running.{ran_to, RanIn}
 use Rattle.input.specs.Filled.{Filled, HoldsRead, Fills}
 use Rattle.replay.specs.declared.Wanted.{Wanted}
-use Rattle.replay.specs.declared.Wanted.TheVariants.{Nothing, Notices}
 use Rattle.replay.specs.parts.Pieces.{HoldsMore, FillsMore, PieceRuns, PieceLeaves}
 
 -- ---- a read: no fewer bytes are held
@@ -48,25 +46,6 @@ module _ (xs : List ℕ) (m n : ℕ) (h : m ≤ n) (fits : n ≤ length xs) wher
   kept-front : (buf : List ℕ) (k : ℕ) → k ≡ n - m → buf ≡ put xs 0 (part xs m (n - m)) → take k buf ≡ drop m (take n xs)
   kept-front buf k e q =
       ap₂ (λ (i : ℕ) (l : List ℕ). take i l) e q ∙ front-put xs (part xs m (n - m)) (n - m) (sym (length_part xs m (n - m) (omega arith))) ∙ sym drop-take
-
--- ---- what is asked for
-module _ (seen : ℕ) (src ws₀ out₀ ws out : List ℕ) where
-  pub ran-nothing : (r : Ran) → RanIn seen false src ws₀ out₀ ws out r
-      → PieceRuns seen Nothing src ws₀ out₀ ws out (ran_to r.used r.seen 0 r.full r.stopped)
-  ran-nothing r x =
-      record {
-        done = x.done;
-        made = x.made;
-        kept = x.kept;
-        bytes = x.bytes;
-        written = refl;
-        within = omega arith;
-        rest = record { left = x.rest.left; goes = x.rest.goes };
-      }
-
-  pub ran-notices : (r : Ran) → RanIn seen true src ws₀ out₀ ws out r → PieceRuns seen Notices src ws₀ out₀ ws out r
-  ran-notices r x =
-      record { done = x.done; made = x.made; kept = x.kept; bytes = x.bytes; written = x.written; within = x.within refl; rest = x.rest }
 
 -- ---- the piece
 module _ (seen : ℕ) (t : Wanted) (n : ℕ) (ws₀ buf₀ out₀ ws out : List ℕ) (r : Ran) (fits : n ≤ length buf₀)

@@ -23,6 +23,7 @@ use streams::pieces::{End, Piece};
 pub mod ending;
 
 // What is written of the entries: nothing, their notices, or lines that say what became of each.
+// An enum, and no closure: the contracts name what is written by it (`written_of`, `last_to`), and one `match` takes the step.
 #[derive(Clone, Copy)]
 pub enum Wanted {
     Nothing,
@@ -72,7 +73,7 @@ fn run_wanted(ws: &mut [u64], out: &mut [u8], wanted: Wanted, src: &[u8], seen: 
     match wanted {
         Wanted::Nothing => {
             let r = run::run(ws, out, false, src, seen);
-            run::ran_to(r.used, r.seen, 0, r.full, r.stopped)
+            Ran { written: 0, ..r }
         }
         Wanted::Notices => run::run(ws, out, true, src, seen),
         Wanted::Lines => run_lines(ws, out, src, seen),

@@ -37,6 +37,7 @@ pub enum Failed {
 }
 
 // One write, tried again where it was interrupted, at most a million times; answers how many of the first bytes it took.
+// `input::read_input` tries likewise: one function over a closure would learn nothing of what a call moves, and need both loops' clauses again.
 fn write_some<W: Write>(writer: &mut W, bytes: &[u8]) -> io::Result<usize>
     ensures bound { WritesAtMost result bytes.now }
     ensures took { WriteAppends (W.contents writer.old) (W.contents writer.new) result bytes.now }
