@@ -1,6 +1,6 @@
 // What a program that writes as it reads has left to say at the end: that a bad entry stopped the reading.
-ghost use Rattle.std.specs.Prelude.{◌≡◌, ◌≤◌, length};
-ghost use Rattle.replay.specs.Ending.{StopLine, last_to, StopLineWritten, StopLineSize};
+ghost use Rattle.std.specs.Prelude.{◌≡◌, ◌≤◌, length, IfSome};
+ghost use Rattle.replay.specs.Ending.{StopLine, last_to, EndsAll, WritesWanted, StopLineWritten, StopLineSize};
 ghost use Rattle.table.specs.Table.{stop_size};
 
 use crate::{Buffers, Wanted};
@@ -24,7 +24,9 @@ fn read_input<R: Read, O: Write, E: Write>(
     buffers: &mut Buffers<{ streams::PIECE_SIZE }>,
     wanted: Wanted,
 ) -> usize
-    ensures { StopLineWritten buffers.new.out result }
+    ensures line { StopLineWritten buffers.new.out result }
+    ensures all { IfSome (R.remaining streams.old.input)
+        (λ input. EndsAll wanted input (O.contents streams.old.output) (O.contents streams.new.output) buffers.new.out result) }
 {
     run::start(&mut buffers.ws);
     let e = crate::read_all(streams, buffers, wanted);
@@ -48,7 +50,9 @@ fn last_of_input<R: Read, O: Write, E: Write>(
     buffers: &mut Buffers<{ streams::PIECE_SIZE }>,
     wanted: Wanted,
 ) -> Output
-    ensures { (result.stream ≡ last_to wanted) × StopLineWritten buffers.new.out result.length }
+    ensures line { (result.stream ≡ last_to wanted) × StopLineWritten buffers.new.out result.length }
+    ensures all { IfSome (R.remaining streams.old.input)
+        (λ input. EndsAll wanted input (O.contents streams.old.output) (O.contents streams.new.output) buffers.new.out result.length) }
 {
     let length = read_input(streams, buffers, wanted);
     Output {
@@ -62,7 +66,9 @@ pub fn write_wanted<R: Read, O: Write, E: Write>(
     streams: &mut Streams<R, O, E>,
     wanted: Wanted,
 ) -> Output
-    ensures { (result.stream ≡ last_to wanted) × StopLineSize result.length }
+    ensures line { (result.stream ≡ last_to wanted) × StopLineSize result.length }
+    ensures all { IfSome (R.remaining streams.old.input)
+        (λ input. WritesWanted wanted input (O.contents streams.old.output) (O.contents streams.new.output)) }
 {
     let mut buffers = Buffers {
         ws: [0u64; words::LEDGER_SIZE],

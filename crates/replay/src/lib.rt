@@ -2,15 +2,17 @@
 // caller asks for of them is written to standard output.
 #![tactic(auto)]
 
-ghost use Rattle.std.specs.Prelude.{◌≡◌, true, ◌≤◌, length, IfOk};
+ghost use Rattle.std.specs.Prelude.{◌≡◌, true, ◌≤◌, length, IfOk, IfSome};
 ghost use Rattle.ledger.specs.Sound.{sound_ledger};
 ghost use Rattle.words.specs.Layout.{ledger_of};
 ghost use Rattle.input.specs.Filled.{Comes};
 ghost use Rattle.journal.specs.EntryCalls.{first_ledger};
 ghost use Rattle.replay.specs.declared.Wanted.TheVariants.{Lines};
-ghost use Rattle.replay.specs.Reading.{Reads, ReadsFrom};
+ghost use Rattle.journal.specs.Journal.{parse, first_book};
+ghost use Rattle.replay.specs.Reading.{Reads, ReadsFrom, written_of};
 ghost use Rattle.replay.specs.parts.Pieces.{PieceRuns, FillsMore, PieceLeaves};
 ghost use Rattle.streams.specs.Ends.{piece_size};
+ghost use Rattle.streams.specs.Written.{Writes};
 
 use entries::run;
 use entries::run::Ran;
@@ -113,6 +115,8 @@ pub fn read_all<R: Read, O: Write, E: Write, const ROOM: usize>(
     ensures reads { IfOk result (λ e. Reads wanted buffers.new.ws buffers.new.buf e) }
     ensures bytes { IfOk result (λ e. ReadsFrom wanted (R.remaining streams.old.input) (R.remaining streams.new.input)
         (O.contents streams.old.output) (O.contents streams.new.output) buffers.new.ws buffers.new.buf e) }
+    ensures written { IfSome (R.remaining streams.old.input) (λ input. Writes result (written_of wanted 0 first_book (parse 0 input).entries)
+        (O.contents streams.old.output) (O.contents streams.new.output)) }
 {
     let mut seen = 0;
     let mut left = 0;

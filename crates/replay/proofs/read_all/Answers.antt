@@ -7,7 +7,7 @@ use Rattle.streams.specs.declared.pieces.End.{End}
 use Rattle.replay.specs.declared.Wanted.{Wanted}
 use Rattle.replay.specs.Reading.{Reads, ReadsFrom}
 use Rattle.replay.specs.parts.Pieces.{FillsMore}
-use Rattle.replay.proofs.ReadingLaws.{reading-start, waits_start, reading-kept, reading-more, input-ended, piece-ended, sent}
+use Rattle.replay.proofs.ReadingLaws.{reading-start, waits_start, reading-kept, reading-more, input-ended, piece-ended, sent, sent-piece, read-failed, send-failed, written-by}
 use Rattle.replay.proofs.read_all.Goals as goal
 
 reads-of : {t : Wanted} {had left held holds : Option (List ℕ)} {ws buf : List ℕ} (e : End) → ReadsFrom t had left held holds ws buf e → Reads t ws buf e
@@ -33,6 +33,10 @@ returns-in_default-clause-bytes g c =
 pub returns-in_default-clause-reads : goal.returns-in_default-clause-reads
 returns-in_default-clause-reads g c = IfOk-weaker _ _ _ reads-of (returns-in_default-clause-bytes g c)
 
+pub returns-in_default-clause-written : goal.returns-in_default-clause-written
+returns-in_default-clause-written g c =
+    written-by _ _ _ _ _ _ _ c.end_of_input.result (returns-in_default-clause-bytes g c) (λ f z. read-failed _ _ _ _ _ _ _ _ _ _ c.loop-turn.invariant.reads)
+
 pub returns-then-is_err-p-clause-bytes : goal.returns-then-is_err-p-clause-bytes
 returns-then-is_err-p-clause-bytes g c =
     let more = c.more-came in
@@ -48,6 +52,20 @@ returns-then-is_err-p-clause-bytes g c =
 
 pub returns-then-is_err-p-clause-reads : goal.returns-then-is_err-p-clause-reads
 returns-then-is_err-p-clause-reads g c = IfOk-weaker _ _ _ reads-of (returns-then-is_err-p-clause-bytes g c)
+
+pub returns-then-is_err-p-clause-written : goal.returns-then-is_err-p-clause-written
+returns-then-is_err-p-clause-written g c =
+    let more = c.more-came in
+    let p = c.make-p in
+    let kept = reading-kept _ _ _ _ _ _ _ _ _ _ _ c.loop-turn.invariant.reads more.ensures.held.stay more.auto.buf in
+    let is : more.result ≡ Ok (Some c.in-Ok-Some.n) = c.in-Ok-Some.is ∙ ap Ok (rw c.in-Ok-Some.is at c.in-Ok-Some.field-0-is) in
+    let holds = (subst (FillsMore _ _ _ _) is more.ensures.held).holds in
+    written-by _ _ _ _ _ _ _ c.end_of_piece.result (returns-then-is_err-p-clause-bytes g c)
+    (send-failed _ _ _ _ _ _ _ _ _ _ kept _ holds.0 _ _ _ _ p.result p.ensures _ _ (subst (Comes _ _ _ _) is more.ensures.bytes) c.send-sent.result _ _
+    c.end_of_piece.ensures (sent-piece _ p.result _ c.send-sent.result _ _ c.output_of.ensures c.send-sent.ensures.to_output))
+
+pub returns-clause-written : goal.returns-clause-written
+returns-clause-written g c = read-failed _ _ _ _ _ _ _ _ _ _ c.loop-turn.invariant.reads
 
 pub loop-turn-preserved : goal.loop-turn-preserved
 loop-turn-preserved g c =
