@@ -2,6 +2,7 @@
 #![tactic(auto)]
 
 use replay::{Wanted, ending};
+use streams::output::Streams;
 use streams::{arguments, output};
 
 fn main(rt: HostRuntime) {
@@ -14,10 +15,10 @@ fn main(rt: HostRuntime) {
         );
         return;
     }
-    ending::write_wanted(
-        &mut rt.stdin(),
-        &mut rt.stdout(),
-        &mut rt.stderr(),
-        Wanted::Notices,
-    );
+    let mut streams = Streams {
+        input: rt.stdin(),
+        output: rt.stdout(),
+        error: rt.stderr(),
+    };
+    ending::write_wanted(&mut streams, Wanted::Notices);
 }

@@ -1,54 +1,40 @@
 -- What was read, and the line that is printed for it. Assumes nothing.
-use Prim.Native.Nat.{ℕ, ◌≤◌, ◌<◌}
+use Prim.Native.Nat.{ℕ, ◌≤◌}
 use mathlib.Core.Path.{◌≡◌, refl, sym, ap, ◌∙◌}
-use mathlib.Core.Bool.{Bool, true, false, cond, ◌&&◌}
-use mathlib.Core.List.{List, [], ◌∷◌, ◌++◌}
-use mathlib.Core.Logic.{⊎_elim}
+use mathlib.Core.Bool.{Bool, true, false, cond}
+use mathlib.Core.List.{List, [], ◌++◌}
 use native.Mathlib.Omega.{arith}
-use lib.Dec.{ltb}
 use lib.ListN.{length, take}
 use lib.Seq.{length-take-le}
-use types.Run.{OneOf}
-use denote.Enum.Declared.{tag_of}
-use borrow.Author.Tests.{lt-ltb, le-ltb}
 use Rattle.fields.specs.Put.{put}
 use Rattle.fields.proofs.PutLaws.{put-nil, front-put, put-longer}
-use Rattle.input.specs.contracts.Filled as declared
-use Rattle.input.specs.declared.Filled as filled
-use Rattle.input.specs.declared.Filled.TheVariants.{Bytes, Ended, Failed}
-use Rattle.input.specs.Filled.{not_ended}
+use Rattle.std.specs.declared.io.Error.{Error}
+use Rattle.input.specs.Filled.{Filled}
 use Rattle.std.specs.Io.KnownBytes.{Consumes}
-use Rattle.std.proofs.Common.{IfSome, Option, Some, None, drop, subst, append-nil, take-append-drop, true≢false}
+use Rattle.std.proofs.Common.{IfSome, Option, Some, None, Result, Ok, Err, drop, subst, append-nil, take-append-drop, true≢false}
 use Rattle.std.proofs.KnownBytes.{Consumes-trans}
 use Rattle.std.proofs.lemmas.List.{take-take}
 use Rattle.holidays.specs.DayLine.{day_line, day_of}
 use Rattle.holidays.proofs.InputLaws.{unread-rest}
-use Rattle.streams.specs.Written.{Sends}
+use Rattle.streams.specs.declared.output.Failed.{Failed}
+use Rattle.streams.specs.Written.{Writes}
 use Rattle.business_day.specs.declared.Input.{Input}
 use Rattle.business_day.specs.Answering.{input_room, StopsAt, is_failed, RestUnread, Took, Answers, AnswersAll, WritesAll}
 
 -- ---- where the reading stops
--- a read that brought no bytes is the last one
-pub no_bytes : (f : filled.Filled) (room have : ℕ) → OneOf (1 ∷ 2 ∷ []) (tag_of declared.the_type f) → have < room → StopsAt room have f
-no_bytes (Bytes n) room have t h = absurd (⊎_elim (λ e. omega arith) (λ e. omega arith) t)
-no_bytes Ended room have t h = h
-no_bytes (Failed e) room have t h = h
+pub stops-within : (f : Filled) (room n : ℕ) → StopsAt room n f → n ≤ room
+stops-within (Ok (Some k)) room n h = omega arith
+stops-within (Ok None) room n h = omega arith
+stops-within (Err e) room n h = omega arith
 
-pub stops-within : (f : filled.Filled) (room n : ℕ) → StopsAt room n f → n ≤ room
-stops-within (Bytes k) room n h = omega arith
-stops-within Ended room n h = omega arith
-stops-within (Failed e) room n h = omega arith
+not_failed : (f : Filled) (x : Option ℕ) → f ≡ Ok x → is_failed f ≡ false
+not_failed f None e = ap is_failed e
+not_failed f (Some n) e = ap is_failed e
 
--- a read failed where the input was not read to its end and the buffer is not full
-pub failed-by : (f : filled.Filled) (u : Bool) (room n : ℕ) → u ≡ not_ended f → StopsAt room n f → (u && ltb n room) ≡ is_failed f
-failed-by (Bytes k) u room n e h = rw (e, le-ltb n room (omega arith))
-failed-by Ended u room n e h = rw e
-failed-by (Failed x) u room n e h = rw (e, lt-ltb n room h)
-
-rest-unread : (date number s : List ℕ) (f : filled.Filled) → StopsAt input_room (length s) f → RestUnread date number s f
-rest-unread date number s (Bytes k) h = λ more. unread-rest date number s more (omega arith)
-rest-unread date number s Ended h = tt
-rest-unread date number s (Failed e) h = tt
+rest-unread : (date number s : List ℕ) (f : Filled) → StopsAt input_room (length s) f → RestUnread date number s f
+rest-unread date number s (Ok (Some k)) h = λ more. unread-rest date number s more (omega arith)
+rest-unread date number s (Ok None) h = tt
+rest-unread date number s (Err e) h = tt
 
 -- ---- the bytes that came
 -- so many were held, and a read brought those behind them
@@ -60,14 +46,14 @@ came_more a b c before after have n h same first second =
     subst (Consumes a c) (sym e) (Consumes-trans a b c _ _ first second)
 
 -- where the reader's bytes are known and no read failed, the line for those that came is that for all of them
-all_or_first : (date number s : List ℕ) (input : List ℕ) (rest : Option (List ℕ)) (f : filled.Filled) → is_failed f ≡ false → RestUnread date number s f
+all_or_first : (date number s : List ℕ) (input : List ℕ) (rest : Option (List ℕ)) (f : Filled) → is_failed f ≡ false → RestUnread date number s f
     → Took s (Some input) rest f → day_of date number input ≡ day_of date number s
-all_or_first date number s input None (Bytes k) e u t = absurd t
-all_or_first date number s input (Some ys) (Bytes k) e u t = ap (day_of date number) t ∙ u ys
-all_or_first date number s input None Ended e u t = absurd t.0
-all_or_first date number s input (Some ys) Ended e u t =
+all_or_first date number s input None (Ok (Some k)) e u t = absurd t
+all_or_first date number s input (Some ys) (Ok (Some k)) e u t = ap (day_of date number) t ∙ u ys
+all_or_first date number s input None (Ok None) e u t = absurd t.0
+all_or_first date number s input (Some ys) (Ok None) e u t =
     ap (day_of date number) (t.0 ∙ ap (λ l. s ++ l) t.1 ∙ append-nil s)
-all_or_first date number s input rest (Failed x) e u t = absurd (true≢false e)
+all_or_first date number s input rest (Err x) e u t = absurd (true≢false e)
 
 -- ---- the line
 module _ (date number buf : List ℕ) (r : Input) (room : length buf ≡ input_room) (h : StopsAt (length buf) r.length r.last) where
@@ -89,29 +75,28 @@ module _ (date number buf : List ℕ) (r : Input) (room : length buf ≡ input_r
       }
 
   -- a read failed, or none did
-  pub answers-none : (u : Bool) (out : List ℕ) → u ≡ not_ended r.last → (u && ltb r.length (length buf)) ≡ true → Answers date number buf out 0
-  answers-none u out e t = answers_by out out [] 0 true (sym t ∙ failed-by r.last u (length buf) r.length e h) refl refl (put-nil out 0)
+  pub answers-none : (e : Error) (out : List ℕ) → r.last ≡ Err e → Answers date number buf out 0
+  answers-none e out q = answers_by out out [] 0 true (sym (ap is_failed q)) refl refl (put-nil out 0)
 
-  pub answers : (u : Bool) (out₀ out : List ℕ) (n : ℕ) → u ≡ not_ended r.last → (u && ltb r.length (length buf)) ≡ false
+  pub answers : (x : Option ℕ) (out₀ out : List ℕ) (n : ℕ) → r.last ≡ Ok x
       → n ≡ length (day_line (day_of date number (take r.length buf))) → out ≡ put out₀ 0 (day_line (day_of date number (take r.length buf)))
       → Answers date number buf out n
-  answers u out₀ out n e t s q = answers_by out₀ out _ n false (sym t ∙ failed-by r.last u (length buf) r.length e h) refl s q
+  answers x out₀ out n good s q = answers_by out₀ out _ n false (sym (not_failed r.last x good)) refl s q
 
   -- of all bytes that the reader had
-  pub answers-all : (u : Bool) (out₀ out : List ℕ) (n : ℕ) → u ≡ not_ended r.last → (u && ltb r.length (length buf)) ≡ false
+  pub answers-all : (x : Option ℕ) (out₀ out : List ℕ) (n : ℕ) → r.last ≡ Ok x
       → n ≡ length (day_line (day_of date number (take r.length buf))) → out ≡ put out₀ 0 (day_line (day_of date number (take r.length buf)))
       → (known rest : Option (List ℕ)) → Took (take r.length buf) known rest r.last → IfSome known (λ input. AnswersAll date number input out n)
-  answers-all u out₀ out n e t s q None rest took = tt
-  answers-all u out₀ out n e t s q (Some input) rest took =
+  answers-all x out₀ out n good s q None rest took = tt
+  answers-all x out₀ out n good s q (Some input) rest took =
       let bytes = take r.length buf in
       let size : length bytes ≡ r.length = length-take-le r.length buf (stops-within r.last (length buf) r.length h) in
       let stops : StopsAt input_room (length bytes) r.last = rw (size, ← room) h in
-      let good = sym (failed-by r.last u (length buf) r.length e h) ∙ t in
-      let same = all_or_first date number bytes input rest r.last good (rest-unread date number bytes r.last stops) took in
+      let same = all_or_first date number bytes input rest r.last (not_failed r.last x good) (rest-unread date number bytes r.last stops) took in
       record { failed = false; line = ap (take n) q ∙ front-put out₀ (day_line (day_of date number bytes)) n s ∙ ap day_line (sym same) }
 
 -- what is written of that
-pub writes_all : (date number out : List ℕ) (n : ℕ) (known before after : Option (List ℕ)) (sent : Bool) → IfSome known (λ input. AnswersAll date number input out n)
-    → Sends sent (take n out) before after → IfSome known (λ input. WritesAll date number input before after sent)
+pub writes_all : (date number out : List ℕ) (n : ℕ) (known before after : Option (List ℕ)) (sent : Result (Unit {0}) Failed) → IfSome known (λ input. AnswersAll date number input out n)
+    → Writes sent (take n out) before after → IfSome known (λ input. WritesAll date number input before after sent)
 writes_all date number out n None before after sent h s = tt
-writes_all date number out n (Some input) before after sent h s = (h.failed, subst (λ l. Sends sent l before after) h.line s)
+writes_all date number out n (Some input) before after sent h s = (h.failed, subst (λ l. Writes sent l before after) h.line s)

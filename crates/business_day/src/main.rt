@@ -1,23 +1,23 @@
 // Prints the date that is a number of business days after another. The holidays are read on standard input, one date a line.
 #![tactic(auto)]
 
-ghost use Rattle.std.specs.Prelude.{◌≡◌, ◌≤◌, pos, length, take, IfSome};
+ghost use Rattle.std.specs.Prelude.{◌≡◌, ◌≤◌, length, take, IfSome};
 ghost use Rattle.holidays.specs.DayLine.{day_room};
 ghost use Rattle.business_day.specs.Answering.{input_room, StopsAt, Took, Answers, AnswersAll, WritesAll};
 
-use input::Filled;
+use std::io;
 use std::io::{Read, Write};
-use streams::output::{Output, STDOUT_FILENO};
+use streams::output::{Failed, Output, Stream, Streams};
 use streams::{arguments, output};
 
 // One byte more than the longest input that is not refused.
 const INPUT_ROOM: usize = 577;
 
-// So many bytes stand at the start of the buffer, and the last read came to this.
+// So many bytes stand at the start of the buffer, and the last read came to this: bytes came before a read that failed, too.
 #[derive(Clone, Copy)]
 struct Input {
     length: usize,
-    last: Filled,
+    last: io::Result<Option<usize>>,
 }
 
 // Reads standard input until it ends, a read fails or the buffer is full.
@@ -27,25 +27,20 @@ fn read_input<R: Read>(reader: &mut R, buf: &mut [u8]) -> Input
 {
     let mut have = 0;
     while have < buf.len() {
-        let f = input::fill(reader, buf, have);
-        let Filled::Bytes(n) = f else {
-            return Input {
-                length: have,
-                last: f,
-            };
-        };
-        have = n;
+        match input::fill(reader, buf, have) {
+            Ok(Some(n)) => have = n,
+            last => return Input { length: have, last },
+        }
     }
     Input {
         length: have,
-        last: Filled::Bytes(have),
+        last: Ok(Some(have)),
     }
 }
 
 // Reads standard input and puts the line for it into `out`. Answers its length, 0 where a read failed, which is told on standard error.
-fn line_of_input<R: Read, E: Write>(
-    reader: &mut R,
-    error: &mut E,
+fn line_of_input<R: Read, O, E: Write>(
+    streams: &mut Streams<R, O, E>,
     out: &mut [u8],
     buf: &mut [u8],
     date: &[u8],
@@ -53,54 +48,50 @@ fn line_of_input<R: Read, E: Write>(
 ) -> usize
     requires { (length buf.old ≡ input_room) × (day_room ≤ length out.old) }
     ensures answer { Answers date.now number.now buf.new out.new result }
-    ensures all { IfSome (R.remaining reader.old) (λ input. AnswersAll date.now number.now input out.new result) }
+    ensures all { IfSome (R.remaining streams.old.input) (λ input. AnswersAll date.now number.now input out.new result) }
+    ensures output { streams.new.output ≡ streams.old.output }
 {
-    let r = read_input(reader, buf);
-    let last = r.last;
-    let n = r.length;
-    let unread = input::unread(error, last);
-    let is_failed = unread & (n < buf.len());
-    if is_failed {
+    let Input { length, last } = read_input(&mut streams.input, buf);
+    if let Err(e) = last {
+        input::tell(&mut streams.error, "read", e);
         return 0;
     }
-    holidays::print_day(out, date, number, &buf[..n])
+    holidays::print_day(out, date, number, &buf[..length])
 }
 
 // Reads standard input; what is left to write, to standard output, is the line in `out`.
-fn answer_input<R: Read, E: Write>(
-    reader: &mut R,
-    error: &mut E,
+fn answer_input<R: Read, O, E: Write>(
+    streams: &mut Streams<R, O, E>,
     out: &mut [u8],
     buf: &mut [u8],
     date: &[u8],
     number: &[u8],
 ) -> Output
     requires { (length buf.old ≡ input_room) × (day_room ≤ length out.old) }
-    ensures answer { (result.descriptor ≡ pos 1) × Answers date.now number.now buf.new out.new result.length }
-    ensures all { IfSome (R.remaining reader.old) (λ input. AnswersAll date.now number.now input out.new result.length) }
+    ensures answer { (result.stream ≡ Stream.Stdout) × Answers date.now number.now buf.new out.new result.length }
+    ensures all { IfSome (R.remaining streams.old.input) (λ input. AnswersAll date.now number.now input out.new result.length) }
+    ensures output { streams.new.output ≡ streams.old.output }
 {
-    let length = line_of_input(reader, error, out, buf, date, number);
+    let length = line_of_input(streams, out, buf, date, number);
     Output {
-        descriptor: STDOUT_FILENO,
+        stream: Stream::Stdout,
         length,
     }
 }
 
 // Writes the answer to standard output; whether it could be written. What failed is told on standard error.
 fn answer<R: Read, O: Write, E: Write>(
-    reader: &mut R,
-    output: &mut O,
-    error: &mut E,
+    streams: &mut Streams<R, O, E>,
     date: &[u8],
     number: &[u8],
-) -> bool
-    ensures { IfSome (R.remaining reader.old)
-        (λ input. WritesAll date.now number.now input (O.contents output.old) (O.contents output.new) result) }
+) -> Result<(), Failed>
+    ensures { IfSome (R.remaining streams.old.input)
+        (λ input. WritesAll date.now number.now input (O.contents streams.old.output) (O.contents streams.new.output) result) }
 {
     let mut buf = [0u8; INPUT_ROOM];
     let mut out = [0u8; holidays::DAY_ROOM];
-    let o = answer_input(reader, error, &mut out, &mut buf, date, number);
-    output::send(output, error, o, &out)
+    let o = answer_input(streams, &mut out, &mut buf, date, number);
+    streams.send(o, &out)
 }
 
 fn main(rt: HostRuntime) {
@@ -117,11 +108,10 @@ fn main(rt: HostRuntime) {
     let mut number = [0u8; 1];
     let date_length = arguments::argument(&rt, 1, &mut date);
     let number_length = arguments::argument(&rt, 2, &mut number);
-    answer(
-        &mut rt.stdin(),
-        &mut rt.stdout(),
-        &mut rt.stderr(),
-        &date[..date_length],
-        &number[..number_length],
-    );
+    let mut streams = Streams {
+        input: rt.stdin(),
+        output: rt.stdout(),
+        error: rt.stderr(),
+    };
+    let _ = answer(&mut streams, &date[..date_length], &number[..number_length]);
 }

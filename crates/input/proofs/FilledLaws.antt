@@ -1,17 +1,10 @@
 -- What a read came to. Assumes nothing.
-use Rattle.std.proofs.Common.{◌≡◌, ℕ, zero, suc, false, List, [], ◌++◌, Option, None, Some, Result, Ok, Err, length, take, true≢false, refl, sym, ap, subst, ◌∙◌, arith, drop_at, length-append}
+use Rattle.std.proofs.Common.{◌≡◌, ℕ, zero, suc, List, [], ◌++◌, Option, None, Some, Result, Ok, Err, length, take, refl, sym, ap, subst, ◌∙◌, arith, drop_at, length-append}
 use Rattle.std.proofs.lemmas.List.{drop-take}
 use lib.Seq.{take-append-le}
 use Rattle.std.specs.Io.KnownBytes.{Keeps, Consumes, ReadConsumes}
 use Rattle.std.specs.declared.io.Error.{Error}
-use Rattle.input.specs.declared.Filled as filled
-use Rattle.input.specs.declared.Filled.TheVariants.{Bytes, Ended, Failed}
-use Rattle.input.specs.Filled.{filled_by, Moved, Comes, not_ended}
-
-pub ended : (f : filled.Filled) → not_ended f ≡ false → f ≡ Ended
-ended (Bytes n) z = absurd (true≢false z)
-ended Ended z = refl
-ended (Failed e) z = absurd (true≢false z)
+use Rattle.input.specs.Filled.{Filled, filled_by, Moved, Comes}
 
 -- a reader that took no byte keeps its own
 none_taken : (a b : Option (List ℕ)) → Consumes a b [] → Keeps a b
@@ -30,6 +23,6 @@ module _ (have : ℕ) (front part rest : List ℕ) (a b : Option (List ℕ)) (lo
       let e = drop-take have (suc k) all ∙ ap (take (suc k)) (drop_at front (part ++ rest) have long) ∙ take-append-le (suc k) part rest m in
       subst (Consumes a b) (sym e) q.0
 
-  pub comes : (got : Result ℕ Error) (r : filled.Filled) → Moved (length part) got → ReadConsumes a b got part → r ≡ filled_by got have
+  pub comes : (got : Result ℕ Error) (r : Filled) → Moved (length part) got → ReadConsumes a b got part → r ≡ filled_by got have
       → Comes have (front ++ (part ++ rest)) a b r
   comes got r m q e = subst (Comes have (front ++ (part ++ rest)) a b) (sym e) (by_answer got m q)

@@ -1,7 +1,7 @@
 -- The table at the end of the reading is that of the bytes that came. Assumes nothing.
 use Prim.Native.Nat.{ℕ}
 use mathlib.Core.Path.{◌≡◌, refl, sym, ap, ap₂, ◌∙◌}
-use mathlib.Core.Bool.{Bool, true, false, cond}
+use mathlib.Core.Bool.{Bool, true, false}
 use mathlib.Core.List.{List, []}
 use native.Mathlib.Omega.{arith}
 use lib.ListN.{length, take}
@@ -14,35 +14,35 @@ use Rattle.journal.specs.Journal.{parse, after_entries, first_book, journal_ledg
 use Rattle.report.specs.Report.{posted_of}
 use Rattle.report.proofs.ReportLaws.{claimed}
 use Rattle.streams.specs.declared.pieces.End.{End}
+use Rattle.streams.specs.declared.output.Failed.{Failed}
 use Rattle.streams.specs.declared.output.Output.{Output}
 use Rattle.replay.specs.declared.Wanted.TheVariants.{Nothing}
 use Rattle.replay.specs.Reading.{Reads, ReadsFrom}
 use Rattle.replay.proofs.WholeLaws.{all-read}
-use Rattle.std.proofs.Common.{IfSome, Option, Some, None}
+use Rattle.std.proofs.Common.{IfSome, IfOk, Option, Some, None, Result, Ok, Err}
 use Rattle.posted.specs.Posting.{to_print, table_by, TableWritten, Posts, PostsAll}
 
 -- ---- what is written
-module _ (e : End) (ws before : List ℕ) where
+module _ (e : Result End Failed) (ws before : List ℕ) where
   by-table : (t after : List ℕ) (n : ℕ) (o : Output) → t ≡ table_by e ws → n ≡ length t → after ≡ put before 0 t → o ≡ to_print n
       → TableWritten e ws before after o
   by-table t after n o p s q w =
       record {
-        descriptor = ap (λ (k : Output). k.descriptor) w;
+        stream = ap (λ (k : Output). k.stream) w;
         bytes = q ∙ ap (put before 0) p;
         size = ap (λ (k : Output). k.length) w ∙ s ∙ ap length p;
         within = omega (arith, ap (λ (k : Output). k.length) w, s, ap length q, put-longer before t);
       }
 
-  pub tables-none : (o : Output) → e.failed ≡ true → o ≡ to_print 0 → TableWritten e ws before before o
-  tables-none o f w =
-      by-table [] before 0 o (sym (ap (λ (b : Bool). cond b [] (table_of (book (ledger_of ws)) (ends_bad e.stopped e.left e.seen))) f)) refl (put-nil before 0) w
+  pub tables-none : (f : Failed) (o : Output) → e ≡ Err f → o ≡ to_print 0 → TableWritten e ws before before o
+  tables-none f o q w = by-table [] before 0 o (sym (ap (λ (r : Result End Failed). table_by r ws) q)) refl (put-nil before 0) w
 
-  pub tables : (bad : Bool) (after : List ℕ) (n : ℕ) (o : Output) → e.failed ≡ false → bad ≡ ends_bad e.stopped e.left e.seen
+  pub tables : (k : End) (bad : Bool) (after : List ℕ) (n : ℕ) (o : Output) → e ≡ Ok k → bad ≡ ends_bad k.stopped k.left k.seen
       → n ≡ length (table_of (book (ledger_of ws)) bad) → after ≡ put before 0 (table_of (book (ledger_of ws)) bad) → o ≡ to_print n
       → TableWritten e ws before after o
-  tables bad after n o f b s q w =
+  tables k bad after n o r b s q w =
       let t : Bool → List ℕ = λ k. table_of (book (ledger_of ws)) k in
-      by-table (t bad) after n o (ap t b ∙ sym (ap (λ (k : Bool). cond k [] (t (ends_bad e.stopped e.left e.seen))) f)) s q w
+      by-table (t bad) after n o (ap t b ∙ sym (ap (λ (r : Result End Failed). table_by r ws) r)) s q w
 
 -- ---- whose table it is
 posted-is : (ws buf : List ℕ) (e : End) (r : Reads Nothing ws buf e)
@@ -50,52 +50,45 @@ posted-is : (ws buf : List ℕ) (e : End) (r : Reads Nothing ws buf e)
 unfolding posted_of
 posted-is ws buf e r = ap₂ table_of r.books r.bad
 
-module _ (ws buf out₀ out : List ℕ) (e : End) (o : Output) (x : e.failed ≡ false → Reads Nothing ws buf e) (w : TableWritten e ws out₀ out o) where
-  by_bytes : (f : Bool) (s : List ℕ) → table_by e ws ≡ cond f [] (posted_of s) → Posts out o
-  by_bytes f s t =
-      record {
-        failed = f;
-        bytes = s;
-        descriptor = w.descriptor;
-        table = ap (take o.length) w.bytes ∙ front-put out₀ (table_by e ws) o.length w.size ∙ t;
-        size = w.size ∙ ap length t;
-        within = w.within;
-        claimed = claimed s;
-      }
-
-  by : (f : Bool) → e.failed ≡ f → Posts out o
-  by true q = by_bytes true [] (ap (λ (b : Bool). cond b [] (table_of (book (ledger_of ws)) (ends_bad e.stopped e.left e.seen))) q)
-  by false q =
-      by_bytes false (x q).bytes
-      (ap (λ (b : Bool). cond b [] (table_of (book (ledger_of ws)) (ends_bad e.stopped e.left e.seen))) q ∙ posted-is ws buf e (x q))
-
-  pub posts : Posts out o
-  posts = by e.failed refl
-
 -- where the reader's bytes are known, it is the table of all of them
 posted-all : (input bytes : List ℕ) → ((parse 0 input).entries ≡ (parse 0 bytes).entries) × (is_bad input ≡ is_bad bytes) → posted_of bytes ≡ posted_of input
 unfolding posted_of journal_ledger
 posted-all input bytes e = sym (ap₂ table_of (ap (after_entries first_book) e.0) e.1)
 
-module _ (input : List ℕ) (left held holds : Option (List ℕ)) (ws buf out₀ out : List ℕ) (e : End) (o : Output)
-    (x : e.failed ≡ false → ReadsFrom Nothing (Some input) left held holds ws buf e) (w : TableWritten e ws out₀ out o) where
-  all-by : (f : Bool) → table_by e ws ≡ cond f [] (posted_of input) → PostsAll input out o
-  all-by f t = record { failed = f; table = ap (take o.length) w.bytes ∙ front-put out₀ (table_by e ws) o.length w.size ∙ t; claimed = claimed input }
+module _ (ws buf out₀ out : List ℕ) (o : Output) where
+  printed : (e : Result End Failed) → TableWritten e ws out₀ out o → take o.length out ≡ table_by e ws
+  printed e w = ap (take o.length) w.bytes ∙ front-put out₀ (table_by e ws) o.length w.size
 
-  table-is : (f : Bool) → e.failed ≡ f → table_by e ws ≡ cond f [] (table_of (book (ledger_of ws)) (ends_bad e.stopped e.left e.seen))
-  table-is f q = ap (λ (b : Bool). cond b [] (table_of (book (ledger_of ws)) (ends_bad e.stopped e.left e.seen))) q
+  pub posts : (e : Result End Failed) → IfOk e (λ k. Reads Nothing ws buf k) → TableWritten e ws out₀ out o → Posts out o
+  posts (Err f) x w =
+      record {
+        failed = true;
+        bytes = [];
+        stream = w.stream;
+        table = printed (Err f) w;
+        size = w.size;
+        within = w.within;
+        claimed = claimed [];
+      }
+  posts (Ok k) x w =
+      record {
+        failed = false;
+        bytes = x.bytes;
+        stream = w.stream;
+        table = printed (Ok k) w ∙ posted-is ws buf k x;
+        size = w.size ∙ ap length (posted-is ws buf k x);
+        within = w.within;
+        claimed = claimed x.bytes;
+      }
 
-  all-of : (f : Bool) → e.failed ≡ f → PostsAll input out o
-  all-of true q = all-by true (table-is true q)
-  all-of false q =
-      let r = x q in
-      let same = all-read input r.reads.bytes left r.came (λ z. r.ended (r.reads.stopped ∙ z)) in
-      all-by false (table-is false q ∙ posted-is ws buf e r.reads ∙ posted-all input r.reads.bytes same)
-
-  all-input : PostsAll input out o
-  all-input = all-of e.failed refl
-
-pub posts-all : (known left held holds : Option (List ℕ)) (ws buf out₀ out : List ℕ) (e : End) (o : Output)
-    → (e.failed ≡ false → ReadsFrom Nothing known left held holds ws buf e) → TableWritten e ws out₀ out o → IfSome known (λ input. PostsAll input out o)
-posts-all None left held holds ws buf out₀ out e o x w = tt
-posts-all (Some input) left held holds ws buf out₀ out e o x w = all-input input left held holds ws buf out₀ out e o x w
+  pub posts-all : (known left held holds : Option (List ℕ)) (e : Result End Failed) → IfOk e (λ k. ReadsFrom Nothing known left held holds ws buf k)
+      → TableWritten e ws out₀ out o → IfSome known (λ input. PostsAll input out o)
+  posts-all None left held holds e x w = tt
+  posts-all (Some input) left held holds (Err f) x w = record { failed = true; table = printed (Err f) w; claimed = claimed input }
+  posts-all (Some input) left held holds (Ok k) x w =
+      let same = all-read input x.reads.bytes left x.came (λ z. x.ended (x.reads.stopped ∙ z)) in
+      record {
+        failed = false;
+        table = printed (Ok k) w ∙ posted-is ws buf k x.reads ∙ posted-all input x.reads.bytes same;
+        claimed = claimed input;
+      }

@@ -1,6 +1,6 @@
 -- What program `posted` writes at the end of its input. The claim is of the bytes that came; where it is known which bytes a reader has, it is of those.
 -- Assumes nothing.
-use Rattle.std.specs.Prelude.{ℕ, ◌≤◌, ◌≡◌, Bool, cond, List, [], pos, length, take}
+use Rattle.std.specs.Prelude.{ℕ, ◌≤◌, ◌≡◌, Bool, cond, List, [], Result, Ok, Err, length, take}
 use Rattle.fields.specs.Put.{put}
 use Rattle.ledger.specs.Books.{book}
 use Rattle.words.specs.Layout.{ledger_of}
@@ -8,19 +8,22 @@ use Rattle.table.specs.Table.{table_of}
 use Rattle.journal.specs.Journal.{ends_bad}
 use Rattle.report.specs.Report.{posted_of, Claimed}
 use Rattle.streams.specs.declared.pieces.End.{End}
+use Rattle.streams.specs.declared.output.Failed.{Failed}
 use Rattle.streams.specs.declared.output.Output.{Output}
+use Rattle.streams.specs.declared.output.Stream.TheVariants.{Stdout}
 
--- so many bytes for standard output, 1
+-- so many bytes for standard output
 abbrev pub to_print : ℕ → Output
-to_print n = record { descriptor = pos 1; length = n }
+to_print n = record { stream = Stdout; length = n }
 
 -- the table of the ledger in words, or nothing where a read failed
-abbrev pub table_by : End → List ℕ → List ℕ
-table_by e ws = cond e.failed [] (table_of (book (ledger_of ws)) (ends_bad e.stopped e.left e.seen))
+abbrev pub table_by : Result End Failed → List ℕ → List ℕ
+table_by (Ok e) ws = table_of (book (ledger_of ws)) (ends_bad e.stopped e.left e.seen)
+table_by (Err x) ws = []
 
 -- it goes to standard output
-pub record TableWritten (e : End) (ws before after : List ℕ) (o : Output) : Type 0 where
-  pub descriptor : o.descriptor ≡ pos 1
+pub record TableWritten (e : Result End Failed) (ws before after : List ℕ) (o : Output) : Type 0 where
+  pub stream : o.stream ≡ Stdout
   pub bytes : after ≡ put before 0 (table_by e ws)
   pub size : o.length ≡ length (table_by e ws)
   pub within : o.length ≤ length after
@@ -29,7 +32,7 @@ pub record TableWritten (e : End) (ws before after : List ℕ) (o : Output) : Ty
 pub record Posts (out : List ℕ) (o : Output) : Type 0 where
   pub failed : Bool
   pub bytes : List ℕ
-  pub descriptor : o.descriptor ≡ pos 1
+  pub stream : o.stream ≡ Stdout
   pub table : take o.length out ≡ cond failed [] (posted_of bytes)
   pub size : o.length ≡ length (cond failed [] (posted_of bytes))
   pub within : o.length ≤ length out

@@ -1,17 +1,16 @@
 // Reads a journal on standard input and writes its posted table.
 #![tactic(auto)]
 
-ghost use Rattle.std.specs.Prelude.{◌≡◌, true, false, length, IfSome};
+ghost use Rattle.std.specs.Prelude.{◌≡◌, true, length, IfSome, OnOk};
 ghost use Rattle.ledger.specs.Sound.{sound_ledger};
-ghost use Rattle.words.specs.Layout.{ledger_size, ledger_of};
+ghost use Rattle.words.specs.Layout.{ledger_of};
 ghost use Rattle.table.specs.Table.{table_room};
 ghost use Rattle.posted.specs.Posting.{to_print, TableWritten, Posts, PostsAll};
-ghost use Rattle.streams.specs.Ends.{piece_size};
 
 use entries::run;
-use replay::Wanted;
+use replay::{Buffers, Wanted};
 use std::io::{Read, Write};
-use streams::output::{Output, STDOUT_FILENO};
+use streams::output::{Failed, Output, Stream, Streams};
 use streams::pieces::End;
 use streams::{arguments, output};
 
@@ -20,19 +19,19 @@ fn printed(length: usize) -> Output
     ensures { result ≡ to_print length }
 {
     Output {
-        descriptor: STDOUT_FILENO,
+        stream: Stream::Stdout,
         length,
     }
 }
 
 // What is written at the end: to standard output, the table of the ledger in words, in `out`; nothing where a read failed.
-fn table_of(ws: &[u64], out: &mut [u8], e: End) -> Output
-    requires { (e.failed ≡ false → sound_ledger (ledger_of ws.now) ≡ true) × (length out.old ≡ table_room) }
+fn table_of(ws: &[u64], out: &mut [u8], e: Result<End, Failed>) -> Output
+    requires { OnOk e (sound_ledger (ledger_of ws.now) ≡ true) × (length out.old ≡ table_room) }
     ensures { TableWritten e ws.now out.old out.new result }
 {
-    if e.failed {
+    let Ok(e) = e else {
         return printed(0);
-    }
+    };
     let bad = journal::ends_bad(e.stopped, e.left, e.seen);
     let length = table_in_words::write_words(out, ws, bad);
     printed(length)
@@ -40,29 +39,26 @@ fn table_of(ws: &[u64], out: &mut [u8], e: End) -> Output
 
 // Reads standard input; what is left to write is its posted table in `out`.
 fn post_input<R: Read, O: Write, E: Write>(
-    reader: &mut R,
-    output: &mut O,
-    error: &mut E,
-    ws: &mut [u64],
-    buf: &mut [u8],
-    out: &mut [u8],
+    streams: &mut Streams<R, O, E>,
+    buffers: &mut Buffers<{ table::TABLE_ROOM }>,
 ) -> Output
-    requires { (length ws.old ≡ ledger_size) × (length buf.old ≡ piece_size) × (length out.old ≡ table_room) }
-    ensures posts { Posts out.new result }
-    ensures all { IfSome (R.remaining reader.old) (λ input. PostsAll input out.new result) }
+    ensures posts { Posts buffers.new.out result }
+    ensures all { IfSome (R.remaining streams.old.input) (λ input. PostsAll input buffers.new.out result) }
 {
-    run::start(ws);
-    let e = replay::read_all(reader, output, error, ws, buf, out, Wanted::Nothing);
-    table_of(ws, out, e)
+    run::start(&mut buffers.ws);
+    let e = replay::read_all(streams, buffers, Wanted::Nothing);
+    table_of(&buffers.ws, &mut buffers.out, e)
 }
 
 // Reads standard input and writes its posted table to standard output.
-fn post<R: Read, O: Write, E: Write>(reader: &mut R, output: &mut O, error: &mut E) {
-    let mut ws = [0u64; words::LEDGER_SIZE];
-    let mut buf = [0u8; streams::PIECE_SIZE];
-    let mut out = [0u8; table::TABLE_ROOM];
-    let o = post_input(reader, output, error, &mut ws, &mut buf, &mut out);
-    output::send(output, error, o, &out);
+fn post<R: Read, O: Write, E: Write>(streams: &mut Streams<R, O, E>) {
+    let mut buffers = Buffers {
+        ws: [0u64; words::LEDGER_SIZE],
+        buf: [0u8; streams::PIECE_SIZE],
+        out: [0u8; table::TABLE_ROOM],
+    };
+    let o = post_input(streams, &mut buffers);
+    let _ = streams.send(o, &buffers.out);
 }
 
 fn main(rt: HostRuntime) {
@@ -75,5 +71,10 @@ fn main(rt: HostRuntime) {
         );
         return;
     }
-    post(&mut rt.stdin(), &mut rt.stdout(), &mut rt.stderr());
+    let mut streams = Streams {
+        input: rt.stdin(),
+        output: rt.stdout(),
+        error: rt.stderr(),
+    };
+    post(&mut streams);
 }

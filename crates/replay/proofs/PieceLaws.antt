@@ -1,33 +1,29 @@
 -- One piece of a journal: a read, and what a run over the bytes leaves with the rest kept at the start. Assumes nothing.
 use Prim.Native.Nat.{ℕ, ◌+◌, ◌-◌, ◌≤◌}
-use mathlib.Core.Path.{◌≡◌, refl, sym, ap, ap₂, ◌∙◌}
-use mathlib.Core.Bool.{Bool, true, false}
+use mathlib.Core.Path.{◌≡◌, sym, ap, ap₂, ◌∙◌}
+use mathlib.Core.Bool.{Bool, false}
 use mathlib.Core.List.{List}
 use native.Mathlib.Omega.{arith}
 use lib.ListN.{length, take, drop}
 use lib.Seq.{length-take-le, take-add, drop_at}
-use Rattle.std.proofs.Common.{Option, subst}
+use Rattle.std.proofs.Common.{Option, None, Some, Ok, Err, subst}
 use Rattle.std.proofs.KnownBytes.{Consumes-nil}
 use Rattle.std.proofs.lemmas.List.{drop-take as drop-take-of}
 use Rattle.std.specs.Io.KnownBytes.{Consumes}
 use Rattle.fields.specs.Put.{part, put}
 use Rattle.fields.proofs.PutLaws.{length_part, front-put}
 use Rattle.entries.specs.declared.run.Ran.{Ran}
-use Rattle.entries.specs.parts.Running.{ran_to, RanIn}
-use Rattle.input.specs.declared.Filled as filled
-use Rattle.input.specs.declared.Filled.TheVariants as filled-as
-use Rattle.input.specs.Filled.{HoldsRead, Fills}
+use Rattle.input.specs.Filled.{Filled, HoldsRead, Fills}
 use Rattle.replay.specs.declared.Wanted.{Wanted}
-use Rattle.replay.specs.declared.Wanted.TheVariants.{Nothing, Notices}
 use Rattle.replay.specs.parts.Pieces.{HoldsMore, FillsMore, PieceRuns, PieceLeaves}
 
 -- ---- a read: no fewer bytes are held
-holds_more : (have : ℕ) (full : Bool) (room : ℕ) (r : filled.Filled) → full ≡ false → HoldsRead have room r → HoldsMore have full room r
-holds_more have full room (filled-as.Bytes n) e h = (omega (arith, h.0), h.1)
-holds_more have full room filled-as.Ended e h = e
-holds_more have full room (filled-as.Failed x) e h = tt
+holds_more : (have : ℕ) (full : Bool) (room : ℕ) (r : Filled) → full ≡ false → HoldsRead have room r → HoldsMore have full room r
+holds_more have full room (Ok (Some n)) e h = (omega (arith, h.0), h.1)
+holds_more have full room (Ok None) e h = e
+holds_more have full room (Err x) e h = tt
 
-pub fills-more : (have : ℕ) (full : Bool) (before after : List ℕ) (r : filled.Filled) → full ≡ false → Fills have before after r
+pub fills-more : (have : ℕ) (full : Bool) (before after : List ℕ) (r : Filled) → full ≡ false → Fills have before after r
     → FillsMore have full before after r
 fills-more have full before after r e f = record { stay = f.stay; holds = holds_more have full (length after) r e f.holds }
 
@@ -50,25 +46,6 @@ module _ (xs : List ℕ) (m n : ℕ) (h : m ≤ n) (fits : n ≤ length xs) wher
   kept-front : (buf : List ℕ) (k : ℕ) → k ≡ n - m → buf ≡ put xs 0 (part xs m (n - m)) → take k buf ≡ drop m (take n xs)
   kept-front buf k e q =
       ap₂ (λ (i : ℕ) (l : List ℕ). take i l) e q ∙ front-put xs (part xs m (n - m)) (n - m) (sym (length_part xs m (n - m) (omega arith))) ∙ sym drop-take
-
--- ---- what is asked for
-module _ (seen : ℕ) (src ws₀ out₀ ws out : List ℕ) where
-  pub ran-nothing : (r : Ran) → RanIn seen false src ws₀ out₀ ws out r
-      → PieceRuns seen Nothing src ws₀ out₀ ws out (ran_to r.used r.seen 0 r.full r.stopped)
-  ran-nothing r x =
-      record {
-        done = x.done;
-        made = x.made;
-        kept = x.kept;
-        bytes = x.bytes;
-        written = refl;
-        within = omega arith;
-        rest = record { left = x.rest.left; goes = x.rest.goes };
-      }
-
-  pub ran-notices : (r : Ran) → RanIn seen true src ws₀ out₀ ws out r → PieceRuns seen Notices src ws₀ out₀ ws out r
-  ran-notices r x =
-      record { done = x.done; made = x.made; kept = x.kept; bytes = x.bytes; written = x.written; within = x.within refl; rest = x.rest }
 
 -- ---- the piece
 module _ (seen : ℕ) (t : Wanted) (n : ℕ) (ws₀ buf₀ out₀ ws out : List ℕ) (r : Ran) (fits : n ≤ length buf₀)

@@ -1,15 +1,16 @@
 -- A journal that comes in pieces is read whole. Assumes nothing.
 use Prim.Native.Nat.{ℕ, ◌+◌, ◌-◌, ◌≤◌, ◌<◌}
 use mathlib.Core.Path.{◌≡◌, refl, sym, ap, ap₂, subst, ◌∙◌}
-use mathlib.Core.Bool.{Bool, true, false, not, ◌||◌, true≢false}
+use mathlib.Core.Bool.{Bool, true, false, ◌||◌, true≢false}
 use mathlib.Core.List.{List, [], ◌++◌, append_assoc, append-nil}
 use native.Mathlib.Omega.{arith}
 use lib.ListN.{length, take, drop, length-append}
 use lib.Seq.{length-take-le, take-add}
-use Rattle.std.proofs.Common.{Option, pos}
+use Rattle.std.proofs.Common.{Option, None, Some, Result, Ok, Err, IfOk, IfSome, is_err}
 use Rattle.std.proofs.KnownBytes.{Consumes-nil, Consumes-trans, Consumes-kept, Appends-nil, Appends-trans}
-use Rattle.std.proofs.lemmas.List.{drop-take}
-use Rattle.std.specs.Io.KnownBytes.{Keeps, Consumes, Appends, IsAtEnd}
+use Rattle.std.proofs.lemmas.List.{drop-take, take-append-le}
+use Rattle.std.proofs.Math.Seq.{take-append-add}
+use Rattle.std.specs.Io.KnownBytes.{Keeps, Consumes, Appends, IsAtEnd, append_known}
 use Rattle.fields.proofs.PutLaws.{front-put}
 use Rattle.fields.proofs.BoolLaws.{cases}
 use Rattle.ledger.specs.declared.Ledger.{Ledger}
@@ -28,20 +29,19 @@ use Rattle.entries.proofs.FirstMadeLaws.{made-append}
 use Rattle.entries.proofs.RunNotices.{notices-append}
 use Rattle.trace_lines.specs.Trace.{trace_lines}
 use Rattle.tracing.proofs.RunLines.{lines-append}
-use Rattle.input.specs.declared.Filled as filled
-use Rattle.input.specs.declared.Filled.TheVariants.{Ended}
-use Rattle.input.specs.Filled.{Comes, not_ended}
-use Rattle.input.proofs.FilledLaws.{ended}
+use Rattle.input.specs.Filled.{Filled, Comes}
 use Rattle.replay.specs.declared.Wanted.{Wanted}
 use Rattle.replay.specs.declared.Wanted.TheVariants.{Nothing, Notices, Lines}
 use Rattle.streams.specs.declared.pieces.End.{End}
 use Rattle.streams.specs.declared.pieces.Piece.{Piece}
 use Rattle.replay.specs.Reading.{written_of, ReadsFrom}
 use Rattle.replay.specs.parts.Pieces.{Waits, PieceLeaves}
-use Rattle.replay.proofs.WholeLaws.{waits-short}
+use Rattle.replay.proofs.WholeLaws.{waits-short, all-read}
 use Rattle.streams.specs.Ends.{piece_output, end_of_input, end_of_piece}
-use Rattle.streams.specs.Written.{Sends}
+use Rattle.streams.specs.Written.{Writes, AppendsFirst}
+use Rattle.streams.specs.declared.output.Failed.{Failed}
 use Rattle.streams.specs.declared.output.Output.{Output}
+use Rattle.streams.specs.declared.output.Stream.TheVariants.{Stdout}
 
 -- ---- entries behind entries
 behind-behind : (es fs : List Entry) (p : Parsed) → behind es (behind fs p) ≡ behind (es ++ fs) p
@@ -161,6 +161,17 @@ reading-left t had left left₁ held holds ws buf seen have total x k =
       wrote = x.wrote;
     }
 
+-- a writer took some bytes, and then the first ones of some more
+pub first_more : (a b c : Option (List ℕ)) (front piece rest all : List ℕ) → Appends a b front → AppendsFirst piece b c → all ≡ front ++ (piece ++ rest)
+    → AppendsFirst all a c
+first_more a b c front piece rest all w f e =
+    let n = f.0 in
+    let same = ap (take (length front + n)) e ∙ take-append-add front (piece ++ rest) n ∙ ap (λ l. front ++ l) (take-append-le n piece rest f.1) in (
+      length front + n,
+      omega (arith, f.1, ap length e, length-append front (piece ++ rest), length-append piece rest),
+      subst (Appends a c) (sym same) (Appends-trans a b c front (take n piece) w f.2),
+    )
+
 -- ---- one piece more
 drop-more : (xs : List ℕ) (m n : ℕ) → m ≤ n → drop m (take n xs) ≡ take (n - m) (drop m xs)
 drop-more xs m n h =
@@ -205,10 +216,12 @@ module _ (t : Wanted) (had left held holds : Option (List ℕ)) (ws buf : List �
   came-more : Consumes had left₁ (x.bytes ++ more)
   came-more = Consumes-trans had left left₁ x.bytes more x.came (subst (Consumes left left₁) (drop-more buf have n h) c)
 
+  piece-out : take p.written out₁ ≡ piece
+  piece-out = ap (take p.written) m.bytes ∙ front-put out₀ (written_of t seen (book (layout.ledger_of ws)) m.done) p.written m.written ∙ piece-is
+
   wrote-more : Appends held holds₁ (written_of t 0 first_book all)
   wrote-more =
-      let e = ap (take p.written) m.bytes ∙ front-put out₀ (written_of t seen (book (layout.ledger_of ws)) m.done) p.written m.written ∙ piece-is in
-      let both = Appends-trans held holds holds₁ (written_of t 0 first_book x.done) piece x.wrote (subst (Appends holds holds₁) e w) in
+      let both = Appends-trans held holds holds₁ (written_of t 0 first_book x.done) piece x.wrote (subst (Appends holds holds₁) piece-out w) in
       subst (Appends held holds₁) (sym all-written) both
 
   pub reading-more : Reading t had left₁ held holds₁ ws₁ buf₁ p.seen p.left (total + p.written)
@@ -227,13 +240,21 @@ module _ (t : Wanted) (had left held holds : Option (List ℕ)) (ws buf : List �
         wrote = wrote-more;
       }
 
+  -- the first of a piece was written, and no more
+  pub piece-failed : (holds₂ : Option (List ℕ)) → AppendsFirst (take p.written out₁) holds holds₂
+      → (rest full : List ℕ) → full ≡ written_of t 0 first_book all ++ rest → AppendsFirst full held holds₂
+  piece-failed holds₂ f rest full e =
+      let same = piece-out in
+      let whole = e ∙ ap (λ (l : List ℕ). l ++ rest) all-written ∙ append_assoc (written_of t 0 first_book x.done) piece rest in
+      first_more held holds holds₂ (written_of t 0 first_book x.done) piece rest full x.wrote (subst (λ (l : List ℕ). AppendsFirst l holds holds₂) same f) whole
+
 -- ---- the end
 -- where no entry stands whole in the bytes held the reading has come to its end
-pub reading-ended : (t : Wanted) (had left held holds : Option (List ℕ)) (ws buf : List ℕ) (seen have total : ℕ) (stopped failed : Bool)
+pub reading-ended : (t : Wanted) (had left held holds : Option (List ℕ)) (ws buf : List ℕ) (seen have total : ℕ) (stopped : Bool)
     → Reading t had left held holds ws buf seen have total → Waits seen (take have buf) stopped → (stopped ≡ false → IsAtEnd left)
-    → ReadsFrom t had left held holds ws buf (record { seen = seen; stopped = stopped; left = have; total = total; failed = failed })
+    → ReadsFrom t had left held holds ws buf (record { seen = seen; stopped = stopped; left = have; total = total })
 unfolding journal_ledger is_bad
-reading-ended t had left held holds ws buf seen have total stopped failed x w none =
+reading-ended t had left held holds ws buf seen have total stopped x w none =
     let e = x.parsed ∙ ap (behind x.done) w in
     let entries : (parse 0 x.bytes).entries ≡ x.done = ap (λ (p : Parsed). p.entries) e ∙ append-nil x.done in
     let bad : stopped ≡ (parse 0 x.bytes).stopped = sym (ap (λ (p : Parsed). p.stopped) e) in
@@ -259,36 +280,87 @@ reading-ended t had left held holds ws buf seen have total stopped failed x w no
     }
 
 -- the input has ended
-pub input-ended : (t : Wanted) (had left left₁ held holds : Option (List ℕ)) (ws buf : List ℕ) (seen have total : ℕ) (f : filled.Filled) (e : End)
+pub input-ended : (t : Wanted) (had left left₁ held holds : Option (List ℕ)) (ws buf : List ℕ) (seen have total : ℕ) (f : Filled) (e : Result End Failed)
     → e ≡ end_of_input f seen have total → Reading t had left held holds ws buf seen have total → length buf ≡ 262144 → Comes have buf left left₁ f
-    → (f ≡ Ended → Waits seen (take have buf) false) → e.failed ≡ false → ReadsFrom t had left₁ held holds ws buf e
-input-ended t had left left₁ held holds ws buf seen have total f e q x room c w z =
-    let none = ended f (sym (ap (λ (k : End). k.failed) q) ∙ z) in
-    let end = subst (Comes have buf left left₁) none c in
-    let fits : have < length buf = omega (arith, room, length-take-le have buf x.within, waits-short seen (take have buf) (w none)) in
-    let read = reading-left t had left left₁ held holds ws buf seen have total x end.0 in
-    subst (ReadsFrom t had left₁ held holds ws buf) (sym q)
-    (reading-ended t had left₁ held holds ws buf seen have total false (not_ended f) read (w none) (λ _. end.1 fits))
-
-stopped_by : (a b : Bool) → (not a || b) ≡ true → not a ≡ false → (a ≡ true) × (b ≡ true)
-stopped_by true b h z = (refl, h)
-stopped_by false b h z = absurd (true≢false z)
+    → (f ≡ Ok None → Waits seen (take have buf) false) → IfOk e (λ e. ReadsFrom t had left₁ held holds ws buf e)
+input-ended t had left left₁ held holds ws buf seen have total (Err x) e q read room c w = subst (λ r. IfOk r (λ e. ReadsFrom t had left₁ held holds ws buf e)) (sym q) tt
+input-ended t had left left₁ held holds ws buf seen have total (Ok (Some n)) e q read room c w =
+    subst (λ r. IfOk r (λ e. ReadsFrom t had left₁ held holds ws buf e)) (sym q) tt
+input-ended t had left left₁ held holds ws buf seen have total (Ok None) e q x room c w =
+    let fits : have < length buf = omega (arith, room, length-take-le have buf x.within, waits-short seen (take have buf) (w refl)) in
+    let read = reading-left t had left left₁ held holds ws buf seen have total x c.0 in
+    subst (λ r. IfOk r (λ e. ReadsFrom t had left₁ held holds ws buf e)) (sym q)
+    (reading-ended t had left₁ held holds ws buf seen have total false read (w refl) (λ _. c.1 fits))
 
 -- a bad entry has stopped it
-pub piece-ended : (t : Wanted) (had left held holds : Option (List ℕ)) (ws buf : List ℕ) (total : ℕ) (p : Piece) (written : Bool) (e : End)
-    → e ≡ end_of_piece p total written → (written ≡ true → Reading t had left held holds ws buf p.seen p.left total)
-    → (p.full ≡ false → Waits p.seen (take p.left buf) p.stopped) → (p.full ≡ true → p.stopped ≡ false) → (not written || p.stopped) ≡ true
-    → e.failed ≡ false → ReadsFrom t had left held holds ws buf e
-piece-ended t had left held holds ws buf total p written e q x w goes h z =
-    let s = stopped_by written p.stopped h (sym (ap (λ (k : End). k.failed) q) ∙ z) in
-    let o = cases p.full (λ y. absurd (true≢false (sym s.1 ∙ goes y))) (λ y. y) in
-    subst (ReadsFrom t had left held holds ws buf) (sym q)
-    (reading-ended t had left held holds ws buf p.seen p.left total p.stopped (not written) (x s.0) (w o) (λ y. absurd (true≢false (sym s.1 ∙ y))))
+pub piece-ended : (t : Wanted) (had left held holds : Option (List ℕ)) (ws buf : List ℕ) (total : ℕ) (p : Piece) (sent : Result (Unit {0}) Failed)
+    (e : Result End Failed) → e ≡ end_of_piece p total sent → (is_err sent ≡ false → Reading t had left held holds ws buf p.seen p.left total)
+    → (p.full ≡ false → Waits p.seen (take p.left buf) p.stopped) → (p.full ≡ true → p.stopped ≡ false) → (is_err sent || p.stopped) ≡ true
+    → IfOk e (λ e. ReadsFrom t had left held holds ws buf e)
+piece-ended t had left held holds ws buf total p (Err x) e q read w goes h = subst (λ r. IfOk r (λ e. ReadsFrom t had left held holds ws buf e)) (sym q) tt
+piece-ended t had left held holds ws buf total p (Ok u) e q x w goes h =
+    let o = cases p.full (λ y. absurd (true≢false (sym h ∙ goes y))) (λ y. y) in
+    subst (λ r. IfOk r (λ e. ReadsFrom t had left held holds ws buf e)) (sym q)
+    (reading-ended t had left held holds ws buf p.seen p.left total p.stopped (x refl) (w o) (λ y. absurd (true≢false (sym h ∙ y))))
 
 -- what of a piece was sent to standard output
-pub sent : (o : Output) (p : Piece) (out : List ℕ) (all : Bool) (a b : Option (List ℕ)) → o ≡ piece_output p
-    → (o.descriptor ≡ pos 1 → Sends all (take o.length out) a b) → all ≡ true → Appends a b (take p.written out)
-sent o p out all a b e s w =
-    let first = s (ap (λ (k : Output). k.descriptor) e) in
-    let whole : Appends a b (take o.length out) = subst (λ (k : Bool). Sends k (take o.length out) a b) w first in
-    subst (λ (n : ℕ). Appends a b (take n out)) (ap (λ (k : Output). k.length) e) whole
+pub sent-piece : (o : Output) (p : Piece) (out : List ℕ) (r : Result (Unit {0}) Failed) (a b : Option (List ℕ)) → o ≡ piece_output p
+    → (o.stream ≡ Stdout → Writes r (take o.length out) a b) → Writes r (take p.written out) a b
+sent-piece o p out r a b e s =
+    subst (λ (n : ℕ). Writes r (take n out) a b) (ap (λ (k : Output). k.length) e) (s (ap (λ (k : Output). k.stream) e))
+
+pub sent : (o : Output) (p : Piece) (out : List ℕ) (all : Result (Unit {0}) Failed) (a b : Option (List ℕ)) → o ≡ piece_output p
+    → (o.stream ≡ Stdout → Writes all (take o.length out) a b) → is_err all ≡ false → Appends a b (take p.written out)
+sent o p out (Ok u) a b e s w = sent-piece o p out (Ok u) a b e s
+sent o p out (Err x) a b e s w = absurd (true≢false w)
+
+-- ---- what was written of all bytes that a reader had
+-- what was written so far is the first of what is asked for of them
+front_of : (t : Wanted) (input : List ℕ) (left held holds : Option (List ℕ)) (ws buf : List ℕ) (seen have total : ℕ)
+    → (x : Reading t (Some input) left held holds ws buf seen have total)
+    → (rest : List ℕ) × (written_of t 0 first_book (parse 0 input).entries ≡ written_of t 0 first_book x.done ++ rest)
+front_of t input None held holds ws buf seen have total x = absurd x.came
+front_of t input (Some ys) held holds ws buf seen have total x =
+    let k = take have buf in
+    let p = parse-on x.bytes k x.done (x.parsed ∙ ap (λ (i : ℕ). behind x.done (parse i k)) x.count) ys in
+    let more = (parse (length x.done) (k ++ ys)).entries in
+    let entries : (parse 0 input).entries ≡ x.done ++ more = ap (λ (s : List ℕ). (parse 0 s).entries) x.came ∙ ap (λ (q : Parsed). q.entries) p in
+    (written_of t (length x.done) (after_entries first_book x.done) more, ap (written_of t 0 first_book) entries ∙ written-append t first_book x.done more)
+
+pub read-failed : (t : Wanted) (known left held holds : Option (List ℕ)) (ws buf : List ℕ) (seen have total : ℕ)
+    → Reading t known left held holds ws buf seen have total → IfSome known (λ input. AppendsFirst (written_of t 0 first_book (parse 0 input).entries) held holds)
+read-failed t None left held holds ws buf seen have total x = tt
+read-failed t (Some input) left held holds ws buf seen have total x =
+    let f = front_of t input left held holds ws buf seen have total x in
+    first_more held holds holds (written_of t 0 first_book x.done) [] f.0 _ x.wrote (0, omega arith, Appends-nil holds) f.1
+
+-- the reading ended: all that is asked for of them was written, or, where it failed, the first of it
+pub written-by : (t : Wanted) (known left held holds : Option (List ℕ)) (ws buf : List ℕ) (e : Result End Failed)
+    → IfOk e (λ e. ReadsFrom t known left held holds ws buf e)
+    → ((f : Failed) → e ≡ Err f → IfSome known (λ input. AppendsFirst (written_of t 0 first_book (parse 0 input).entries) held holds))
+    → IfSome known (λ input. Writes e (written_of t 0 first_book (parse 0 input).entries) held holds)
+written-by t None left held holds ws buf e r w = tt
+written-by t (Some input) left held holds ws buf (Err f) r w = w f refl
+written-by t (Some input) left held holds ws buf (Ok k) r w =
+    let same = all-read input r.reads.bytes left r.came (λ z. r.ended (r.reads.stopped ∙ z)) in
+    subst (λ (es : List Entry). Appends held holds (written_of t 0 first_book es)) (sym same.0) r.written
+
+grows : (a : Option (List ℕ)) (bs : List ℕ) → Appends a (append_known a bs) bs
+grows None bs = tt
+grows (Some xs) bs = refl
+
+pub send-failed : (t : Wanted) (known left held holds : Option (List ℕ)) (ws buf : List ℕ) (seen have total : ℕ)
+    → (x : Reading t known left held holds ws buf seen have total) (n : ℕ) (h : have ≤ n) (out₀ ws₁ buf₁ out₁ : List ℕ) (p : Piece)
+    → PieceLeaves seen t n ws buf out₀ ws₁ buf₁ out₁ p → (left₁ holds₂ : Option (List ℕ)) → Consumes left left₁ (drop have (take n buf))
+    → (r : Result (Unit {0}) Failed) (e : Result End Failed) (end : ℕ) → e ≡ end_of_piece p end r → Writes r (take p.written out₁) holds holds₂
+    → (f : Failed) → e ≡ Err f → IfSome known (λ input. AppendsFirst (written_of t 0 first_book (parse 0 input).entries) held holds₂)
+unfolding reading-more
+send-failed t None left held holds ws buf seen have total x n h out₀ ws₁ buf₁ out₁ p m left₁ holds₂ c r e end q w f z = tt
+send-failed t (Some input) left held holds ws buf seen have total x n h out₀ ws₁ buf₁ out₁ p m left₁ holds₂ c (Ok u) e end q w f z =
+    let k = sym q ∙ z in cc
+send-failed t (Some input) left held holds ws buf seen have total x n h out₀ ws₁ buf₁ out₁ p m left₁ holds₂ c (Err y) e end q w f z =
+    let grown = append_known holds (take p.written out₁) in
+    let kept = grows holds (take p.written out₁) in
+    let more = reading-more t (Some input) left held holds ws buf seen have total x n h out₀ ws₁ buf₁ out₁ p m left₁ grown c kept in
+    let first = front_of t input left₁ held grown ws₁ buf₁ p.seen p.left (total + p.written) more in
+    piece-failed t (Some input) left held holds ws buf seen have total x n h out₀ ws₁ buf₁ out₁ p m left₁ grown c kept holds₂ w first.0 _ first.1

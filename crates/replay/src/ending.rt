@@ -1,88 +1,81 @@
 // What a program that writes as it reads has left to say at the end: that a bad entry stopped the reading.
-ghost use Rattle.std.specs.Prelude.{◌≡◌, ◌≤◌, length};
-ghost use Rattle.words.specs.Layout.{ledger_size};
-ghost use Rattle.replay.specs.Ending.{StopLine, last_to, StopLineWritten, StopLineSize};
-ghost use Rattle.streams.specs.Ends.{piece_size};
+ghost use Rattle.std.specs.Prelude.{◌≡◌, ◌≤◌, length, IfSome};
+ghost use Rattle.replay.specs.Ending.{StopLine, last_to, EndsAll, WritesWanted, StopLineWritten, StopLineSize};
 ghost use Rattle.table.specs.Table.{stop_size};
 
-use crate::Wanted;
+use crate::{Buffers, Wanted};
 use entries::run;
 use std::io::{Read, Write};
-use streams::output;
-use streams::output::{Output, STDERR_FILENO, STDOUT_FILENO};
+use streams::output::{Failed, Output, Stream, Streams};
 use streams::pieces::End;
 
 // Puts the line that says that a bad entry stopped the reading, if one did and nothing failed; answers its length.
-fn stop_line(out: &mut [u8], e: End) -> usize
+fn stop_line(out: &mut [u8], e: Result<End, Failed>) -> usize
     requires { stop_size ≤ length out.old }
     ensures { StopLine e out.old out.new result }
 {
-    let bad = journal::ends_bad(e.stopped, e.left, e.seen);
-    table::put_stop(out, 0, !e.failed & bad)
+    let bad = e.is_ok_and(|e| journal::ends_bad(e.stopped, e.left, e.seen));
+    table::put_stop(out, 0, bad)
 }
 
 // Reads standard input and writes what is asked for of its entries; what is left to write is the line in `out`, of so many bytes.
 fn read_input<R: Read, O: Write, E: Write>(
-    reader: &mut R,
-    output: &mut O,
-    error: &mut E,
-    ws: &mut [u64],
-    buf: &mut [u8],
-    out: &mut [u8],
+    streams: &mut Streams<R, O, E>,
+    buffers: &mut Buffers<{ streams::PIECE_SIZE }>,
     wanted: Wanted,
 ) -> usize
-    requires { (length ws.old ≡ ledger_size) × (length buf.old ≡ piece_size) × (length out.old ≡ piece_size) }
-    ensures { StopLineWritten out.new result }
+    ensures line { StopLineWritten buffers.new.out result }
+    ensures all { IfSome (R.remaining streams.old.input)
+        (λ input. EndsAll wanted input (O.contents streams.old.output) (O.contents streams.new.output) buffers.new.out result) }
 {
-    run::start(ws);
-    let e = crate::read_all(reader, output, error, ws, buf, out, wanted);
-    stop_line(out, e)
+    run::start(&mut buffers.ws);
+    let e = crate::read_all(streams, buffers, wanted);
+    stop_line(&mut buffers.out, e)
 }
 
 // Where that line goes.
-fn last_to(wanted: Wanted) -> i32
+fn last_to(wanted: Wanted) -> Stream
     ensures { result ≡ last_to wanted }
 {
     match wanted {
-        Wanted::Nothing => STDOUT_FILENO,
-        Wanted::Notices => STDERR_FILENO,
-        Wanted::Lines => STDOUT_FILENO,
+        Wanted::Nothing => Stream::Stdout,
+        Wanted::Notices => Stream::Stderr,
+        Wanted::Lines => Stream::Stdout,
     }
 }
 
 // What is left to write once standard input is read, and where it goes.
 fn last_of_input<R: Read, O: Write, E: Write>(
-    reader: &mut R,
-    output: &mut O,
-    error: &mut E,
-    ws: &mut [u64],
-    buf: &mut [u8],
-    out: &mut [u8],
+    streams: &mut Streams<R, O, E>,
+    buffers: &mut Buffers<{ streams::PIECE_SIZE }>,
     wanted: Wanted,
 ) -> Output
-    requires { (length ws.old ≡ ledger_size) × (length buf.old ≡ piece_size) × (length out.old ≡ piece_size) }
-    ensures { (result.descriptor ≡ last_to wanted) × StopLineWritten out.new result.length }
+    ensures line { (result.stream ≡ last_to wanted) × StopLineWritten buffers.new.out result.length }
+    ensures all { IfSome (R.remaining streams.old.input)
+        (λ input. EndsAll wanted input (O.contents streams.old.output) (O.contents streams.new.output) buffers.new.out result.length) }
 {
-    let length = read_input(reader, output, error, ws, buf, out, wanted);
+    let length = read_input(streams, buffers, wanted);
     Output {
-        descriptor: last_to(wanted),
+        stream: last_to(wanted),
         length,
     }
 }
 
 // Reads standard input and writes what is asked for of its entries, and the line behind; answers what was last to write.
 pub fn write_wanted<R: Read, O: Write, E: Write>(
-    reader: &mut R,
-    output: &mut O,
-    error: &mut E,
+    streams: &mut Streams<R, O, E>,
     wanted: Wanted,
 ) -> Output
-    ensures { (result.descriptor ≡ last_to wanted) × StopLineSize result.length }
+    ensures line { (result.stream ≡ last_to wanted) × StopLineSize result.length }
+    ensures all { IfSome (R.remaining streams.old.input)
+        (λ input. WritesWanted wanted input (O.contents streams.old.output) (O.contents streams.new.output)) }
 {
-    let mut ws = [0u64; words::LEDGER_SIZE];
-    let mut buf = [0u8; streams::PIECE_SIZE];
-    let mut out = [0u8; streams::PIECE_SIZE];
-    let o = last_of_input(reader, output, error, &mut ws, &mut buf, &mut out, wanted);
-    output::send(output, error, o, &out);
+    let mut buffers = Buffers {
+        ws: [0u64; words::LEDGER_SIZE],
+        buf: [0u8; streams::PIECE_SIZE],
+        out: [0u8; streams::PIECE_SIZE],
+    };
+    let o = last_of_input(streams, &mut buffers, wanted);
+    let _ = streams.send(o, &buffers.out);
     o
 }

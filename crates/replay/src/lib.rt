@@ -2,26 +2,30 @@
 // caller asks for of them is written to standard output.
 #![tactic(auto)]
 
-ghost use Rattle.std.specs.Prelude.{◌≡◌, true, false, ◌≤◌, length};
+ghost use Rattle.std.specs.Prelude.{◌≡◌, true, ◌≤◌, length, IfOk, IfSome};
 ghost use Rattle.ledger.specs.Sound.{sound_ledger};
 ghost use Rattle.words.specs.Layout.{ledger_of};
 ghost use Rattle.input.specs.Filled.{Comes};
 ghost use Rattle.journal.specs.EntryCalls.{first_ledger};
 ghost use Rattle.replay.specs.declared.Wanted.TheVariants.{Lines};
-ghost use Rattle.replay.specs.Reading.{Reads, ReadsFrom};
+ghost use Rattle.journal.specs.Journal.{parse, first_book};
+ghost use Rattle.replay.specs.Reading.{Reads, ReadsFrom, written_of};
 ghost use Rattle.replay.specs.parts.Pieces.{PieceRuns, FillsMore, PieceLeaves};
 ghost use Rattle.streams.specs.Ends.{piece_size};
+ghost use Rattle.streams.specs.Written.{Writes};
 
 use entries::run;
 use entries::run::Ran;
-use input::Filled;
+use std::io;
 use std::io::{Read, Write};
+use streams::output::{Failed, Streams};
+use streams::pieces;
 use streams::pieces::{End, Piece};
-use streams::{output, pieces};
 
 pub mod ending;
 
 // What is written of the entries: nothing, their notices, or lines that say what became of each.
+// An enum, and no closure: the contracts name what is written by it (`written_of`, `last_to`), and one `match` takes the step.
 #[derive(Clone, Copy)]
 pub enum Wanted {
     Nothing,
@@ -29,14 +33,27 @@ pub enum Wanted {
     Lines,
 }
 
+// The memory that a program reads with: the ledger in words, the bytes that came, and those that are to be written.
+#[derive(Drop)]
+pub struct Buffers<const ROOM: usize> {
+    pub ws: [u64; words::LEDGER_SIZE],
+    pub buf: [u8; streams::PIECE_SIZE],
+    pub out: [u8; ROOM],
+}
+
 // Reads on where all entries that were read are made.
-fn more<R: Read>(reader: &mut R, buf: &mut [u8], have: usize, full: bool) -> Filled
+fn more<R: Read>(
+    reader: &mut R,
+    buf: &mut [u8],
+    have: usize,
+    full: bool,
+) -> io::Result<Option<usize>>
     requires { have ≤ length buf.old }
     ensures held { FillsMore have full buf.old buf.new result }
     ensures bytes { Comes have buf.new (R.remaining reader.old) (R.remaining reader.new) result }
 {
     if full {
-        return Filled::Bytes(have);
+        return Ok(Some(have));
     }
     input::fill(reader, buf, have)
 }
@@ -58,7 +75,7 @@ fn run_wanted(ws: &mut [u64], out: &mut [u8], wanted: Wanted, src: &[u8], seen: 
     match wanted {
         Wanted::Nothing => {
             let r = run::run(ws, out, false, src, seen);
-            run::ran_to(r.used, r.seen, 0, r.full, r.stopped)
+            Ran { written: 0, ..r }
         }
         Wanted::Notices => run::run(ws, out, true, src, seen),
         Wanted::Lines => run_lines(ws, out, src, seen),
@@ -89,46 +106,43 @@ fn make(
 }
 
 // Reads standard input in pieces and makes its entries. A billion entries have fewer bytes than there are turns.
-pub fn read_all<R: Read, O: Write, E: Write>(
-    reader: &mut R,
-    output: &mut O,
-    error: &mut E,
-    ws: &mut [u64],
-    buf: &mut [u8],
-    out: &mut [u8],
+pub fn read_all<R: Read, O: Write, E: Write, const ROOM: usize>(
+    streams: &mut Streams<R, O, E>,
+    buffers: &mut Buffers<ROOM>,
     wanted: Wanted,
-) -> End
-    requires { (ledger_of ws.old ≡ first_ledger) × (length buf.old ≡ piece_size) × (length out.old ≤ piece_size) }
-    ensures reads { result.failed ≡ false → Reads wanted ws.new buf.new result }
-    ensures bytes { result.failed ≡ false → ReadsFrom wanted (R.remaining reader.old) (R.remaining reader.new)
-        (O.contents output.old) (O.contents output.new) ws.new buf.new result }
+) -> Result<End, Failed>
+    requires { (ledger_of buffers.old.ws ≡ first_ledger) × (ROOM ≤ piece_size) }
+    ensures reads { IfOk result (λ e. Reads wanted buffers.new.ws buffers.new.buf e) }
+    ensures bytes { IfOk result (λ e. ReadsFrom wanted (R.remaining streams.old.input) (R.remaining streams.new.input)
+        (O.contents streams.old.output) (O.contents streams.new.output) buffers.new.ws buffers.new.buf e) }
+    ensures written { IfSome (R.remaining streams.old.input) (λ input. Writes result (written_of wanted 0 first_book (parse 0 input).entries)
+        (O.contents streams.old.output) (O.contents streams.new.output)) }
 {
     let mut seen = 0;
     let mut left = 0;
     let mut total = 0;
     let mut full = false;
-    let mut turns = 70000000000000u64;
-    while 0 < turns {
-        turns -= 1;
-        let f = more(reader, buf, left, full);
-        let Filled::Bytes(n) = f else {
-            return pieces::end_of_input(error, f, seen, left, total);
+    for _turn in 0..70000000000000u64 {
+        let came = more(&mut streams.input, &mut buffers.buf, left, full);
+        let Ok(Some(n)) = came else {
+            return pieces::end_of_input(&mut streams.error, came, seen, left, total);
         };
-        let p = make(ws, buf, out, wanted, n, seen);
+        let p = make(
+            &mut buffers.ws,
+            &mut buffers.buf,
+            &mut buffers.out,
+            wanted,
+            n,
+            seen,
+        );
         total += p.written;
-        let is_written = output::send(output, error, pieces::output_of(p), out);
-        if !is_written | p.stopped {
-            return pieces::end_of_piece(p, total, is_written);
+        let sent = streams.send(pieces::output_of(p), &buffers.out);
+        if sent.is_err() | p.stopped {
+            return pieces::end_of_piece(p, total, sent);
         }
         seen = p.seen;
         left = p.left;
         full = p.full;
     }
-    End {
-        seen,
-        stopped: false,
-        left,
-        total,
-        failed: true,
-    }
+    Err(Failed::Read)
 }

@@ -1,5 +1,5 @@
 -- What a write does to the bytes that a writer holds, as far as they are known. Assumes nothing.
-use Rattle.std.specs.Prelude.{ℕ, ◌≤◌, Bool, true, false, List, Option, Result, MatchResult, length, take}
+use Rattle.std.specs.Prelude.{ℕ, ◌≤◌, List, Option, Result, MatchResult, length, take}
 use Rattle.std.specs.Io.KnownBytes.{Appends}
 
 -- it took so many first bytes
@@ -9,8 +9,3 @@ AppendsFirst bytes before after = (n : ℕ) × (n ≤ length bytes) × Appends b
 -- it took all bytes, or a write failed and it took so many first ones
 abbrev pub Writes : {T E : Type 0} → Result T E → List ℕ → Option (List ℕ) → Option (List ℕ) → Type 0
 Writes r bytes before after = MatchResult r (λ _. Appends before after bytes) (λ _. AppendsFirst bytes before after)
-
--- the same, where true says that all went well
-abbrev pub Sends : Bool → List ℕ → Option (List ℕ) → Option (List ℕ) → Type 0
-Sends true bytes before after = Appends before after bytes
-Sends false bytes before after = AppendsFirst bytes before after

@@ -1,4 +1,4 @@
-// What a program that reads standard input in pieces writes, to which descriptor, and how the reading ends.
+// What a program that reads standard input in pieces writes, to which stream, and how the reading ends.
 #![tactic(auto)]
 
 pub mod arguments;

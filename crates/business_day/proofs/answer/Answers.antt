@@ -5,4 +5,4 @@ use Rattle.business_day.proofs.answer.Goals as goal
 pub returns : goal.returns
 returns g c =
     let o = c.answer_input-o in
-    writes_all _ _ _ _ _ _ _ c.send.result o.ensures.all (c.send.ensures.to_output o.ensures.answer.0)
+    rw (← o.ensures.output) (writes_all _ _ _ _ _ _ _ c.send.result o.ensures.all (c.send.ensures.to_output o.ensures.answer.0))

@@ -1,21 +1,15 @@
 -- `business_day::line_of_input` meets its contract, whether a read failed or none did.
 use Rattle.std.proofs.Common.{◌∙◌}
-use Rattle.business_day.proofs.AnswerLaws.{answers-none, answers, answers-all}
+use Rattle.business_day.proofs.AnswerLaws.{answers, answers-all}
 use Rattle.business_day.proofs.line_of_input.Goals as goal
-
-pub returns-then-is_failed-clause-answer : goal.returns-then-is_failed-clause-answer
-returns-then-is_failed-clause-answer g c =
-    let read = c.read_input-r in
-    answers-none _ _ _ read.result (read.auto.buf ∙ c.requires.0) read.ensures.stops _ _ c.unread-unread.ensures c.if-is_failed.true
 
 pub returns-clause-answer : goal.returns-clause-answer
 returns-clause-answer g c =
-    let read = c.read_input-r in
-    answers _ _ _ read.result (read.auto.buf ∙ c.requires.0) read.ensures.stops _ _ _ _ c.unread-unread.ensures c.if-is_failed.false
-    c.print_day.ensures.value c.print_day.ensures.out_after
+    let read = c.read_input-length in
+    answers _ _ _ read.result (read.auto.buf ∙ c.requires.0) read.ensures.stops _ _ _ _ c.in_default.is c.print_day.ensures.value c.print_day.ensures.out_after
 
 pub returns-clause-all : goal.returns-clause-all
 returns-clause-all g c =
-    let read = c.read_input-r in
-    answers-all _ _ _ read.result (read.auto.buf ∙ c.requires.0) read.ensures.stops _ _ _ _ c.unread-unread.ensures c.if-is_failed.false
-    c.print_day.ensures.value c.print_day.ensures.out_after _ _ read.ensures.bytes
+    let read = c.read_input-length in
+    answers-all _ _ _ read.result (read.auto.buf ∙ c.requires.0) read.ensures.stops _ _ _ _ c.in_default.is c.print_day.ensures.value c.print_day.ensures.out_after
+    _ _ read.ensures.bytes

@@ -1,10 +1,7 @@
--- `input::read_input` ends with its tries, the buffer keeps its length, and a failed read takes nothing from the reader.
+-- `input::read_input`: the buffer keeps its length, and a failed read takes nothing from the reader.
 use Rattle.std.specs.Prelude.{◌≡◌, length}
 use Rattle.std.specs.Io.KnownBytes.{Keeps}
 use Rattle.input.proofs.read_input.Given as goal
 
-abbrev pub invariant-loop-tries : goal.invariant-loop-tries
-invariant-loop-tries g l = (length l.buf ≡ length l.initial.buf) × Keeps (g.R.Read.remaining l.initial.reader) (g.R.Read.remaining l.reader)
-
-abbrev pub decreases-loop-tries : goal.decreases-loop-tries
-decreases-loop-tries g l = l.tries
+abbrev pub invariant-loop : goal.invariant-loop
+invariant-loop g l = (length l.buf ≡ length l.initial.buf) × Keeps (g.R.Read.remaining l.initial.reader) (g.R.Read.remaining l.reader)

@@ -1,82 +1,85 @@
 -- `replay::read_all` meets its contract. The loop's invariant: the pieces that came are read as one.
-use native.Mathlib.Omega.{arith}
-use mathlib.Core.Path.{◌≡◌, refl, ap, ◌∙◌}
-use mathlib.Core.Bool.{Bool, true, false, not, true≢false}
+use Rattle.std.proofs.Common.{◌≡◌, ◌∙◌, ℕ, List, false, Ok, Some, Option, sym, ap, subst, arith}
+use Rattle.std.proofs.lemmas.Result.{IfOk-weaker}
 use Rattle.fields.proofs.BoolLaws.{or-both}
-use Rattle.streams.specs.declared.output.Output.{Output}
-use Rattle.replay.proofs.ReadingLaws.{reading-start, waits_start, reading-kept, reading-more, input-ended, piece-ended, sent}
+use Rattle.input.specs.Filled.{Comes}
+use Rattle.streams.specs.declared.pieces.End.{End}
+use Rattle.replay.specs.declared.Wanted.{Wanted}
+use Rattle.replay.specs.Reading.{Reads, ReadsFrom}
+use Rattle.replay.specs.parts.Pieces.{FillsMore}
+use Rattle.replay.proofs.ReadingLaws.{reading-start, waits_start, reading-kept, reading-more, input-ended, piece-ended, sent, sent-piece, read-failed, send-failed, written-by}
 use Rattle.replay.proofs.read_all.Goals as goal
 
-not-not : (b : Bool) → not b ≡ false → b ≡ true
-not-not true e = refl
-not-not false e = absurd (true≢false e)
+reads-of : {t : Wanted} {had left held holds : Option (List ℕ)} {ws buf : List ℕ} (e : End) → ReadsFrom t had left held holds ws buf e → Reads t ws buf e
+reads-of e r = r.reads
 
-pub loop-turns-init : goal.loop-turns-init
-loop-turns-init g c =
+pub loop-turn-init : goal.loop-turn-init
+loop-turn-init g c =
     record {
-      same-words = refl;
-      room = c.requires.1;
-      same_out = refl;
+      room = omega arith;
       reads = reading-start _ _ _ _ _ c.requires.0;
-      waits = λ z. waits_start c.args.buf.now;
+      waits = λ z. waits_start c.args.buffers.now.buf;
       small = omega arith;
     }
 
-pub more-f-requires : goal.more-f-requires
-more-f-requires g c = c.loop-turns.invariant.reads.within
-
 pub returns-in_default-clause-bytes : goal.returns-in_default-clause-bytes
 returns-in_default-clause-bytes g c =
-    let more = c.more-f in
-    let inv = c.loop-turns.invariant in
+    let more = c.more-came in
+    let inv = c.loop-turn.invariant in
     let kept = reading-kept _ _ _ _ _ _ _ _ _ _ _ inv.reads more.ensures.held.stay more.auto.buf in
     input-ended _ _ _ _ _ _ _ _ _ _ _ more.result _ c.end_of_input.ensures kept (more.auto.buf ∙ inv.room) more.ensures.bytes
-    (λ z. let e : c.loop-turns.full ≡ false = rw z at more.ensures.held.holds in rw more.ensures.held.stay (inv.waits e))
+    (λ z. let e : c.loop-turn.full ≡ false = rw z at more.ensures.held.holds in rw more.ensures.held.stay (inv.waits e))
 
 pub returns-in_default-clause-reads : goal.returns-in_default-clause-reads
-returns-in_default-clause-reads g c = λ z. (returns-in_default-clause-bytes g c z).reads
+returns-in_default-clause-reads g c = IfOk-weaker _ _ _ reads-of (returns-in_default-clause-bytes g c)
 
-pub make-p-requires : goal.make-p-requires
-make-p-requires g c =
-    let holds = c.in-Bytes.ensures.held.holds in
-    (c.loop-turns.invariant.reads.sound, holds.1)
+pub returns-in_default-clause-written : goal.returns-in_default-clause-written
+returns-in_default-clause-written g c =
+    written-by _ _ _ _ _ _ _ c.end_of_input.result (returns-in_default-clause-bytes g c) (λ f z. read-failed _ _ _ _ _ _ _ _ _ _ c.loop-turn.invariant.reads)
 
-pub overflow_add-total : goal.overflow_add-total
-overflow_add-total g c =
-    omega (arith, c.loop-turns.invariant.small, c.make-p.ensures.room, c.make-p.auto.out, c.loop-turns.invariant.same_out, c.requires.2, c.loop-turns-test.true)
-
-pub send-is_written-requires : goal.send-is_written-requires
-send-is_written-requires g c =
-    omega (arith, ap (λ (o : Output). o.length) c.output_of.ensures, c.make-p.ensures.room)
-
-pub returns-then-is_written-p-clause-bytes : goal.returns-then-is_written-p-clause-bytes
-returns-then-is_written-p-clause-bytes g c =
-    let more = c.more-f in
+pub returns-then-is_err-p-clause-bytes : goal.returns-then-is_err-p-clause-bytes
+returns-then-is_err-p-clause-bytes g c =
+    let more = c.more-came in
     let p = c.make-p in
-    let kept = reading-kept _ _ _ _ _ _ _ _ _ _ _ c.loop-turns.invariant.reads more.ensures.held.stay more.auto.buf in
-    let came = c.in-Bytes.ensures in
-    piece-ended _ _ _ _ _ _ _ _ p.result c.send-is_written.result _ c.end_of_piece.ensures
-    (λ w. reading-more _ _ _ _ _ _ _ _ _ _ kept _ came.held.holds.0 _ _ _ _ _ p.ensures _ _ came.bytes
-    (sent _ p.result _ _ _ _ c.output_of.ensures c.send-is_written.ensures.to_output w))
-    p.ensures.waits p.ensures.goes c.if-is_written-p.true
+    let kept = reading-kept _ _ _ _ _ _ _ _ _ _ _ c.loop-turn.invariant.reads more.ensures.held.stay more.auto.buf in
+    let is : more.result ≡ Ok (Some c.in-Ok-Some.n) = c.in-Ok-Some.is ∙ ap Ok (rw c.in-Ok-Some.is at c.in-Ok-Some.field-0-is) in
+    let holds = (subst (FillsMore _ _ _ _) is more.ensures.held).holds in
+    rw c.send-sent.ensures.input
+    (piece-ended _ _ _ _ _ _ _ _ p.result c.send-sent.result _ c.end_of_piece.ensures
+    (λ w. reading-more _ _ _ _ _ _ _ _ _ _ kept _ holds.0 _ _ _ _ _ p.ensures _ _ (subst (Comes _ _ _ _) is more.ensures.bytes)
+    (sent _ p.result _ c.send-sent.result _ _ c.output_of.ensures c.send-sent.ensures.to_output w))
+    p.ensures.waits p.ensures.goes (rw (← c.is_err.ensures.value) c.if-is_err-p.true))
 
-pub returns-then-is_written-p-clause-reads : goal.returns-then-is_written-p-clause-reads
-returns-then-is_written-p-clause-reads g c = λ z. (returns-then-is_written-p-clause-bytes g c z).reads
+pub returns-then-is_err-p-clause-reads : goal.returns-then-is_err-p-clause-reads
+returns-then-is_err-p-clause-reads g c = IfOk-weaker _ _ _ reads-of (returns-then-is_err-p-clause-bytes g c)
 
-pub loop-turns-preserved : goal.loop-turns-preserved
-loop-turns-preserved g c =
-    let more = c.more-f in
+pub returns-then-is_err-p-clause-written : goal.returns-then-is_err-p-clause-written
+returns-then-is_err-p-clause-written g c =
+    let more = c.more-came in
     let p = c.make-p in
-    let inv = c.loop-turns.invariant in
+    let kept = reading-kept _ _ _ _ _ _ _ _ _ _ _ c.loop-turn.invariant.reads more.ensures.held.stay more.auto.buf in
+    let is : more.result ≡ Ok (Some c.in-Ok-Some.n) = c.in-Ok-Some.is ∙ ap Ok (rw c.in-Ok-Some.is at c.in-Ok-Some.field-0-is) in
+    let holds = (subst (FillsMore _ _ _ _) is more.ensures.held).holds in
+    written-by _ _ _ _ _ _ _ c.end_of_piece.result (returns-then-is_err-p-clause-bytes g c)
+    (send-failed _ _ _ _ _ _ _ _ _ _ kept _ holds.0 _ _ _ _ p.result p.ensures _ _ (subst (Comes _ _ _ _) is more.ensures.bytes) c.send-sent.result _ _
+    c.end_of_piece.ensures (sent-piece _ p.result _ c.send-sent.result _ _ c.output_of.ensures c.send-sent.ensures.to_output))
+
+pub returns-clause-written : goal.returns-clause-written
+returns-clause-written g c = read-failed _ _ _ _ _ _ _ _ _ _ c.loop-turn.invariant.reads
+
+pub loop-turn-preserved : goal.loop-turn-preserved
+loop-turn-preserved g c =
+    let more = c.more-came in
+    let p = c.make-p in
+    let inv = c.loop-turn.invariant in
     let kept = reading-kept _ _ _ _ _ _ _ _ _ _ _ inv.reads more.ensures.held.stay more.auto.buf in
-    let came = c.in-Bytes.ensures in
-    let s = or-both (not c.send-is_written.result) p.result.stopped c.if-is_written-p.false in
+    let is : more.result ≡ Ok (Some c.in-Ok-Some.n) = c.in-Ok-Some.is ∙ ap Ok (rw c.in-Ok-Some.is at c.in-Ok-Some.field-0-is) in
+    let holds = (subst (FillsMore _ _ _ _) is more.ensures.held).holds in
+    let s = or-both c.is_err.result p.result.stopped c.if-is_err-p.false in
     record {
-      same-words = p.auto.ws ∙ inv.same-words;
       room = p.auto.buf ∙ more.auto.buf ∙ inv.room;
-      same_out = p.auto.out ∙ inv.same_out;
-      reads = reading-more _ _ _ _ _ _ _ _ _ _ kept _ came.held.holds.0 _ _ _ _ _ p.ensures _ _ came.bytes
-          (sent _ p.result _ _ _ _ c.output_of.ensures c.send-is_written.ensures.to_output (not-not _ s.0));
+      reads = rw c.send-sent.ensures.input (reading-more _ _ _ _ _ _ _ _ _ _ kept _ holds.0 _ _ _ _ _ p.ensures _ _ (subst (Comes _ _ _ _) is more.ensures.bytes)
+          (sent _ p.result _ c.send-sent.result _ _ c.output_of.ensures c.send-sent.ensures.to_output (sym c.is_err.ensures.value ∙ s.0)));
       waits = λ z. rw s.1 at (p.ensures.waits z);
-      small = omega (arith, inv.small, p.ensures.room, p.auto.out, inv.same_out, c.requires.2, c.loop-turns-test.true);
+      small = omega (arith, inv.small, p.ensures.room, p.auto.out, c.requires.1);
     }

@@ -1,5 +1,5 @@
 -- A piece of standard input, and what its entries leave and write. Assumes nothing.
-use Rattle.std.specs.Prelude.{ℕ, ◌+◌, ◌≤◌, ◌≡◌, Bool, true, false, List, [], length, take}
+use Rattle.std.specs.Prelude.{ℕ, ◌+◌, ◌≤◌, ◌≡◌, Bool, true, false, List, [], None, Some, Ok, Err, length, take}
 use Rattle.fields.specs.Put.{put}
 use Rattle.ledger.specs.Books.{book}
 use Rattle.ledger.specs.Sound.{sound_ledger}
@@ -8,21 +8,20 @@ use Rattle.journal.specs.Journal.{Entry, parse, after_entries}
 use Rattle.journal.specs.EntryCalls.{ledger_after_entries}
 use Rattle.entries.specs.declared.run.Ran.{Ran}
 use Rattle.entries.specs.parts.Running.{behind, FirstMade, NoneLeft}
-use Rattle.input.specs.declared.Filled as filled
-use Rattle.input.specs.declared.Filled.TheVariants as filled-as
+use Rattle.input.specs.Filled.{Filled}
 use Rattle.replay.specs.declared.Wanted.{Wanted}
 use Rattle.streams.specs.declared.pieces.Piece.{Piece}
 use Rattle.replay.specs.Reading.{written_of}
 
 -- a buffer of so many bytes, of which some were held before, holds no fewer than before, and no more than it has; where entries are left to be
 -- made the input does not end
-abbrev pub HoldsMore : ℕ → Bool → ℕ → filled.Filled → Type 0
-HoldsMore have full room (filled-as.Bytes n) = (have ≤ n) × (n ≤ room)
-HoldsMore have full room filled-as.Ended = full ≡ false
-HoldsMore have full room (filled-as.Failed e) = Unit {0}
+abbrev pub HoldsMore : ℕ → Bool → ℕ → Filled → Type 0
+HoldsMore have full room (Ok (Some n)) = (have ≤ n) × (n ≤ room)
+HoldsMore have full room (Ok None) = full ≡ false
+HoldsMore have full room (Err e) = Unit {0}
 
 -- a read, or none where entries are left to be made: the bytes held before stay
-pub record FillsMore (have : ℕ) (full : Bool) (before after : List ℕ) (r : filled.Filled) : Type 0 where
+pub record FillsMore (have : ℕ) (full : Bool) (before after : List ℕ) (r : Filled) : Type 0 where
   pub stay : take have after ≡ take have before
   pub holds : HoldsMore have full (length after) r
 
