@@ -26,6 +26,7 @@ fn read_input<R: Read>(reader: &mut R, buf: &mut [u8]) -> Input
     ensures bytes { Took (take result.length buf.new) (R.remaining reader.old) (R.remaining reader.new) result.last }
 {
     let mut have = 0;
+    // A `while`, since `have` grows by what a read brought, and a read may end it.
     while have < buf.len() {
         match input::fill(reader, buf, have) {
             Ok(Some(n)) => have = n,

@@ -18,11 +18,9 @@ use Rattle.records.specs.Layout.{record_at, records_from, is_rsp, is_sup}
 use Rattle.records.proofs.LayoutLaws.{records-step, records-end, length-records}
 use Rattle.file.specs.File.{records, printable, is_header, good_record, headed, Group, leading, groups, asks_id, detail_of, unfit, line1, line2, form_of}
 use Rattle.file.specs.parts.Walk.{records_after, group_at, pair_form}
-use Rattle.records.specs.declared.Notification.{Notification}
 use Rattle.records.specs.declared.Notification.TheVariants.{Response, Supplement}
-use Rattle.rules.specs.declared.ErrorCode.{ErrorCode}
 use Rattle.rules.specs.declared.ErrorCode.TheVariants.{Br17, Br19}
-use Rattle.std.specs.Prelude.{Result, Ok, Err}
+use Rattle.std.specs.Prelude.{Ok, Err}
 
 -- ---- the check
 -- one byte more

@@ -1,17 +1,14 @@
 -- Laws of rules in an order, and of the sum of four tiers. Assumes nothing.
 use mathlib.Core.Path.{◌≡◌, refl}
-use mathlib.Core.Bool.{Bool, true, false, cond, not}
-use mathlib.Core.List.{List, [], ◌∷◌, ◌++◌}
+use mathlib.Core.Bool.{true, false, not}
 use Prim.Native.Nat.{ℕ, ◌+◌}
 use native.Mathlib.Omega.{arith}
 use lib.Dec.{eqb}
 use Rattle.fields.specs.Field.{bad}
 use Rattle.units.specs.declared.Rate.{Rate}
-use Rattle.rules.specs.Rules.{Rule, rule, first}
 use Rattle.records.specs.declared.Tiers.{Tiers}
 use Rattle.verdict.specs.Lines.{rate_of, misses}
-use Rattle.std.specs.Prelude.{Option, Some, None, Result, Ok, Err, ⊤}
-use Rattle.rules.specs.declared.ErrorCode.{ErrorCode}
+use Rattle.std.specs.Prelude.{Option, Some, None}
 
 -- ---- tier 1's rate, told from what was read
 pub rate-good : (f : Option ℕ) {r : Rate} → rate_of f ≡ Some r → bad f ≡ false
