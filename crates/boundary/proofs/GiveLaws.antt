@@ -33,10 +33,9 @@ use Rattle.journal.specs.Entries.{head_of}
 use Rattle.journal.specs.EntryCalls.{entry_called, entry_written}
 use Rattle.journal.specs.contracts.Body as declared
 use Rattle.journal.proofs.MadeLaws.{Taken}
-use Rattle.engine.specs.InWords.{words_left}
-use Rattle.engine.specs.parts.Calls.{CalledIn}
+use Rattle.engine.specs.parts.Calls.{CalledIn, FreshLeaves}
 use Rattle.entries.specs.parts.Stepping.{EntryCalledIn}
-use Rattle.boundary.specs.Boundary.{number_of, change_left, counts_left, Stores, Gives, fresh_in, entry_in, Leaves, head_called, head_written, head_found}
+use Rattle.boundary.specs.Boundary.{number_of, words_left, change_left, counts_left, Stores, Gives, fresh_in, entry_in, Leaves, head_called, head_written, head_found}
 use Rattle.std.specs.Prelude.{Result, Ok, Err, ⊤}
 use Rattle.rules.specs.declared.Cause.{Cause}
 use Rattle.rules.specs.declared.Cause.TheVariants.{BadArgument, BadEntry}
@@ -90,12 +89,17 @@ module _ (ws : List ℕ) (s : Start) where
   unfolding fresh_in
   fresh-short out e = rw (ne_eqb (length ws) ledger_size e) (refused-leaves ws out BadArgument)
 
+  -- the words are those of the ledger that it begins, or as they were
+  fresh-words : (ws₁ : List ℕ) (k : Called) (a : Result Returned Cause) → ledger_of ws₁ ≡ k.ledger → a ≡ k.answer → FreshLeaves holds_ledger ws ws₁ a
+      → ws₁ ≡ words_left ws k.ledger k.answer
+  fresh-words ws₁ k (Ok r) e f g = rw (sym f) (sym (words-ledger ws₁ g) ∙ ap ledger_words e)
+  fresh-words ws₁ k (Err n) e f g = rw (sym f) g
+
   pub fresh-leaves : length ws ≡ ledger_size → (out ws₁ : List ℕ) (a : Result Returned Cause) → ledger_of ws₁ ≡ (fresh_called (ledger_of ws) s).ledger
       → a ≡ (fresh_called (ledger_of ws) s).answer
-      → ws₁ ≡ words_left ws (fresh_called (ledger_of ws) s).ledger (fresh_called (ledger_of ws) s).answer
-      → Leaves (fresh_in ws s) [] ws out ws₁ out a
+      → FreshLeaves holds_ledger ws ws₁ a → Leaves (fresh_in ws s) [] ws out ws₁ out a
   fresh-leaves long out ws₁ a e f g =
-      rw (sym (fresh-long long)) (record { answer = f; words = g; ledger = e; bytes = put-nil out 0 })
+      rw (sym (fresh-long long)) (record { answer = f; words = fresh-words ws₁ (fresh_called (ledger_of ws) s) a e f g; ledger = e; bytes = put-nil out 0 })
 
 -- ---- any other call
 module _ (room : ℕ) (ws out s : List ℕ) where
@@ -156,7 +160,7 @@ module _ (room : ℕ) (ws out s : List ℕ) where
       go (Err n) q = sym (words-ledger ws₁ h₁) ∙ ap ledger_words (e ∙ f n q) ∙ words-ledger ws h
 
   -- words that hold one: what the engine left of a call
-  pub carried-leaves : (c : Call) → sound_ledger (ledger_of ws) ≡ true → (ws₁ out₁ : List ℕ) (a : Result Returned Cause) → CalledIn true c ws out ws₁ out₁ a
+  pub carried-leaves : (c : Call) → sound_ledger (ledger_of ws) ≡ true → (ws₁ out₁ : List ℕ) (a : Result Returned Cause) → CalledIn holds_ledger ledger_of true c ws out ws₁ out₁ a
       → Leaves (called (ledger_of ws) c) (step_in (ledger_of ws) c).written ws out ws₁ out₁ a
   carried-leaves c h ws₁ out₁ a m =
       record {

@@ -4,7 +4,7 @@ use Rattle.fields.specs.Put.{put, part}
 use Rattle.units.specs.Calendar.{date_of}
 use Rattle.ledger.specs.declared.Identity.{Identity}
 use Rattle.ledger.specs.declared.Ledger.{Ledger}
-use Rattle.words.specs.Layout.{ledger_of, ledger_size}
+use Rattle.words.specs.Layout.{ledger_of, ledger_size, ledger_words}
 use Rattle.causes.specs.declared.Start.{Start}
 use Rattle.causes.specs.declared.Request.{Request}
 use Rattle.causes.specs.declared.CalendarRequest.{CalendarRequest}
@@ -18,7 +18,6 @@ use Rattle.journal.specs.declared.Body.TheVariants as body
 use Rattle.journal.specs.declared.Head.{Head}
 use Rattle.journal.specs.declared.Head.TheVariants.{Cut, Bad, Whole}
 use Rattle.journal.specs.EntryCalls.{entry_called, entry_written}
-use Rattle.engine.specs.InWords.{words_left}
 use Rattle.table.specs.Table.{printed_by, printed}
 use Rattle.units.specs.declared.Date.{Date}
 use Rattle.rules.specs.declared.Cause.{Cause}
@@ -66,6 +65,10 @@ number_left x (Err c) = x
 
 -- "changed only by a call that succeeds": the words of the ledger that it leaves (words_left), the signed change, and the counts: bytes written,
 -- groups accepted and rejected, bills closed; else each lent buffer holds what it held
+abbrev pub words_left : List ℕ → Ledger → Result Returned Cause → List ℕ
+words_left ws l (Ok r) = ledger_words l
+words_left ws l (Err n) = ws
+
 abbrev pub change_left : ℤ → Result Returned Cause → ℤ
 change_left x (Ok r) = r.change
 change_left x (Err n) = x

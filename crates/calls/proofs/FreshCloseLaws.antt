@@ -22,7 +22,7 @@ use Rattle.rules.proofs.ListLaws.{all-on}
 use Rattle.ledger.proofs.SoundLaws.{facts-sound}
 use Rattle.rules.specs.Rules.{first}
 use Rattle.rules.proofs.RuleLaws.{clear-off}
-use Rattle.groups.proofs.FileSound.{count-step}
+use Rattle.calls.proofs.FileSound.{count-step}
 use Rattle.causes.specs.declared.Start.{Start}
 use Rattle.causes.specs.Causes.{close, is_number, start_tests, fresh_causes}
 use Rattle.calls.specs.Machine.{fresh, next, next_written, next_verdicts, next_closed, outcome, cause_in, step_in, left_by, answer_by, called}

@@ -1,4 +1,6 @@
 -- Laws that belong to no one function.
+pub mod SoundKept
+pub mod FileSound
 pub mod CallLaws
 pub mod NextSound
 pub mod RunLaws

@@ -28,7 +28,7 @@ use Rattle.file.proofs.WalkLaws.{has-append}
 use Rattle.rules.specs.Rules.{first}
 use Rattle.group.specs.Groups.{sought_in}
 use Rattle.group.proofs.GroupWalk.{length-update}
-use Rattle.groups.proofs.FileSound.{bills-kept, distinct-kept, next_up, file-sound}
+use Rattle.calls.proofs.FileSound.{bills-kept, distinct-kept, next_up, file-sound}
 use Rattle.causes.specs.declared.CodeField.{CodeField}
 use Rattle.causes.specs.declared.Request.{Request}
 use Rattle.causes.specs.Causes.{five_of, Call, request, calendar, file, cancel, close, removal, request_tests, causes, worked_out}

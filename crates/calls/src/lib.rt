@@ -1,10 +1,7 @@
-// The calls on a ledger by value, and what they answer.
+// What a call leaves and answers.
 #![tactic(auto)]
 
 pub mod carried_out;
-pub mod days;
-pub mod files;
-pub mod removals;
 
 use ledger::Ledger;
 use rules::Cause;

@@ -19,7 +19,7 @@ use units::Date;
 pub fn fresh(ledger: &mut Ledger, s: Start) -> Result<Returned, Cause>
     ensures { (ledger.new ≡ (fresh_called ledger.old s).ledger) × (result ≡ (fresh_called ledger.old s).answer) }
 {
-    let c = calls::days::fresh(*ledger, s);
+    let c = by_value::fresh(*ledger, s);
     *ledger = c.ledger;
     c.answer
 }
@@ -28,7 +28,7 @@ pub fn fresh(ledger: &mut Ledger, s: Start) -> Result<Returned, Cause>
 pub fn close_day(ledger: &mut Ledger, d: Date) -> Result<Returned, Cause>
     ensures { (ledger.new ≡ (called ledger.old (close d)).ledger) × (result ≡ (called ledger.old (close d)).answer) }
 {
-    let c = calls::days::close_day(*ledger, d);
+    let c = by_value::close_day(*ledger, d);
     *ledger = c.ledger;
     c.answer
 }
@@ -37,7 +37,7 @@ pub fn close_day(ledger: &mut Ledger, d: Date) -> Result<Returned, Cause>
 pub fn remove_account(ledger: &mut Ledger, a: AccountRemoval) -> Result<Returned, Cause>
     ensures { (ledger.new ≡ (called ledger.old (removal a)).ledger) × (result ≡ (called ledger.old (removal a)).answer) }
 {
-    let c = calls::removals::remove_account(*ledger, a);
+    let c = by_value::remove_account(*ledger, a);
     *ledger = c.ledger;
     c.answer
 }
@@ -46,7 +46,7 @@ pub fn remove_account(ledger: &mut Ledger, a: AccountRemoval) -> Result<Returned
 pub fn request_bill(ledger: &mut Ledger, r: Request, out: &mut [u8]) -> Result<Returned, Cause>
     ensures { LentLeaves ledger.old (request r (length out.old)) out.old ledger.new out.new result }
 {
-    let c = bill_calls::request_bill(*ledger, out, r);
+    let c = by_value::request_bill(*ledger, out, r);
     *ledger = c.ledger;
     c.answer
 }
@@ -60,7 +60,7 @@ pub fn request_by_calendar(
 ) -> Result<Returned, Cause>
     ensures { LentLeaves ledger.old (calendar q holidays.now (length out.old)) out.old ledger.new out.new result }
 {
-    let c = bill_calls::request_by_calendar(*ledger, out, q, holidays);
+    let c = by_value::request_by_calendar(*ledger, out, q, holidays);
     *ledger = c.ledger;
     c.answer
 }
@@ -69,7 +69,7 @@ pub fn request_by_calendar(
 pub fn cancel_bill(ledger: &mut Ledger, id: Identity, out: &mut [u8]) -> Result<Returned, Cause>
     ensures { LentLeaves ledger.old (cancel id (length out.old)) out.old ledger.new out.new result }
 {
-    let c = bill_calls::cancel_bill(*ledger, out, id);
+    let c = by_value::cancel_bill(*ledger, out, id);
     *ledger = c.ledger;
     c.answer
 }
@@ -78,7 +78,7 @@ pub fn cancel_bill(ledger: &mut Ledger, id: Identity, out: &mut [u8]) -> Result<
 pub fn take_file(ledger: &mut Ledger, s: &[u8], out: &mut [u8]) -> Result<Returned, Cause>
     ensures { LentLeaves ledger.old (file s.now (length out.old)) out.old ledger.new out.new result }
 {
-    let c = calls::files::take_file(*ledger, out, s);
+    let c = by_value::take_file(*ledger, out, s);
     *ledger = c.ledger;
     c.answer
 }
@@ -87,12 +87,12 @@ pub fn take_file(ledger: &mut Ledger, s: &[u8], out: &mut [u8]) -> Result<Return
 pub fn open_bill_of(ledger: &Ledger, account: u64) -> Result<usize, Cause>
     ensures { result ≡ open_in ledger.now account }
 {
-    lookups::open_bill_of(*ledger, account)
+    lookups::open_bill_of(&places::by_value::lend(*ledger), account)
 }
 
 // The amounts of the bill with this identity.
 pub fn amounts_of(ledger: &Ledger, id: Identity) -> Result<Amounts, Cause>
     ensures { result ≡ amounts_in ledger.now id }
 {
-    lookups::amounts_of(*ledger, id)
+    lookups::amounts_of(&places::by_value::lend(*ledger), id)
 }

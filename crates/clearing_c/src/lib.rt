@@ -208,7 +208,7 @@ pub fn clearing_open_bill(ledger: &[u64], account: u64, place: &mut u64) -> u64
     ensures value { result ≡ number_of (open_in (ledger_of ledger.now) account) }
     ensures place_after { place.new ≡ number_left place.old (open_in (ledger_of ledger.now) account) }
 {
-    let found = lookups_in_words::open_bill_in(ledger, account);
+    let found = lookups::open_bill_of(ledger, account);
     match found {
         Ok(p) => {
             *place = p as u64;
@@ -223,7 +223,7 @@ pub fn clearing_amounts(ledger: &[u64], account: u64, key: u64, amounts: &mut [u
     ensures value { result ≡ number_of (amounts_in (ledger_of ledger.now) (identity_from account key)) }
     ensures amounts_after { amounts.new ≡ amounts_left amounts.old (amounts_in (ledger_of ledger.now) (identity_from account key)) }
 {
-    let found = lookups_in_words::amounts_in(ledger, Identity { account, key });
+    let found = lookups::amounts_of(ledger, Identity { account, key });
     match found {
         Ok(a) => {
             let all = [a.charge.0, a.applied.0, a.owed.0];
@@ -238,7 +238,7 @@ pub fn clearing_amounts(ledger: &[u64], account: u64, key: u64, amounts: &mut [u
 pub fn clearing_ledger_table(ledger: &[u64], out: &mut [u8], written: &mut u64) -> u64
     ensures { Prints (ledger_of ledger.now) out.old written.old out.new written.new result }
 {
-    let p = table_in_words::print_words(out, ledger, false);
+    let p = table::print(out, ledger, false);
     match p {
         Ok(n) => {
             *written = n as u64;

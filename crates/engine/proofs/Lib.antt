@@ -1,4 +1,4 @@
 -- Laws that belong to no one function.
-pub mod WordCalls
-pub mod DueInWords
-pub mod WordRemovals
+pub mod LentCalls
+pub mod LentDue
+pub mod LentRemovals

@@ -1,3 +1,2 @@
--- A ledger lent as words and changed in place.
-pub mod InWords
+-- A lent ledger, changed in place.
 pub mod parts

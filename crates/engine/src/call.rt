@@ -1,15 +1,13 @@
-// The calls on a ledger that is lent as words and known to be sound: each does what the call by value does, and writes its notices if it is asked to.
+// The calls on a lent ledger that is known to be sound: each does what the call by value does, and writes its notices if it is asked to.
 ghost use Rattle.std.specs.Prelude.{◌≡◌, true, ◌+◌, ◌≤◌, length, take};
 ghost use Rattle.rules.specs.Lists.{count};
 ghost use Rattle.ledger.specs.Sound.{sound_ledger};
-ghost use Rattle.words.specs.Layout.{holds_ledger, ledger_of, ledger_size};
 ghost use Rattle.causes.specs.Causes.{request, calendar, cancel, close, removal, file};
 ghost use Rattle.causes.specs.Requests.{closes};
 ghost use Rattle.causes.specs.parts.Decisions.{as_call};
 ghost use Rattle.calls.specs.Machine.{called};
 ghost use Rattle.calls.specs.Days.{fresh_called};
-ghost use Rattle.engine.specs.InWords.{words_left};
-ghost use Rattle.engine.specs.parts.Calls.{CalledIn};
+ghost use Rattle.engine.specs.parts.Calls.{CalledIn, FreshLeaves};
 ghost use Rattle.ledger.specs.Limits.{ledger_places};
 
 use crate::file_groups;
@@ -17,145 +15,146 @@ use calls::Returned;
 use causes::{AccountRemoval, BillCall, CalendarRequest, Request, Start, by_calendar, checks};
 use decisions::{notice, requests};
 use ledger::{Identity, LedgerHeader};
+use places::holder::Holder;
 use places::{accounts, place};
 use rules::Cause;
 use units::Date;
 
 // A request or a cancel: its bill found, the call decided, and what that leaves stored.
-fn bill_call_in(
-    ws: &mut [u64],
+pub fn bill_call_in<T: Holder>(
+    lent: &mut [T],
     out: &mut [u8],
     writes: bool,
     room: usize,
     c: BillCall,
 ) -> Result<Returned, Cause>
-    requires { (sound_ledger (ledger_of ws.old) ≡ true) × (writes ≡ true → room ≤ length out.old) }
-    ensures { CalledIn writes (as_call c room) ws.old out.old ws.new out.new result }
+    requires { (sound_ledger (T.held lent.old) ≡ true) × (writes ≡ true → room ≤ length out.old) }
+    ensures { CalledIn T.holds T.held writes (as_call c room) lent.old out.old lent.new out.new result }
 {
-    let h = place::header(ws);
+    let h = T::header(lent);
     let count = h.count;
-    let f = place::find(ws, count, requests::call_identity(c));
+    let f = place::find(lent, count, requests::call_identity(c));
     let p = ledger::books::bill_place(f, count);
-    let b = place::bill_at(ws, p);
+    let b = T::bill_at(lent, p);
     let u = requests::decide(c, room, h, f, b)?;
     let change = requests::change_of(c, b);
     let k = u.bill;
     notice::put(out, writes, c, h, f, b, k);
-    place::update(ws, p, u);
+    place::update(lent, p, u);
     calls::carried_out::noticed(change)
 }
 
 // The call request.
-pub fn request_in(
-    ws: &mut [u64],
+pub fn request_in<T: Holder>(
+    lent: &mut [T],
     out: &mut [u8],
     writes: bool,
     room: usize,
     r: Request,
 ) -> Result<Returned, Cause>
-    requires { (sound_ledger (ledger_of ws.old) ≡ true) × (writes ≡ true → room ≤ length out.old) }
-    ensures { CalledIn writes (request r room) ws.old out.old ws.new out.new result }
+    requires { (sound_ledger (T.held lent.old) ≡ true) × (writes ≡ true → room ≤ length out.old) }
+    ensures { CalledIn T.holds T.held writes (request r room) lent.old out.old lent.new out.new result }
 {
-    bill_call_in(ws, out, writes, room, BillCall::Request(r))
+    bill_call_in(lent, out, writes, room, BillCall::Request(r))
 }
 
 // The call request that leaves its Scheduled Date to the calendar: the request with the date worked out.
-pub fn calendar_in(
-    ws: &mut [u64],
+pub fn calendar_in<T: Holder>(
+    lent: &mut [T],
     out: &mut [u8],
     writes: bool,
     room: usize,
     q: CalendarRequest,
     holidays: &[u64],
 ) -> Result<Returned, Cause>
-    requires { (sound_ledger (ledger_of ws.old) ≡ true) × (writes ≡ true → room ≤ length out.old) }
-    ensures { CalledIn writes (calendar q holidays.now room) ws.old out.old ws.new out.new result }
+    requires { (sound_ledger (T.held lent.old) ≡ true) × (writes ≡ true → room ≤ length out.old) }
+    ensures { CalledIn T.holds T.held writes (calendar q holidays.now room) lent.old out.old lent.new out.new result }
 {
-    let h = place::header(ws);
+    let h = T::header(lent);
     let day = by_calendar::due_day(q, holidays, h.today)?;
     let r = by_calendar::on_date(q.request, day);
-    request_in(ws, out, writes, room, r)
+    request_in(lent, out, writes, room, r)
 }
 
 // The call cancel.
-pub fn cancel_in(
-    ws: &mut [u64],
+pub fn cancel_in<T: Holder>(
+    lent: &mut [T],
     out: &mut [u8],
     writes: bool,
     room: usize,
     id: Identity,
 ) -> Result<Returned, Cause>
-    requires { (sound_ledger (ledger_of ws.old) ≡ true) × (writes ≡ true → room ≤ length out.old) }
-    ensures { CalledIn writes (cancel id room) ws.old out.old ws.new out.new result }
+    requires { (sound_ledger (T.held lent.old) ≡ true) × (writes ≡ true → room ≤ length out.old) }
+    ensures { CalledIn T.holds T.held writes (cancel id room) lent.old out.old lent.new out.new result }
 {
-    bill_call_in(ws, out, writes, room, BillCall::Cancel(id))
+    bill_call_in(lent, out, writes, room, BillCall::Cancel(id))
 }
 
 // The file call.
-pub fn file_in(
-    ws: &mut [u64],
+pub fn file_in<T: Holder>(
+    lent: &mut [T],
     out: &mut [u8],
     writes: bool,
     room: usize,
     s: &[u8],
 ) -> Result<Returned, Cause>
-    requires { (sound_ledger (ledger_of ws.old) ≡ true) × (writes ≡ true → room ≤ length out.old) }
-    ensures { CalledIn writes (file s.now room) ws.old out.old ws.new out.new result }
+    requires { (sound_ledger (T.held lent.old) ≡ true) × (writes ≡ true → room ≤ length out.old) }
+    ensures { CalledIn T.holds T.held writes (file s.now room) lent.old out.old lent.new out.new result }
 {
-    let h = place::header(ws);
+    let h = T::header(lent);
     checks::file_check(s, room, h.tracking, h.confirmation)?;
-    let c = file_groups::take(ws, out, writes, s, s.len() / records::RECORD_SIZE);
+    let c = file_groups::take(lent, out, writes, s, s.len() / records::RECORD_SIZE);
     calls::carried_out::cleared(c)
 }
 
 // How many of the first n bills a close closes.
-fn closed_by(ws: &[u64], n: usize, old: Date, new: Date) -> u64
-    requires { (holds_ledger ws.now ≡ true) × (n ≤ ledger_places) }
-    ensures { result ≡ count (closes old new) (take n (ledger_of ws.now).bills) }
+fn closed_by<T: Holder>(lent: &[T], n: usize, old: Date, new: Date) -> u64
+    requires { (T.holds lent.now ≡ true) × (n ≤ ledger_places) }
+    ensures { result ≡ count (closes old new) (take n (T.held lent.now).bills) }
 {
     (0..n)
-        .map(|i| checks::one_closed(place::bill_at(ws, i), old, new))
+        .map(|i| checks::one_closed(T::bill_at(lent, i), old, new))
         .sum()
 }
 
 // The call close.
-pub fn close_in(ws: &mut [u64], d: Date) -> Result<Returned, Cause>
-    requires { sound_ledger (ledger_of ws.old) ≡ true }
-    ensures { (holds_ledger ws.new ≡ true) × (ledger_of ws.new ≡ (called (ledger_of ws.old) (close d)).ledger) × (result ≡ (called (ledger_of ws.old) (close d)).answer) }
+pub fn close_in<T: Holder>(lent: &mut [T], d: Date) -> Result<Returned, Cause>
+    requires { sound_ledger (T.held lent.old) ≡ true }
+    ensures { (T.holds lent.new ≡ true) × (T.held lent.new ≡ (called (T.held lent.old) (close d)).ledger) × (result ≡ (called (T.held lent.old) (close d)).answer) }
 {
-    let h = place::header(ws);
+    let h = T::header(lent);
     let today = h.today;
     checks::close_check(d, today)?;
-    let closed = closed_by(ws, h.count, today, d);
+    let closed = closed_by(lent, h.count, today, d);
     let next = LedgerHeader {
         today: d,
         tracking: h.tracking,
         confirmation: h.confirmation,
         count: h.count,
     };
-    place::put_header(ws, next);
+    T::put_header(lent, next);
     calls::carried_out::quiet(closed)
 }
 
 // The call removal: the date is set where the bills of the account stand.
-pub fn removal_in(ws: &mut [u64], a: AccountRemoval) -> Result<Returned, Cause>
-    requires { sound_ledger (ledger_of ws.old) ≡ true }
-    ensures { (holds_ledger ws.new ≡ true) × (ledger_of ws.new ≡ (called (ledger_of ws.old) (removal a)).ledger) × (result ≡ (called (ledger_of ws.old) (removal a)).answer) }
+pub fn removal_in<T: Holder>(lent: &mut [T], a: AccountRemoval) -> Result<Returned, Cause>
+    requires { sound_ledger (T.held lent.old) ≡ true }
+    ensures { (T.holds lent.new ≡ true) × (T.held lent.new ≡ (called (T.held lent.old) (removal a)).ledger) × (result ≡ (called (T.held lent.old) (removal a)).answer) }
 {
-    let h = place::header(ws);
+    let h = T::header(lent);
     let count = h.count;
-    let held = accounts::has_account(ws, count, a.account);
+    let held = accounts::has_account(lent, count, a.account);
     checks::removal_check(a, held)?;
-    accounts::remove(ws, count, a.account, a.date);
+    accounts::remove(lent, count, a.account, a.date);
     calls::carried_out::quiet(0)
 }
 
-// Fresh: whatever the words held is gone; a fresh that is refused leaves each as it was.
-pub fn fresh_in(ws: &mut [u64], s: Start) -> Result<Returned, Cause>
-    requires { length ws.old ≡ ledger_size }
-    ensures { (ledger_of ws.new ≡ (fresh_called (ledger_of ws.old) s).ledger) × (result ≡ (fresh_called (ledger_of ws.old) s).answer) × (ws.new ≡ words_left ws.old (fresh_called (ledger_of ws.old) s).ledger (fresh_called (ledger_of ws.old) s).answer) }
+// Fresh: whatever was held is gone; a fresh that is refused leaves everything as it was.
+pub fn fresh_in<T: Holder>(lent: &mut [T], s: Start) -> Result<Returned, Cause>
+    requires { T.sized lent.old ≡ true }
+    ensures { (T.held lent.new ≡ (fresh_called (T.held lent.old) s).ledger) × (result ≡ (fresh_called (T.held lent.old) s).answer) × FreshLeaves T.holds lent.old lent.new result }
 {
     checks::fresh_check(s)?;
-    words::write_empty(ws, s.today.0, s.tracking, s.confirmation);
+    T::put_empty(lent, s.today, s.tracking, s.confirmation);
     calls::carried_out::quiet(0)
 }

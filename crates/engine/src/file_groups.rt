@@ -1,36 +1,43 @@
-// A file's groups on a ledger that is lent as words: each decided, answered and posted in its place.
+// A file's groups on a lent ledger: each decided, answered and posted in its place.
 ghost use Rattle.std.specs.Prelude.{◌≡◌, true, ◌+◌, ◌-◌, ◌*◌, ◌≤◌, ◌<◌, length};
-ghost use Rattle.words.specs.Layout.{holds_ledger, ledger_of};
 ghost use Rattle.records.specs.Layout.{records_from};
 ghost use Rattle.file.specs.File.{groups};
 ghost use Rattle.group.specs.parts.Turns.{Ready, FitForTurn, TurnLeavesOn, FileTaken};
 ghost use Rattle.records.specs.Limits.{record_size, file_records};
 
 use group::{GroupAt, Tally};
+use places::holder::Holder;
 use places::place;
 
 // One group's turn: its bill found, the group decided and answered, and what that leaves stored.
-fn turn(ws: &mut [u64], out: &mut [u8], writes: bool, c: Tally, s: &[u8], g: GroupAt) -> Tally
+fn turn<T: Holder>(
+    lent: &mut [T],
+    out: &mut [u8],
+    writes: bool,
+    c: Tally,
+    s: &[u8],
+    g: GroupAt,
+) -> Tally
     requires header_lt_records { (g.header < g.records) × (g.records * record_size ≤ length s.now) × (g.records ≤ file_records) × (writes ≡ true → c.written + (g.records - g.header) * record_size ≤ length out.old) }
-    requires ws_value { (holds_ledger ws.old ≡ true) × FitForTurn (ledger_of ws.old) c }
-    ensures { (holds_ledger ws.new ≡ true) × TurnLeavesOn s.now g.header g.records g.duplicate (ledger_of ws.old) c writes out.old (ledger_of ws.new) out.new result }
+    requires ws_value { (T.holds lent.old ≡ true) × FitForTurn (T.held lent.old) c }
+    ensures { (T.holds lent.new ≡ true) × TurnLeavesOn s.now g.header g.records g.duplicate (T.held lent.old) c writes out.old (T.held lent.new) out.new result }
 {
-    let h = place::header(ws);
+    let h = T::header(lent);
     let count = h.count;
-    let f = place::find(ws, count, group::identity_at(s, g.header, g.records));
+    let f = place::find(lent, count, group::identity_at(s, g.header, g.records));
     let p = ledger::books::bill_place(f, count);
-    let b = place::bill_at(ws, p);
+    let b = T::bill_at(lent, p);
     let x = group::turn(out, writes, c, s, g, h, f, b);
     let u = x.update;
-    place::update(ws, p, u);
+    place::update(lent, p, u);
     x.tally
 }
 
 // The groups of the first n records, in order, each on the ledger that the one before left.
-pub fn take(ws: &mut [u64], out: &mut [u8], writes: bool, s: &[u8], n: usize) -> Tally
+pub fn take<T: Holder>(lent: &mut [T], out: &mut [u8], writes: bool, s: &[u8], n: usize) -> Tally
     requires n_le_file_records { (n ≤ file_records) × (n * record_size ≤ length s.now) × (writes ≡ true → n * record_size ≤ length out.old) }
-    requires ws_value { (holds_ledger ws.old ≡ true) × Ready (ledger_of ws.old) }
-    ensures { (holds_ledger ws.new ≡ true) × FileTaken (ledger_of ws.old) (groups (records_from s.now 0 n)) writes out.old (ledger_of ws.new) out.new result }
+    requires ws_value { (T.holds lent.old ≡ true) × Ready (T.held lent.old) }
+    ensures { (T.holds lent.new ≡ true) × FileTaken (T.held lent.old) (groups (records_from s.now 0 n)) writes out.old (T.held lent.new) out.new result }
 {
     let marks = group::marks(s, n);
     let mut c = group::counts::none();
@@ -41,7 +48,7 @@ pub fn take(ws: &mut [u64], out: &mut [u8], writes: bool, s: &[u8], n: usize) ->
                 records: n,
                 duplicate: *duplicate,
             };
-            c = turn(ws, out, writes, c, s, g);
+            c = turn(lent, out, writes, c, s, g);
         }
     }
     c

@@ -17,7 +17,7 @@ use Rattle.journal.specs.EntryCalls.{entry_called, entry_written}
 use Rattle.journal.proofs.MadeLaws.{Taken, made-sound}
 use Rattle.entries.specs.declared.entry.Stepped.TheVariants as step
 use Rattle.entries.specs.parts.Stepping.{EntryCalledIn, SteppedIn}
-use Rattle.engine.proofs.WordCalls.{said-none}
+use Rattle.engine.proofs.LentCalls.{said-none}
 use Rattle.std.specs.Prelude.{Result, Err}
 use Rattle.rules.specs.declared.Cause.{Cause}
 use Rattle.calls.specs.declared.Returned.{Returned}

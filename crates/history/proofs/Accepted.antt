@@ -19,7 +19,7 @@ use Rattle.verdict.specs.Lines.{is_nothing, terms_of, line4, line5, line6, sent_
 use Rattle.group.specs.Groups.{notification_of, sought, lines_by, verdict_by}
 use Rattle.group.proofs.AcceptedLaws.{list_for, accepted-clear}
 use Rattle.rules.proofs.RuleLaws.{clear-off}
-use Rattle.groups.proofs.SoundKept.{alive}
+use Rattle.calls.proofs.SoundKept.{alive}
 use Rattle.std.specs.Prelude.{Option, Ok}
 use Rattle.ledger.specs.declared.Terms.{Terms}
 

@@ -19,7 +19,7 @@ use Rattle.file.specs.File.{Group, file_groups, asks_id, line3}
 use Rattle.rules.specs.Rules.{first}
 use Rattle.verdict.specs.Lines.{is_nothing, terms_of}
 use Rattle.group.specs.Groups.{identity_of, sought_in, sought, settled, answer, verdict_by, verdict_here, taken, answers, is_accepted}
-use Rattle.groups.proofs.FileSound.{confirmation-up, tracking-up, count-step}
+use Rattle.calls.proofs.FileSound.{confirmation-up, tracking-up, count-step}
 use Rattle.causes.specs.declared.Request.{Request}
 use Rattle.causes.specs.Causes.{Call, request, calendar, file, cancel, close, removal, causes, worked_out}
 use Rattle.calls.specs.Machine.{next, next_written, outcome, step, after, outcomes}

@@ -1,14 +1,15 @@
-// The two lookups: the open bill of an account that is due first, and the amounts of one bill.
+// The two lookups on a lent ledger: the open bill of an account that is due first, and the amounts of one bill.
 #![tactic(auto)]
 
-ghost use Rattle.std.specs.Prelude.{◌≡◌, ◌≤◌};
-ghost use Rattle.ledger.specs.Books.{live};
+ghost use Rattle.std.specs.Prelude.{◌≡◌, true, ◌≤◌, take};
 ghost use Rattle.lookups.specs.Lookups.{is_open_of, open_in, counted_by, amounts_in};
 ghost use Rattle.lookups.specs.parts.Walk.{none_due, due_with, due_after, place_due};
 ghost use Rattle.ledger.specs.Limits.{ledger_places};
 
 use causes::checks;
-use ledger::{Bill, Identity, Ledger, Posted};
+use ledger::{Bill, Identity, Posted};
+use places::holder::Holder;
+use places::place;
 use rules::Cause;
 use units::{Cents, Date};
 
@@ -20,6 +21,13 @@ pub struct Amounts {
     pub owed: Cents,
 }
 
+// The open bill due first among those that a walk has seen: its place and its Scheduled Date.
+#[derive(Clone, Copy)]
+pub struct Due {
+    pub place: usize,
+    pub date: Date,
+}
+
 pub fn is_open_of(b: Bill, account: u64, today: Date) -> bool
     ensures { result ≡ is_open_of account today b }
 {
@@ -27,80 +35,57 @@ pub fn is_open_of(b: Bill, account: u64, today: Date) -> bool
     (t.identity.account == account) & t.is_open(today)
 }
 
-// The open bill due first among those that a walk has seen, once there is one: its place and its Scheduled Date.
-#[derive(Clone, Copy)]
-pub struct DueFirst {
-    pub held: bool,
-    pub place: usize,
-    pub due: Date,
-}
-
-impl DueFirst {
-    // Before the first bill.
-    pub fn none() -> DueFirst
-        ensures { result ≡ none_due }
-    {
-        DueFirst {
-            held: false,
-            place: 0,
-            due: Date(0),
-        }
-    }
-
-    // After the bill at place p: of two that are due the same day, the one seen first is kept.
-    pub fn with(self, p: usize, b: Bill, account: u64, today: Date) -> DueFirst
-        ensures { result ≡ due_with account today p b self }
-    {
-        if !is_open_of(b, account, today) {
-            return self;
-        }
-        let t = b.terms;
-        let due = t.latest.scheduled;
-        let earliest = self.due;
-        if self.held & earliest.at_most(due) {
-            return self;
-        }
-        DueFirst {
-            held: true,
-            place: p,
-            due,
-        }
-    }
-
-    // Its place, or 4 if there is none.
-    pub fn answer(self) -> Result<usize, Cause>
-        ensures { result ≡ place_due self }
-    {
-        if self.held {
-            return Ok(self.place);
-        }
-        Err(Cause::NoSuchBill)
-    }
-}
-
-// The open bill of an account that is due first.
-fn due_first(l: Ledger, account: u64) -> DueFirst
-    requires { l.count ≤ ledger_places }
-    ensures { result ≡ due_after account l.today 0 none_due (live l) }
+// What is held after the bill at place p: of two that are due the same day, the one seen first is kept.
+pub fn due_with(first: Option<Due>, p: usize, b: Bill, account: u64, today: Date) -> Option<Due>
+    ensures { result ≡ due_with account today p b first }
 {
-    l.bills[..l.count].iter().enumerate().fold(
-        DueFirst::none(),
-        |first, (i, b)| first.with(i, *b, account, l.today),
-    )
+    if !is_open_of(b, account, today) {
+        return first;
+    }
+    let date = b.terms.latest.scheduled;
+    match first {
+        Some(held) if held.date.at_most(date) => first,
+        _ => Some(Due { place: p, date }),
+    }
+}
+
+// Its place, or 4 if there is none.
+pub fn place_due(first: Option<Due>) -> Result<usize, Cause>
+    ensures { result ≡ place_due first }
+{
+    match first {
+        Some(held) => Ok(held.place),
+        None => Err(Cause::NoSuchBill),
+    }
+}
+
+// The open bill of an account that is due first, of the first n.
+fn due_first<T: Holder>(lent: &[T], n: usize, account: u64, today: Date) -> Option<Due>
+    requires { (T.holds lent.now ≡ true) × (n ≤ ledger_places) }
+    ensures { result ≡ due_after account today 0 none_due (take n (T.held lent.now).bills) }
+{
+    let mut first = None;
+    // No fold over the places: in words it makes the lookup a fifth slower (128 bills: 5.0 us, and 4.2 by this loop).
+    for i in 0..n {
+        let b = T::bill_at(lent, i);
+        first = due_with(first, i, b, account, today);
+    }
+    first
 }
 
 // The place of the open bill of an account that is due first; of equals it is the one first requested.
-pub fn open_bill_of(l: Ledger, account: u64) -> Result<usize, Cause>
-    ensures { result ≡ open_in l account }
+pub fn open_bill_of<T: Holder>(lent: &[T], account: u64) -> Result<usize, Cause>
+    ensures { result ≡ open_in (T.held lent.now) account }
 {
-    if !sound_ledger::sound(l) {
+    if !places::checks::sound(lent) {
         return Err(Cause::BadArgument);
     }
     if ledger::ACCOUNT_END <= account {
         return Err(Cause::BadArgument);
     }
-    let first = due_first(l, account);
-    first.answer()
+    let h = T::header(lent);
+    let first = due_first(lent, h.count, account, h.today);
+    place_due(first)
 }
 
 // What the posted amounts count for.
@@ -115,20 +100,20 @@ pub fn counted(p: Posted) -> Amounts
 }
 
 // The amounts of the bill with this identity.
-pub fn amounts_of(l: Ledger, id: Identity) -> Result<Amounts, Cause>
-    ensures { result ≡ amounts_in l id }
+pub fn amounts_of<T: Holder>(lent: &[T], id: Identity) -> Result<Amounts, Cause>
+    ensures { result ≡ amounts_in (T.held lent.now) id }
 {
-    if !sound_ledger::sound(l) {
+    if !places::checks::sound(lent) {
         return Err(Cause::BadArgument);
     }
     if !checks::good_identity(id) {
         return Err(Cause::BadArgument);
     }
-    let f = l.find(id);
+    let h = T::header(lent);
+    let f = place::find(lent, h.count, id);
     let Some(p) = f else {
         return Err(Cause::NoSuchBill);
     };
-    let b = l.bills[p];
-    let posted = b.posted;
-    Ok(counted(posted))
+    let b = T::bill_at(lent, p);
+    Ok(counted(b.posted))
 }

@@ -14,30 +14,30 @@ use Rattle.ledger.specs.Books.{live}
 use Rattle.ledger.specs.parts.Places.{header_of}
 use Rattle.ledger.specs.Sound.{is_next, sound_bill, distinct, sound_ledger}
 use Rattle.ledger.proofs.SoundLaws.{walked, split}
-use Rattle.words.specs.Layout.{holds_ledger, ledger_of}
+use Rattle.ledger.specs.declared.Ledger.{Ledger}
 use Rattle.ledger.specs.Limits.{ledger_places}
-use Rattle.places.proofs.PartLaws.{places_of}
+use lib.ListN.{length}
 
 -- the test of a header
 abbrev pub header_test : LedgerHeader → Bool
 header_test h = is_date h.today.0 && is_next h.tracking && is_next h.confirmation && leb h.count ledger_places
 
-module _ (ws : List ℕ) (k : holds_ledger ws ≡ true) (h : LedgerHeader) (e : h ≡ header_of (ledger_of ws)) (g : Bool) (f : g ≡ header_test h) where
-  by-header : sound_ledger (ledger_of ws) ≡ (g && walked (live (ledger_of ws)))
-  by-header = split (ledger_of ws) (places_of ws k) ∙ ap (λ (b : Bool). b && walked (live (ledger_of ws))) (sym (f ∙ ap header_test e))
+module _ (l : Ledger) (k : length l.bills ≡ ledger_places) (h : LedgerHeader) (e : h ≡ header_of l) (g : Bool) (f : g ≡ header_test h) where
+  by-header : sound_ledger l ≡ (g && walked (live l))
+  by-header = split l k ∙ ap (λ (b : Bool). b && walked (live l)) (sym (f ∙ ap header_test e))
 
   -- a header that fails
-  pub bad-header : g ≡ false → false ≡ sound_ledger (ledger_of ws)
-  bad-header n = sym (by-header ∙ ap (λ (b : Bool). b && walked (live (ledger_of ws))) n)
+  pub bad-header : g ≡ false → false ≡ sound_ledger l
+  bad-header n = sym (by-header ∙ ap (λ (b : Bool). b && walked (live l)) n)
 
   -- one that passes: its count is in range, and the bills decide
   pub header-count : g ≡ true → h.count ≤ ledger_places
   header-count y = leb-true _ _ (and_right (is_date h.today.0 && is_next h.tracking && is_next h.confirmation) _ (sym f ∙ y))
 
-  pub good-header : g ≡ true → (b d : Bool) → b ≡ every sound_bill (take h.count (ledger_of ws).bills)
-      → d ≡ distinct (take h.count (ledger_of ws).bills) → (b && d) ≡ sound_ledger (ledger_of ws)
+  pub good-header : g ≡ true → (b d : Bool) → b ≡ every sound_bill (take h.count l.bills)
+      → d ≡ distinct (take h.count l.bills) → (b && d) ≡ sound_ledger l
   unfolding walked
   good-header y b d p q =
       ap₂ (λ (x z : Bool). x && z) p q
-      ∙ ap (λ (n : ℕ). every sound_bill (take n (ledger_of ws).bills) && distinct (take n (ledger_of ws).bills)) (ap (λ (t : LedgerHeader). t.count) e)
-      ∙ sym (by-header ∙ ap (λ (x : Bool). x && walked (live (ledger_of ws))) y)
+      ∙ ap (λ (n : ℕ). every sound_bill (take n l.bills) && distinct (take n l.bills)) (ap (λ (t : LedgerHeader). t.count) e)
+      ∙ sym (by-header ∙ ap (λ (x : Bool). x && walked (live l)) y)

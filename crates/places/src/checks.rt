@@ -1,12 +1,12 @@
-// The tests of a sound ledger, on a ledger that is lent as words: its header, each bill, and that no identity stands twice.
+// The tests of a sound ledger, of a lent ledger: its header, each bill, and that no identity stands twice.
 ghost use Rattle.std.specs.Prelude.{◌≡◌, true, ◌&&◌, ◌≤◌, ◌<◌, leb, take};
 ghost use Rattle.units.specs.Calendar.{is_date};
 ghost use Rattle.rules.specs.Lists.{every};
 ghost use Rattle.ledger.specs.Sound.{is_next, sound_bill, holds_id, distinct, sound_ledger};
-ghost use Rattle.words.specs.Layout.{holds_ledger, ledger_of};
 ghost use Rattle.ledger.specs.Limits.{ledger_places};
 ghost use Rattle.places.specs.parts.Slots.{slots, identity_slot};
 
+use crate::holder::Holder;
 use crate::place;
 use ledger::{Identity, LedgerHeader, PLACES};
 
@@ -27,11 +27,11 @@ pub fn good_header(h: LedgerHeader) -> bool
 }
 
 // Whether each of the first n bills is sound.
-pub fn good_bills(ws: &[u64], n: usize) -> bool
-    requires { (holds_ledger ws.now ≡ true) × (n ≤ ledger_places) }
-    ensures { result ≡ every sound_bill (take n (ledger_of ws.now).bills) }
+pub fn good_bills<T: Holder>(lent: &[T], n: usize) -> bool
+    requires { (T.holds lent.now ≡ true) × (n ≤ ledger_places) }
+    ensures { result ≡ every sound_bill (take n (T.held lent.now).bills) }
 {
-    (0..n).all(|i| place::bill_at(ws, i).sound())
+    (0..n).all(|i| T::bill_at(lent, i).sound())
 }
 
 // The slot of an identity.
@@ -42,11 +42,11 @@ fn slot(id: Identity) -> usize
 }
 
 // Whether an identity stands among the first n.
-fn stands(ws: &[u64], n: usize, id: Identity) -> bool
-    requires { (holds_ledger ws.now ≡ true) × (n ≤ ledger_places) }
-    ensures { result ≡ holds_id id (take n (ledger_of ws.now).bills) }
+fn stands<T: Holder>(lent: &[T], n: usize, id: Identity) -> bool
+    requires { (T.holds lent.now ≡ true) × (n ≤ ledger_places) }
+    ensures { result ≡ holds_id id (take n (T.held lent.now).bills) }
 {
-    let f = place::find(ws, n, id);
+    let f = place::find(lent, n, id);
     match f {
         Some(_) => true,
         None => false,
@@ -54,28 +54,28 @@ fn stands(ws: &[u64], n: usize, id: Identity) -> bool
 }
 
 // The same, where its slot was met: no walk begins where it was not.
-fn stands_if_met(ws: &[u64], n: usize, id: Identity, met: bool) -> bool
-    requires { (holds_ledger ws.now ≡ true) × (n ≤ ledger_places) }
-    ensures { result ≡ (met && holds_id id (take n (ledger_of ws.now).bills)) }
+fn stands_if_met<T: Holder>(lent: &[T], n: usize, id: Identity, met: bool) -> bool
+    requires { (T.holds lent.now ≡ true) × (n ≤ ledger_places) }
+    ensures { result ≡ (met && holds_id id (take n (T.held lent.now).bills)) }
 {
     if met {
-        return stands(ws, n, id);
+        return stands(lent, n, id);
     }
     false
 }
 
 // Whether no identity stands twice among the first n. Equal identities have one slot, so a place is held against those before it only where
 // one of them has its slot.
-pub fn all_distinct(ws: &[u64], n: usize) -> bool
-    requires { (holds_ledger ws.now ≡ true) × (n ≤ ledger_places) }
-    ensures { result ≡ distinct (take n (ledger_of ws.now).bills) }
+pub fn all_distinct<T: Holder>(lent: &[T], n: usize) -> bool
+    requires { (T.holds lent.now ≡ true) × (n ≤ ledger_places) }
+    ensures { result ≡ distinct (take n (T.held lent.now).bills) }
 {
     let mut met = [false; SLOTS as usize];
     for i in 0..n {
-        let id = place::identity_at(ws, i);
+        let id = T::identity_at(lent, i);
         let s = slot(id);
         let before = met[s];
-        if stands_if_met(ws, i, id, before) {
+        if stands_if_met(lent, i, id, before) {
             return false;
         }
         met[s] = true;
@@ -83,17 +83,17 @@ pub fn all_distinct(ws: &[u64], n: usize) -> bool
     true
 }
 
-// Whether the words are those of a sound ledger: cause 2 where they are not. No ledger is made of them.
-pub fn sound(words: &[u64]) -> bool
-    ensures { result ≡ sound_ledger (ledger_of words.now) }
+// Whether the slice holds a sound ledger: cause 2 where it does not. No ledger is made of its words.
+pub fn sound<T: Holder>(lent: &[T]) -> bool
+    ensures { result ≡ sound_ledger (T.held lent.now) }
 {
-    if !words::fits(words) {
+    if !T::fits(lent) {
         return false;
     }
-    let h = place::header(words);
+    let h = T::header(lent);
     let n = h.count;
     if !good_header(h) {
         return false;
     }
-    good_bills(words, n) & all_distinct(words, n)
+    good_bills(lent, n) & all_distinct(lent, n)
 }

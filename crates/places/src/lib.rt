@@ -1,6 +1,10 @@
-// The parts of a ledger that is lent as words, at their places: read, found and stored; and whether the words are those of a sound ledger.
+// A lent ledger: what a slice that holds one offers, whether it is of words or of one `Ledger`, and the parts of a ledger found, stored and tested
+// there.
 #![tactic(auto)]
 
 pub mod accounts;
+pub mod by_value;
 pub mod checks;
+pub mod holder;
+mod in_words;
 pub mod place;

@@ -33,7 +33,7 @@ fn table_of(ws: &[u64], out: &mut [u8], e: Result<End, Failed>) -> Output
         return printed(0);
     };
     let bad = journal::ends_bad(e.stopped, e.left, e.seen);
-    let length = table_in_words::write_words(out, ws, bad);
+    let length = table::write(out, ws, bad);
     printed(length)
 }
 

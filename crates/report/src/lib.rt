@@ -32,7 +32,7 @@ pub fn post_table(src: &[u8], out: &mut [u8]) -> Reported
             stopped,
         };
     }
-    let n = table_in_words::write_words(out, &ws, stopped);
+    let n = table::write(out, &ws, stopped);
     Reported {
         report: Ok(n),
         stopped,

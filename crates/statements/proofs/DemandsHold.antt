@@ -29,8 +29,7 @@ use Rattle.history.proofs.CaseProofs.{cases-hold}
 use Rattle.room.proofs.RoomLaws.{brn-within}
 use Rattle.report.specs.Report.{posted_of, Claimed, empty, holds}
 use Rattle.report.proofs.ReportLaws.{claimed}
-use Rattle.boundary.specs.Boundary.{Gives, number_of, change_left, counts_left}
-use Rattle.engine.specs.InWords.{words_left}
+use Rattle.boundary.specs.Boundary.{Gives, number_of, words_left, change_left, counts_left}
 use Rattle.clearing_c.proofs.NumberLaws.{numbered}
 use Rattle.clearing_c.proofs.InWordsProof.{sum-in-words}
 use Rattle.statements.specs.Statements.{Refuses, Demand1, Demand2, Demand3, Demands}

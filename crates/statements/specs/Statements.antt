@@ -41,8 +41,8 @@ use Rattle.rules.specs.declared.Cause.{Cause}
 
 -- ---- Demand 1: "The whole engine, journal reader to table writer, takes every input there can be, within its memory, and ends. A call it can't carry
 -- out answers document 01's number, and the ledger and each lent buffer then hold what they held before."
--- That each function ends, is safe and meets its contract is what the check of its crate proves; the calls, the lookups and the calendar (calls,
--- bill_calls, lookups, calendar, clearing, clearing_c) and a journal's table and notices (report `Reports`, `ReportsNotices`) take every argument there
+-- That each function ends, is safe and meets its contract is what the check of its crate proves; the calls, the lookups and the calendar (engine,
+-- by_value, lookups, calendar, clearing, clearing_c) and a journal's table and notices (report `Reports`, `ReportsNotices`) take every argument there
 -- can be. Of the programs, for some bytes: what is left and asked for of standard input is that of reading them whole (replay `Reads`), and `posted`
 -- prints their table, with demand 3 for their calls (posted `Posts`).
 

@@ -1,6 +1,8 @@
 // The posted table, written into the lent output.
 #![tactic(auto)]
 
+pub mod lines;
+
 ghost use Rattle.std.specs.Prelude.{◌≡◌, true, [], ◌∷◌, ◌+◌, ◌*◌, ◌≤◌, length, take};
 ghost use Rattle.fields.specs.Digits.{digits};
 ghost use Rattle.fields.specs.Put.{put};
@@ -10,7 +12,9 @@ ghost use Rattle.ledger.specs.Books.{book, live, small_charge};
 ghost use Rattle.table.specs.Table.{cell, state_byte, terms_cells, amount_cells, state_cell, heading, line_of, lines_of, total_line, stop_line, table_of, heading_size, line_size, total_size, stop_size, table_room, printed_by, printed};
 ghost use Rattle.ledger.specs.Limits.{ledger_places};
 
-use ledger::{Bill, Ledger, Posted, Product, RateCode, State, Terms, bills};
+use crate::lines::Lines;
+use ledger::{Bill, Posted, Product, RateCode, State, Terms, bills};
+use places::checks;
 use rules::Cause;
 use units::{Cents, Date};
 
@@ -116,19 +120,6 @@ pub fn put_line(out: &mut [u8], at: usize, b: Bill, today: Date)
     put_state(out, at + 83, terms, today);
 }
 
-// Writes the lines of lent bills, and answers where they end.
-fn put_lines(bills: &[Bill], out: &mut [u8], at: usize, today: Date) -> usize
-    requires { at + line_size * length bills.now ≤ length out.old }
-    ensures { (result ≡ at + line_size * length bills.now) × (out.new ≡ put out.old at (lines_of today bills.now)) }
-{
-    let mut end = at;
-    for b in bills {
-        put_line(out, end, *b, today);
-        end += LINE_SIZE;
-    }
-    end
-}
-
 // Writes the total's line.
 pub fn put_total(out: &mut [u8], at: usize, total: Cents)
     requires { at + total_size ≤ length out.old }
@@ -142,8 +133,8 @@ pub fn put_total(out: &mut [u8], at: usize, total: Cents)
 // Writes the line after a bad entry, if there is one, and answers where it ends.
 pub fn put_stop(out: &mut [u8], at: usize, stopped: bool) -> usize
     requires { at + stop_size ≤ length out.old }
-    ensures value { result ≡ at + length (stop_line stopped) }
-    ensures out_after { out.new ≡ put out.old at (stop_line stopped) }
+    ensures answer { result ≡ at + length (stop_line stopped) }
+    ensures written { out.new ≡ put out.old at (stop_line stopped) }
 {
     if stopped {
         fields::put_bytes(out, at, b"stopped,13\n");
@@ -164,31 +155,33 @@ pub fn put_heading(out: &mut [u8])
     );
 }
 
-// Writes the table, and answers how many bytes it has.
-pub fn write(out: &mut [u8], l: Ledger, stopped: bool) -> usize
-    requires { (l.count ≤ ledger_places) × (every small_charge (live l) ≡ true) × (table_room ≤ length out.old) }
-    ensures value { result ≡ length (table_of (book l) stopped) }
-    ensures out_after { out.new ≡ put out.old 0 (table_of (book l) stopped) }
-    ensures upper_bound { result ≤ table_room }
+// Writes the table of a lent ledger, and answers how many bytes it has.
+pub fn write<T: Lines>(out: &mut [u8], lent: &[T], stopped: bool) -> usize
+    requires holds { (T.holds lent.now ≡ true) × ((T.held lent.now).count ≤ ledger_places) × (every small_charge (live (T.held lent.now)) ≡ true) }
+    requires has_room { table_room ≤ length out.old }
+    ensures answer { result ≡ length (table_of (book (T.held lent.now)) stopped) }
+    ensures written { out.new ≡ put out.old 0 (table_of (book (T.held lent.now)) stopped) }
+    ensures at_most { result ≤ table_room }
 {
     put_heading(out);
-    let today = l.today;
-    let end = put_lines(&l.bills[..l.count], out, HEADING_SIZE, today);
-    let total = l.total();
+    let h = T::header(lent);
+    let n = h.count;
+    let end = T::put_lines(lent, n, out, HEADING_SIZE, h.today);
+    let total = T::total(lent, n);
     put_total(out, end, total);
     put_stop(out, end + TOTAL_SIZE, stopped)
 }
 
-// Writes the table of a ledger, unless the ledger is not sound (2) or the output has no room (1).
-pub fn print(out: &mut [u8], l: Ledger, stopped: bool) -> Result<usize, Cause>
-    ensures value { result ≡ printed_by l stopped (length out.old) }
-    ensures out_after { out.new ≡ put out.old 0 (printed l stopped (length out.old)) }
+// Writes the table of a lent ledger, unless the ledger is not sound (2) or the output has no room (1).
+pub fn print<T: Lines>(out: &mut [u8], lent: &[T], stopped: bool) -> Result<usize, Cause>
+    ensures answer { result ≡ printed_by (T.held lent.now) stopped (length out.old) }
+    ensures written { out.new ≡ put out.old 0 (printed (T.held lent.now) stopped (length out.old)) }
 {
-    if !sound_ledger::sound(l) {
+    if !checks::sound(lent) {
         return Err(Cause::BadArgument);
     }
     if out.len() < TABLE_ROOM {
         return Err(Cause::OutputTooSmall);
     }
-    Ok(write(out, l, stopped))
+    Ok(write(out, lent, stopped))
 }

@@ -10,8 +10,8 @@ use Rattle.ledger.specs.declared.Bill.{Bill}
 use Rattle.ledger.specs.declared.Ledger.{Ledger}
 use Rattle.rules.specs.Lists.{every}
 use Rattle.ledger.specs.Bills.{blank_bill}
-use Rattle.words.specs.Layout.{place_size, ledger_size, bill_said, bill_words, ledger_words, ledger_of}
-use Rattle.words.proofs.WordLaws.{ledger-words}
+use Rattle.words.specs.Layout.{place_size, ledger_size, bill_said, bill_words, ledger_words, holds_ledger, ledger_of}
+use Rattle.words.proofs.WordLaws.{holds-words, ledger-words}
 use Rattle.words.proofs.WordPlaceLaws.{written, written-more, written_all}
 
 blank-said : (n : ℕ) → every bill_said (replicate n blank_bill) ≡ true
@@ -35,3 +35,7 @@ module _ (l : Ledger) (e : l.bills ≡ replicate 128 blank_bill) where
   blank-all ws us i k h p =
       let w : us ≡ ledger_words l = p ∙ written_all l ws i (omega (arith, long)) (omega arith) in
       (w, ap ledger_of w ∙ ledger-words l long (ap (every bill_said) e ∙ blank-said 128))
+
+  -- and they hold a ledger
+  pub blank-holds : (us : List ℕ) → us ≡ ledger_words l → holds_ledger us ≡ true
+  blank-holds us w = ap holds_ledger w ∙ holds-words l long (ap (every bill_said) e ∙ blank-said 128)

@@ -2,3 +2,4 @@
 pub mod WordLaws
 pub mod WordPlaceLaws
 pub mod EmptyLaws
+pub mod PartLaws

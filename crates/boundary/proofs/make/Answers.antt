@@ -1,12 +1,16 @@
 -- `boundary::make` meets its contract: a fresh on words of another length, a fresh, any other call on words that hold no sound ledger, and on words that do.
 use mathlib.Core.Path.{sym, ◌∙◌}
 use lib.ListN.{length}
+use borrow.Author.Tests.{eq-eqb}
 use native.Mathlib.Omega.{arith}
 use Rattle.boundary.proofs.GiveLaws.{no-fresh, no-fresh-taken, fresh-short, fresh-leaves, unsound-leaves, sound-leaves}
 use Rattle.boundary.proofs.make.Goals as goal
 
 pub returns-then-ledger-ne-LEDGER_SIZE : goal.returns-then-ledger-ne-LEDGER_SIZE
 returns-then-ledger-ne-LEDGER_SIZE c = rw c.in-Fresh.is (fresh-short _ _ _ c.if-ledger-ne-LEDGER_SIZE.true)
+
+pub fresh_in-requires : goal.fresh_in-requires
+fresh_in-requires c = eq-eqb _ _ c.if-ledger-ne-LEDGER_SIZE.false
 
 pub returns-in-Fresh : goal.returns-in-Fresh
 returns-in-Fresh c = rw c.in-Fresh.is (fresh-leaves _ _ c.if-ledger-ne-LEDGER_SIZE.false _ _ _ c.fresh_in.ensures.0 c.fresh_in.ensures.1 c.fresh_in.ensures.2)

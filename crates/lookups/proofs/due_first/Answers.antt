@@ -1,19 +1,14 @@
--- `lookups::due_first` meets its contract: the chain over the bills and their places is the walk over them.
-use Rattle.std.proofs.Common.{rules, tests}
-use mathlib.Core.Path.{ap, ◌∙◌}
-use Rattle.std.proofs.lemmas.Iterator.{YieldsList-from_slice}
-use Rattle.std.proofs.lemmas.Iterator.Consumers.{YieldsList-from_enumerate, fold_from_yields_List}
-use Rattle.ledger.specs.Books.{live}
-use Rattle.lookups.specs.parts.Walk.{none_due}
-use Rattle.std.specs.List.{fold, enumerate_from}
-use Rattle.lookups.specs.declared.DueFirst.{DueFirst}
-use Rattle.lookups.proofs.EarliestLaws.{due-turn, due-folded}
+-- `lookups::due_first` meets its contract. The invariant: what the walk of the bills from i on comes to is what the whole walk comes to.
+use Prim.Native.Nat.{◌≤◌}
+use mathlib.Core.Path.{sym, ◌∙◌}
+use native.Mathlib.Omega.{arith}
+use lib.ListN.{length}
+use Rattle.lookups.proofs.EarliestLaws.{due-step}
 use Rattle.lookups.proofs.due_first.Goals as goal
 
-pub returns : goal.returns
-returns c =
-    let l = c.args.l in
-    fold_from_yields_List _ (due-turn c.args.account l.today) _ _ c.fold.ensures.ran (YieldsList-from_enumerate (YieldsList-from_slice (live l) (cc)) (cc))
-    (λ a x b q k. search (rules, tests))
-    ∙ ap (λ (h : DueFirst). fold (due-turn c.args.account l.today) h (enumerate_from 0 (live l))) c.none.ensures
-    ∙ due-folded c.args.account l.today 0 none_due (live l)
+pub loop-i-preserved : goal.loop-i-preserved
+loop-i-preserved g c =
+    let turn = c.loop-i in
+    let bs = (g.T.Holder.held c.args.lent.now).bills in
+    let long : c.args.n ≤ length bs = omega (arith, c.requires.1, g.met.T.Holder.places _ c.requires.0) in
+    rw (c.due_with-first.ensures, c.bill_at-b.ensures) (sym (due-step _ _ c.args.n turn.i turn.first bs (omega arith) long) ∙ turn.invariant)

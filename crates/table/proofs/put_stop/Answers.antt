@@ -6,8 +6,8 @@ use Rattle.table.proofs.put_stop.Goals as goal
 
 pub returns-then-stopped : goal.returns-then-stopped
 unfolding stop_line ended
-returns-then-stopped c = record { value = rw c.if-stopped.true; out_after = rw c.if-stopped.true c.put_bytes.ensures }
+returns-then-stopped c = record { answer = rw c.if-stopped.true; written = rw c.if-stopped.true c.put_bytes.ensures }
 
 pub returns : goal.returns
 unfolding stop_line
-returns c = record { value = rw c.if-stopped.false (omega arith); out_after = rw c.if-stopped.false (put-nil _ _) }
+returns c = record { answer = rw c.if-stopped.false (omega arith); written = rw c.if-stopped.false (put-nil _ _) }

@@ -9,8 +9,6 @@ use Rattle.std.specs.List.{range_with_len, sum_by}
 use Rattle.ledger.specs.declared.Bill.{Bill}
 use Rattle.ledger.specs.Bills.{blank_bill}
 use Rattle.causes.specs.Requests.{closes}
-use Rattle.words.specs.Layout.{ledger_of}
-use Rattle.places.proofs.PartLaws.{places_of}
 use Rattle.calls.proofs.FreshCloseLaws.{one, one-by-one, count-few}
 use Rattle.engine.proofs.call.closed_by.Goals as goal
 
@@ -23,21 +21,21 @@ by-place f bs n h =
     ∙ ap (sum_by f) (sym (fill_by_all at (take n bs) n blank_bill (length-take-le n bs h) (λ k q. get_or-take n bs k blank_bill q)))
 
 pub sum-requires-clause-fits : goal.sum-requires-clause-fits
-sum-requires-clause-fits c =
+sum-requires-clause-fits g c =
     let a = c.args in
     let p = closes a.old a.new in
-    let bs = (ledger_of a.ws.now).bills in
-    let h : a.n ≤ length bs = omega (arith, c.requires.1, places_of _ c.requires.0) in
+    let bs = (g.T.Holder.held a.lent.now).bills in
+    let h : a.n ≤ length bs = omega (arith, c.requires.1, g.met.T.Holder.places _ c.requires.0) in
     fits_by_from_yields_list (λ (i : ℕ). one p (get_or bs i blank_bill)) (range_with_len 0 a.n) c.map.result _
     (YieldsList-from_map _ _ (YieldsList-from_range 0 a.n a.n (cc) (omega arith)) c.map.ensures.closure (λ x r q k. search (rules, tests)))
     (omega (arith, by-place (one p) bs a.n h, one-by-one p (take a.n bs), count-few p (take a.n bs), length-take-le a.n bs h, c.requires.1))
 
 pub returns : goal.returns
-returns c =
+returns g c =
     let a = c.args in
     let p = closes a.old a.new in
-    let bs = (ledger_of a.ws.now).bills in
+    let bs = (g.T.Holder.held a.lent.now).bills in
     sum_by_from_yields_List (λ (i : ℕ). one p (get_or bs i blank_bill)) (range_with_len 0 a.n) c.map.result _ c.sum.ensures.ran
     (YieldsList-from_map _ _ (YieldsList-from_range 0 a.n a.n (cc) (omega arith)) c.map.ensures.closure (λ x r q k. search (rules, tests)))
-    ∙ by-place (one p) bs a.n (omega (arith, c.requires.1, places_of _ c.requires.0))
+    ∙ by-place (one p) bs a.n (omega (arith, c.requires.1, g.met.T.Holder.places _ c.requires.0))
     ∙ one-by-one p (take a.n bs)

@@ -6,12 +6,9 @@ use Rattle.engine.proofs.call.fresh_in.Goals as goal
 
 pub returns-in_err-fresh_check : goal.returns-in_err-fresh_check
 unfolding fresh_called fresh_by
-returns-in_err-fresh_check c =
+returns-in_err-fresh_check g c =
     let e : c.from_residual.result ≡ Err c.in_err-fresh_check.field-0.0 = search rules in rw (e, sym c.fresh_check.ensures ∙ c.in_err-fresh_check.was) (refl, refl, refl)
-
-pub write_empty-requires : goal.write_empty-requires
-write_empty-requires c = c.requires
 
 pub returns : goal.returns
 unfolding fresh_called fresh_by
-returns c = rw (sym c.fresh_check.ensures ∙ (c.in_ok-fresh_check.was)) (c.write_empty.ensures.words_after_2, c.quiet.ensures, c.write_empty.ensures.words_after)
+returns g c = rw (sym c.fresh_check.ensures ∙ (c.in_ok-fresh_check.was)) (c.put_empty.ensures.1, c.quiet.ensures, rw c.quiet.ensures c.put_empty.ensures.0)

@@ -1,13 +1,14 @@
 -- `entries::entry::entry` meets its contract, by the body that was told.
 use mathlib.Core.Path.{subst}
+use borrow.Author.Tests.{eq-eqb}
 use Rattle.words.proofs.WordLaws.{words_long, sound-holds}
 use Rattle.journal.proofs.MadeLaws.{Taken}
-use Rattle.engine.proofs.WordCalls.{said-none}
+use Rattle.engine.proofs.LentCalls.{said-none}
 use Rattle.entries.proofs.MadeParts.{made_by, made-unread}
 use Rattle.entries.proofs.entry.entry.Goals as goal
 
 pub fresh_in-requires : goal.fresh_in-requires
-fresh_in-requires c = words_long _ (sound-holds _ c.requires.ws_value.0)
+fresh_in-requires c = eq-eqb _ _ (words_long _ (sound-holds _ c.requires.ws_value.0))
 
 pub returns-in-Request : goal.returns-in-Request
 returns-in-Request c =

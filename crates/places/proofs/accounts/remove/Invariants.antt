@@ -2,8 +2,7 @@
 use mathlib.Core.Path.{◌≡◌}
 use mathlib.Core.Bool.{true}
 use Rattle.ledger.specs.parts.Places.{removed_first}
-use Rattle.words.specs.Layout.{holds_ledger, ledger_of}
 use Rattle.places.proofs.accounts.remove.Given as goal
 
 abbrev pub invariant-loop-i : goal.invariant-loop-i
-invariant-loop-i l = (holds_ledger l.ws ≡ true) × (ledger_of l.ws ≡ removed_first l.i l.account l.date (ledger_of l.initial.ws))
+invariant-loop-i g l = (g.T.Holder.holds l.lent ≡ true) × (g.T.Holder.held l.lent ≡ removed_first l.i l.account l.date (g.T.Holder.held l.initial.lent))

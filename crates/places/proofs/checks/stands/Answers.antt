@@ -2,12 +2,11 @@
 use mathlib.Core.Path.{sym, ◌∙◌}
 use lib.ListN.{take}
 use Rattle.ledger.specs.Books.{of_id}
-use Rattle.words.specs.Layout.{ledger_of}
 use Rattle.places.proofs.DistinctLaws.{found-has, not_found}
 use Rattle.places.proofs.checks.stands.Goals as goal
 
 pub returns-in-Some : goal.returns-in-Some
-returns-in-Some c = sym (found-has (of_id c.args.id) 0 _ (take c.args.n (ledger_of c.args.ws.now).bills) (sym c.find-f.ensures ∙ c.in-Some.is))
+returns-in-Some g c = sym (found-has (of_id c.args.id) 0 _ (take c.args.n (g.T.Holder.held c.args.lent.now).bills) (sym c.find-f.ensures ∙ c.in-Some.is))
 
 pub returns-in-None : goal.returns-in-None
-returns-in-None c = sym (not_found (of_id c.args.id) 0 (take c.args.n (ledger_of c.args.ws.now).bills) (sym c.find-f.ensures ∙ c.in-None.is))
+returns-in-None g c = sym (not_found (of_id c.args.id) 0 (take c.args.n (g.T.Holder.held c.args.lent.now).bills) (sym c.find-f.ensures ∙ c.in-None.is))

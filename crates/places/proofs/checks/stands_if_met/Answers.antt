@@ -2,4 +2,4 @@
 use Rattle.places.proofs.checks.stands_if_met.Goals as goal
 
 pub returns-then-met : goal.returns-then-met
-returns-then-met c = rw c.if-met.true c.stands.ensures
+returns-then-met g c = rw c.if-met.true c.stands.ensures

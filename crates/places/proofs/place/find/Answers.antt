@@ -7,7 +7,6 @@ use native.Mathlib.Omega.{arith}
 use Rattle.ledger.specs.Books.{of_id}
 use Rattle.ledger.specs.Bills.{blank_bill}
 use Rattle.rules.proofs.ListLaws.{find-hit}
-use Rattle.places.proofs.PartLaws.{places_of}
 use Rattle.places.proofs.place.find.Goals as goal
 
 -- the test of the identity that was read is that of its bill
@@ -15,8 +14,8 @@ tested : (id x y : Identity) → x ≡ y → (eqb y.account id.account && eqb y.
 tested id x y e = ap (λ (z : Identity). eqb z.account id.account && eqb z.key id.key) (sym e)
 
 pub returns-then-same : goal.returns-then-same
-returns-then-same c =
+returns-then-same g c =
     sym
-    (find-hit _ _ _ blank_bill c.loop-i-test.true (omega (arith, c.requires.1, places_of _ c.requires.0)) (of_id c.args.id)
+    (find-hit _ _ _ blank_bill c.loop-i-test.true (omega (arith, c.requires.1, g.met.T.Holder.places _ c.requires.0)) (of_id c.args.id)
     (tested c.args.id _ _ c.identity_at-at.ensures ∙ c.if-same.true))
     ∙ c.loop-i.invariant

@@ -4,8 +4,7 @@ use lib.ListN.{take}
 use lib.Seq.{slice}
 use Rattle.rules.specs.Lists.{find}
 use Rattle.ledger.specs.Books.{of_id}
-use Rattle.words.specs.Layout.{ledger_of}
 use Rattle.places.proofs.place.find.Given as goal
 
 abbrev pub invariant-loop-i : goal.invariant-loop-i
-invariant-loop-i l = find (of_id l.id) l.i (slice l.i l.n (ledger_of l.ws).bills) ≡ find (of_id l.id) 0 (take l.n (ledger_of l.ws).bills)
+invariant-loop-i g l = find (of_id l.id) l.i (slice l.i l.n (g.T.Holder.held l.lent).bills) ≡ find (of_id l.id) 0 (take l.n (g.T.Holder.held l.lent).bills)

@@ -2,8 +2,7 @@
 use mathlib.Core.Path.{◌≡◌}
 use lib.ListN.{take}
 use Rattle.ledger.specs.Books.{total_of}
-use Rattle.words.specs.Layout.{ledger_of}
 use Rattle.places.proofs.place.total.Given as goal
 
 abbrev pub invariant-loop-i : goal.invariant-loop-i
-invariant-loop-i l = l.sum.0 ≡ total_of (take l.i (take l.n (ledger_of l.ws).bills))
+invariant-loop-i g l = l.sum.0 ≡ total_of (take l.i (take l.n (g.T.Holder.held l.lent).bills))

@@ -1,0 +1,2 @@
+-- For the calls by value.
+pub mod parts

@@ -1,0 +1,22 @@
+-- `places::in_words::U64Holder::put_header` meets its contract.
+use mathlib.Core.Path.{refl}
+use native.Mathlib.Omega.{arith}
+use lib.ListN.{length-set}
+use Rattle.words.proofs.WordLaws.{words_long}
+use Rattle.words.proofs.PartLaws.{header-put}
+use Rattle.places.proofs.in_words.U64Holder.put_header.Goals as goal
+
+pub bounds-lent-0 : goal.bounds-lent-0
+bounds-lent-0 c = omega (arith, words_long _ c.requires)
+
+pub bounds-lent-1 : goal.bounds-lent-1
+bounds-lent-1 c = simp length-set (omega (arith, words_long _ c.requires))
+
+pub bounds-lent-2 : goal.bounds-lent-2
+bounds-lent-2 c = simp length-set (omega (arith, words_long _ c.requires))
+
+pub bounds-lent-3 : goal.bounds-lent-3
+bounds-lent-3 c = simp length-set (omega (arith, words_long _ c.requires))
+
+pub returns : goal.returns
+returns c = header-put _ c.requires c.args.h _ refl
