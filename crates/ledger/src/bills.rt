@@ -2,7 +2,7 @@
 // removal change it.
 ghost use Rattle.std.specs.Prelude.{◌≡◌, ◌+◌, ◌<◌, ◌≤◌, length};
 ghost use Rattle.fields.specs.Put.{put};
-ghost use Rattle.ledger.specs.Bills.{code_bytes, is_prepay, product_byte, charge_of, applied_of, owed_of, is_of, is_open, state_of, blank_bill, first_bill, renewed, posting, cancelled_bill, is_of_account, removed_terms, removed_bill};
+ghost use Rattle.ledger.specs.Bills.{code_bytes, is_prepay, product_byte, product_of, charge_of, applied_of, owed_of, is_open, state_of, blank_bill, first_bill, renewed, posting, cancelled_bill, is_of_account, removed_terms, removed_bill};
 ghost use Rattle.ledger.specs.Books.{removed_of};
 ghost use Rattle.ledger.specs.Limits.{last_sequence};
 
@@ -27,14 +27,29 @@ impl Product {
             Product::Prepay => true,
         }
     }
+}
 
-    // B or P.
-    pub fn byte(self) -> u8
-        ensures { result ≡ product_byte self }
-    {
-        match self {
-            Product::BillReady => 66,
-            Product::Prepay => 80,
+// B or P.
+impl From<Product> for u8 {
+    ghost from_gives = { λ p x. x ≡ product_byte p };
+
+    fn from(p: Product) -> u8 {
+        match p {
+            Product::BillReady => b'B',
+            Product::Prepay => b'P',
+        }
+    }
+}
+
+// The product of a byte: no refusal, since whoever reads one has asked before whether it is B or P.
+impl From<u8> for Product {
+    ghost from_gives = { λ x p. p ≡ product_of x };
+
+    fn from(x: u8) -> Product {
+        if x == b'P' {
+            Product::Prepay
+        } else {
+            Product::BillReady
         }
     }
 }
@@ -72,12 +87,7 @@ impl Posted {
 }
 
 impl Terms {
-    pub fn is_of(self, id: Identity) -> bool
-        ensures { result ≡ is_of id self }
-    {
-        (self.identity.account == id.account) & (self.identity.key == id.key)
-    }
-
+    // A test of one field, by its name: no equality of two identities.
     pub fn is_of_account(self, account: u64) -> bool
         ensures { result ≡ is_of_account account self }
     {
@@ -87,7 +97,7 @@ impl Terms {
     pub fn is_open(self, today: Date) -> bool
         ensures { result ≡ is_open today self }
     {
-        !self.cancelled & today.at_most(self.latest.scheduled)
+        !self.cancelled & (today <= self.latest.scheduled)
     }
 
     pub fn state(self, today: Date) -> State

@@ -63,7 +63,7 @@ impl Ledger {
 fn place_among(bills: &[Bill], id: Identity) -> Option<usize>
     ensures { result ≡ position (of_id id) bills.now }
 {
-    bills.iter().position(|b| b.terms.is_of(id))
+    bills.iter().position(|b| b.terms.identity == id)
 }
 
 fn within(i: usize) -> usize
@@ -96,7 +96,7 @@ pub fn add_charge(sum: Cents, b: Bill) -> Cents
     ensures { result.0 ≡ sum.0 + bill_charge b }
 {
     let p = b.posted;
-    sum.plus(p.charge())
+    sum + p.charge()
 }
 
 // The sum of the posted charges of lent bills.
@@ -119,7 +119,7 @@ fn total_first(bills: [Bill; crate::PLACES], n: usize) -> Cents
     total(&bills[..n])
 }
 
-// The signed change of a total.
+// The signed change of a total. By `as`, which is proved to keep both: `try_from` would want an answer for sums that no ledger has.
 pub fn signed_change(new: Cents, old: Cents) -> i64
     requires { (new.0 < 2 ^ 63) × (old.0 < 2 ^ 63) }
     ensures { result ≡ pos new.0 -ℤ pos old.0 }

@@ -13,7 +13,7 @@ fn is_letter(x: u8) -> bool
 }
 
 impl RateCode {
-    // Two letters or digits, and two digits.
+    // Two letters or digits, and two digits. A test and no `TryFrom`: words that are not a sound ledger's hold codes that are none.
     pub fn valid(self) -> bool
         ensures { result ≡ is_rate_code (code_bytes self) }
     {
@@ -70,10 +70,7 @@ impl Terms {
 fn is_balanced(charge: Cents, applied: Cents, owed: Cents) -> bool
     ensures { result ≡ balanced charge applied owed }
 {
-    if charge.fits() & applied.fits() & owed.fits() {
-        return applied.plus(owed).same(charge);
-    }
-    false
+    (charge.fits() & applied.fits() & owed.fits()) && applied + owed == charge
 }
 
 impl Posted {

@@ -57,7 +57,7 @@ impl DueFirst {
         let t = b.terms;
         let due = t.latest.scheduled;
         let earliest = self.due;
-        if self.held & earliest.at_most(due) {
+        if self.held & (earliest <= due) {
             return self;
         }
         DueFirst {

@@ -26,7 +26,7 @@ pub fn sound(l: Ledger) -> bool
         }
         let id = b.terms.identity;
         for o in &bills[i + 1..] {
-            if o.terms.is_of(id) {
+            if o.terms.identity == id {
                 return false;
             }
         }

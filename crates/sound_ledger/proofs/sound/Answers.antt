@@ -92,17 +92,17 @@ loop-o-init c =
     ∙ sym (walk-past bs i c.loop-i-test.true (sym c.sound.ensures ∙ c.if-not-sound.false))
     ∙ c.loop-i.invariant
 
-pub returns-then-is_of : goal.returns-then-is_of
-returns-then-is_of c =
+pub returns-then-eq : goal.returns-then-eq
+returns-then-eq c =
     let l = c.args.l in
     let long = places l _ c.well_formed.0 in
     let h = head l _ _ _ c.valid.ensures c.is_next.ensures c.is_next-2.ensures in
     answer l long (h ∙ c.if-not-head.false) false
-    (sym c.loop-o.invariant ∙ past-twin _ c.loop-o.o-index c.loop-o-test.true _ (sym c.is_of.ensures ∙ c.if-is_of.true))
+    (sym c.loop-o.invariant ∙ past-twin _ c.loop-o.o-index c.loop-o-test.true _ (sym c.eq.ensures ∙ c.if-eq.true))
 
 pub loop-o-preserved : goal.loop-o-preserved
 loop-o-preserved c =
-    sym (past-other _ c.loop-o.o-index c.loop-o-test.true _ (sym c.is_of.ensures ∙ c.if-is_of.false)) ∙ c.loop-o.invariant
+    sym (past-other _ c.loop-o.o-index c.loop-o-test.true _ (sym c.eq.ensures ∙ c.if-eq.false)) ∙ c.loop-o.invariant
 
 pub loop-i-preserved : goal.loop-i-preserved
 loop-i-preserved c =

@@ -14,4 +14,4 @@ write_empty-requires c = c.requires
 
 pub returns : goal.returns
 unfolding fresh_called fresh_by
-returns c = rw (sym c.fresh_check.ensures ∙ (c.in_ok-fresh_check.was)) (c.write_empty.ensures.words_after_2, c.quiet.ensures, c.write_empty.ensures.words_after)
+returns c = rw (sym c.fresh_check.ensures ∙ (c.in_ok-fresh_check.was)) (c.write_empty.ensures.read_back, c.quiet.ensures, c.write_empty.ensures.written)
