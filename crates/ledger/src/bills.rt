@@ -103,8 +103,7 @@ impl Terms {
     pub fn state(self, today: Date) -> State
         ensures { result ≡ state_of today self }
     {
-        let cancelled = self.cancelled;
-        if cancelled {
+        if self.cancelled {
             return State::Cancelled;
         }
         if self.is_open(today) {
@@ -114,23 +113,11 @@ impl Terms {
     }
 
     // The terms with this removal date in the place of any earlier one.
-    fn removed(self, date: Date) -> Terms
+    fn removed(mut self, date: Date) -> Terms
         ensures { result ≡ removed_terms date self }
     {
-        let identity = self.identity;
-        let code = self.code;
-        let product = self.product;
-        let latest = self.latest;
-        Terms {
-            identity,
-            code,
-            product,
-            sequence: self.sequence,
-            requests: self.requests,
-            cancelled: self.cancelled,
-            latest,
-            removal: Some(date),
-        }
+        self.removal = Some(date);
+        self
     }
 }
 
@@ -190,11 +177,9 @@ impl Bill {
         requires { (self.terms.requests ≤ self.terms.sequence) × (self.terms.sequence < last_sequence) }
         ensures { result ≡ renewed latest self }
     {
-        let mut terms = self.terms;
-        terms.sequence = terms.sequence + 1;
-        terms.requests = terms.requests + 1;
-        terms.latest = latest;
-        self.terms = terms;
+        self.terms.sequence += 1;
+        self.terms.requests += 1;
+        self.terms.latest = latest;
         self
     }
 
@@ -204,14 +189,10 @@ impl Bill {
         ensures { result ≡ posting amounts sup self }
     {
         if sup {
-            let sequence = self.terms.sequence + 1;
-            self.terms.sequence = sequence;
+            self.terms.sequence += 1;
         }
-        let terms = self.terms;
-        Bill {
-            terms,
-            posted: amounts,
-        }
+        self.posted = amounts;
+        self
     }
 
     // The bill marked as cancelled, with no posted amounts.
@@ -219,29 +200,23 @@ impl Bill {
         ensures { result ≡ cancelled_bill self }
     {
         self.terms.cancelled = true;
-        let terms = self.terms;
-        Bill {
-            terms,
-            posted: Posted::None,
-        }
+        self.posted = Posted::None;
+        self
     }
 
     // The bill with this removal date in the place of any earlier one.
-    fn remove(self, date: Date) -> Bill
+    fn remove(mut self, date: Date) -> Bill
         ensures { result ≡ removed_bill date self }
     {
-        let old = self.terms;
-        let terms = old.removed(date);
-        let posted = self.posted;
-        Bill { terms, posted }
+        self.terms = self.terms.removed(date);
+        self
     }
 
     // The same if it is of this account; else the bill as it is.
     pub fn remove_if_of(self, account: u64, date: Date) -> Bill
         ensures { result ≡ removed_of account date self }
     {
-        let terms = self.terms;
-        if terms.is_of_account(account) {
+        if self.terms.is_of_account(account) {
             return self.remove(date);
         }
         self

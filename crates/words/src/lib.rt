@@ -144,14 +144,6 @@ pub fn bill_in(words: &[u64], at: usize) -> Bill
 }
 
 // ---- a ledger's words
-// Writes src into words from index `at` on.
-fn put_words(words: &mut [u64], at: usize, src: &[u64])
-    requires { at + length src.now ≤ length words.old }
-    ensures { words.new ≡ put words.old at src.now }
-{
-    words[at..at + src.len()].copy_from_slice(src);
-}
-
 // Words 15 to 19 of a place.
 fn last_words(p: Posted, removal: u64) -> [u64; 5]
     ensures { result ≡ posted_words p ++ (removal ∷ []) }
@@ -211,9 +203,9 @@ pub fn put_bill(words: &mut [u64], at: usize, b: Bill)
     let second = latest_words(r);
     let removal = t.removal;
     let third = last_words(p, removal.map_or(0, |d| d.0));
-    put_words(words, at, &first);
-    put_words(words, at + 10, &second);
-    put_words(words, at + 15, &third);
+    words[at..at + 10].copy_from_slice(&first);
+    words[at + 10..at + 15].copy_from_slice(&second);
+    words[at + 15..at + PLACE_SIZE].copy_from_slice(&third);
 }
 
 // Writes the words of a ledger with no bills, which read back as that ledger; none is made.
