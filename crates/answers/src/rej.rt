@@ -79,7 +79,7 @@ fn put_detail(out: &mut [u8], at: usize, d: &[u8], sup: bool, x: Rej)
         out,
         at + layout::ERROR_NUMBER,
         layout::ERROR_NUMBER_WIDTH,
-        x.code.number(),
+        u64::from(x.code),
     );
     notices::put_end(out, at, layout::REJ_FILLER);
 }

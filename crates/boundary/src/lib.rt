@@ -54,7 +54,7 @@ fn give(change: &mut i64, counts: &mut [u64; 4], a: Result<Returned, Cause>) -> 
     ensures { Stores a change.old counts.old change.new counts.new result }
 {
     match a {
-        Err(cause) => cause.number(),
+        Err(cause) => u64::from(cause),
         Ok(r) => {
             let cents = r.change;
             *change = cents;

@@ -98,11 +98,8 @@ pub fn business_day(start: Date, number: u64, holidays: &[u64]) -> Result<Date, 
     if !good_holidays(holidays) {
         return Err(Cause::BadHolidays);
     }
-    let found = further(start, number, holidays);
-    match found {
-        Some(d) => Ok(Date(d)),
-        None => Err(Cause::NoSuchDay),
-    }
+    let d = further(start, number, holidays).ok_or(Cause::NoSuchDay)?;
+    Ok(Date(d))
 }
 
 // The first business day after a date.

@@ -106,11 +106,11 @@ fn bill_check(r: Request, held: usize, b: Option<Terms>) -> Result<(), Cause>
     }
     let code = r.code;
     let product = t.product;
-    if !(same_code(code, t.code) & (r.product == product.byte())) {
+    if !(same_code(code, t.code) & (r.product == u8::from(product))) {
         return Err(Cause::OtherCodeOrProduct);
     }
     let consumption = r.consumption;
-    if consumption.same(t.latest.consumption) {
+    if consumption == t.latest.consumption {
         return Err(Cause::ConsumptionUnchanged);
     }
     if t.sequence == ledger::LAST_SEQUENCE {
@@ -137,7 +137,7 @@ pub fn request_check(
     }
     let scheduled = r.scheduled;
     let today = h.today;
-    if scheduled.before(today) {
+    if scheduled < today {
         return Err(Cause::ScheduledBeforeToday);
     }
     bill_check(r, h.count, b)?;
@@ -226,7 +226,7 @@ pub fn close_check(d: Date, today: Date) -> Result<(), Cause>
     if !d.valid() {
         return Err(Cause::BadArgument);
     }
-    if !today.before(d) {
+    if d <= today {
         return Err(Cause::NotAfterToday);
     }
     Ok(())

@@ -25,7 +25,7 @@ fn store_day(day: &mut u64, found: Result<Date, Cause>) -> u64
             *day = d.0;
             0
         }
-        Err(cause) => cause.number(),
+        Err(cause) => u64::from(cause),
     }
 }
 

@@ -11,7 +11,7 @@ fn store_result(res: &mut [u64; 2], r: Reported) -> u64
 {
     let report = r.report;
     match report {
-        Err(cause) => cause.number(),
+        Err(cause) => u64::from(cause),
         Ok(n) => {
             let end = if r.stopped { 13 } else { 0 };
             let all = [n as u64, end];

@@ -32,7 +32,7 @@ fn store_number(place: &mut u64, found: Result<u64, Cause>) -> u64
             *place = n;
             0
         }
-        Err(cause) => cause.number(),
+        Err(cause) => u64::from(cause),
     }
 }
 
@@ -214,7 +214,7 @@ pub fn clearing_open_bill(ledger: &[u64], account: u64, place: &mut u64) -> u64
             *place = p as u64;
             0
         }
-        Err(cause) => cause.number(),
+        Err(cause) => u64::from(cause),
     }
 }
 
@@ -230,7 +230,7 @@ pub fn clearing_amounts(ledger: &[u64], account: u64, key: u64, amounts: &mut [u
             *amounts = all;
             0
         }
-        Err(cause) => cause.number(),
+        Err(cause) => u64::from(cause),
     }
 }
 
@@ -244,7 +244,7 @@ pub fn clearing_ledger_table(ledger: &[u64], out: &mut [u8], written: &mut u64) 
             *written = n as u64;
             0
         }
-        Err(cause) => cause.number(),
+        Err(cause) => u64::from(cause),
     }
 }
 
@@ -267,11 +267,11 @@ pub fn clearing_entry(
     match h {
         Head::Cut => {
             *found = [0, 1];
-            Cause::BadEntry.number()
+            u64::from(Cause::BadEntry)
         }
         Head::Bad => {
             *found = [0, 0];
-            Cause::BadEntry.number()
+            u64::from(Cause::BadEntry)
         }
         Head::Whole(body, n) => {
             *found = [n as u64, 0];

@@ -2,7 +2,6 @@
 ghost use Rattle.std.specs.Prelude.{◌≡◌, ◌≤◌};
 ghost use Rattle.rules.specs.Rules.{first};
 ghost use Rattle.causes.specs.Requests.{latest_of, new_bill};
-ghost use Rattle.ledger.specs.Bills.{product_of};
 ghost use Rattle.causes.specs.parts.Decisions.{SoundAt, CanRenew, requested_by, grown, used_by, call_identity, causes_by, decided_by, ChangeFits, change_by};
 ghost use Rattle.ledger.specs.Limits.{ledger_places, used_up};
 
@@ -10,16 +9,6 @@ use causes::{BillCall, Request, checks};
 use ledger::{Bill, Identity, Latest, LedgerHeader, Product, Update};
 use rules::Cause;
 use units::Cents;
-
-// The product that a byte holds.
-fn product_of(x: u8) -> Product
-    ensures { result ≡ product_of x }
-{
-    if x == 80 {
-        return Product::Prepay;
-    }
-    Product::BillReady
-}
 
 // What a bill has from a request that takes this Tracking ID.
 fn latest_of(r: Request, tracking: u64) -> Latest
@@ -45,7 +34,7 @@ fn new_bill(r: Request, tracking: u64) -> Bill
     let code = r.code;
     let id = r.identity;
     let latest = latest_of(r, tracking);
-    Bill::first(id, checks::code_of(code), product_of(r.product), latest)
+    Bill::first(id, checks::code_of(code), Product::from(r.product), latest)
 }
 
 // The bill as a request leaves it: a new one, or a known one with the new values.

@@ -12,6 +12,7 @@ pub fn put_digits(out: &mut [u8], at: usize, width: usize, n: u64)
     ensures { out.new ≡ put out.old at (digits width n) }
 {
     let mut m = n;
+    // By `as`, which is proved to keep the digit: `try_from` would want an answer for what is no byte.
     for i in (0..width).rev() {
         out[at + i] = (48 + m % 10) as u8;
         m = m / 10;
@@ -28,8 +29,8 @@ pub fn put_bytes(out: &mut [u8], at: usize, src: &[u8])
 
 // Writes n bytes of src from index `from` on into out from index `at` on.
 pub fn put_part(out: &mut [u8], at: usize, src: &[u8], from: usize, n: usize)
-    requires n_in_bounds { at + n ≤ length out.old }
-    requires n_in_bounds_2 { from + n ≤ length src.now }
+    requires has_room { at + n ≤ length out.old }
+    requires in_source { from + n ≤ length src.now }
     ensures { out.new ≡ put out.old at (part src.now from n) }
 {
     put_bytes(out, at, &src[from..from + n]);
@@ -63,7 +64,7 @@ pub fn read_digits(f: &[u8]) -> Option<u64>
         if 57 < x {
             return None;
         }
-        n = n * 10 + (x - 48) as u64;
+        n = n * 10 + u64::from(x - b'0');
     }
     Some(n)
 }
@@ -86,8 +87,8 @@ pub fn is_numeric(s: &[u8], at: usize, width: usize) -> bool
 
 // Whether n bytes of a from index i on are those of b from index j on.
 pub fn same_part(a: &[u8], i: usize, b: &[u8], j: usize, n: usize) -> bool
-    requires n_in_bounds { i + n ≤ length a.now }
-    requires n_in_bounds_2 { j + n ≤ length b.now }
+    requires in_first { i + n ≤ length a.now }
+    requires in_second { j + n ≤ length b.now }
     ensures { result ≡ same_list (part a.now i n) (part b.now j n) }
 {
     a[i..i + n] == b[j..j + n]
@@ -107,6 +108,7 @@ pub fn is_digits(s: &[u8], at: usize, width: usize, n: u64) -> bool
     ensures { result ≡ same_list (part s.now at width) (digits width n) }
 {
     let mut m = n;
+    // By `as`, as in `put_digits`.
     for i in (0..width).rev() {
         if s[at + i] != (48 + m % 10) as u8 {
             return false;

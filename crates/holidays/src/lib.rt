@@ -4,7 +4,7 @@
 ghost use Rattle.std.specs.Prelude.{◌≡◌, ◌==◌, ◌+◌, ◌≤◌, length, take, drop, position};
 ghost use Rattle.fields.specs.Put.{put};
 ghost use Rattle.holidays.specs.Lines.{date_in, digit_in, holidays_of};
-ghost use Rattle.holidays.specs.DayLine.{number_width, refusal_line, day_line, day_room, day_of};
+ghost use Rattle.holidays.specs.DayLine.{number_width, day_line, day_room, day_of};
 ghost use Rattle.holidays.specs.parts.FirstLine.{first_line};
 
 use rules::Cause;
@@ -34,7 +34,7 @@ fn digit_in(argument: &[u8]) -> u64
     if !fields::is_digit(x) {
         return 10;
     }
-    (x - 48) as u64
+    u64::from(x - b'0')
 }
 
 // The index of the first byte 10.
@@ -55,8 +55,8 @@ fn line_end(s: &[u8], at: usize) -> usize
 
 // Puts the dates of the lines into `holidays`, as many as it has room for, and answers how many it put.
 fn read_holidays(s: &[u8], holidays: &mut [u64]) -> usize
-    ensures value { result ≡ length (take (length holidays.old) (holidays_of s.now)) }
-    ensures holidays_after { holidays.new ≡ put holidays.old 0 (take (length holidays.old) (holidays_of s.now)) }
+    ensures answer { result ≡ length (take (length holidays.old) (holidays_of s.now)) }
+    ensures dates { holidays.new ≡ put holidays.old 0 (take (length holidays.old) (holidays_of s.now)) }
 {
     let mut at = 0;
     for (n, holiday) in holidays.iter_mut().enumerate() {
@@ -77,24 +77,11 @@ fn number_width(n: u64) -> usize
     if n < 10 { 1 } else { 2 }
 }
 
-// Writes the line of a refusal and answers its length.
-fn put_refusal(out: &mut [u8], n: u64) -> usize
-    requires { day_room ≤ length out.old }
-    ensures value { result ≡ length (refusal_line n) }
-    ensures out_after { out.new ≡ put out.old 0 (refusal_line n) }
-{
-    let width = number_width(n);
-    fields::put_bytes(out, 0, b"stopped,");
-    fields::put_digits(out, 8, width, n);
-    fields::put_bytes(out, 8 + width, b"\n");
-    9 + width
-}
-
 // Writes the line of a date that was worked out, or of the refusal, and answers its length.
 fn put_day(out: &mut [u8], d: Result<Date, Cause>) -> usize
     requires { day_room ≤ length out.old }
-    ensures value { result ≡ length (day_line d) }
-    ensures out_after { out.new ≡ put out.old 0 (day_line d) }
+    ensures answer { result ≡ length (day_line d) }
+    ensures written { out.new ≡ put out.old 0 (day_line d) }
 {
     match d {
         Ok(date) => {
@@ -102,7 +89,14 @@ fn put_day(out: &mut [u8], d: Result<Date, Cause>) -> usize
             fields::put_bytes(out, 8, b"\n");
             9
         }
-        Err(cause) => put_refusal(out, cause.number()),
+        Err(cause) => {
+            let n = u64::from(cause);
+            let width = number_width(n);
+            fields::put_bytes(out, 0, b"stopped,");
+            fields::put_digits(out, 8, width, n);
+            fields::put_bytes(out, 8 + width, b"\n");
+            9 + width
+        }
     }
 }
 
@@ -120,8 +114,8 @@ fn day_of(date: &[u8], number: &[u8], s: &[u8]) -> Result<Date, Cause>
 // Writes the line that is printed for the bytes of DATE and NUMBER and the holidays' lines, and answers its length.
 pub fn print_day(out: &mut [u8], date: &[u8], number: &[u8], s: &[u8]) -> usize
     requires { day_room ≤ length out.old }
-    ensures value { result ≡ length (day_line (day_of date.now number.now s.now)) }
-    ensures out_after { out.new ≡ put out.old 0 (day_line (day_of date.now number.now s.now)) }
+    ensures answer { result ≡ length (day_line (day_of date.now number.now s.now)) }
+    ensures written { out.new ≡ put out.old 0 (day_line (day_of date.now number.now s.now)) }
 {
     let d = day_of(date, number, s);
     put_day(out, d)

@@ -2,7 +2,7 @@
 // removal change it.
 ghost use Rattle.std.specs.Prelude.{◌≡◌, ◌+◌, ◌<◌, ◌≤◌, length};
 ghost use Rattle.fields.specs.Put.{put};
-ghost use Rattle.ledger.specs.Bills.{code_bytes, is_prepay, product_byte, charge_of, applied_of, owed_of, is_of, is_open, state_of, blank_bill, first_bill, renewed, posting, cancelled_bill, is_of_account, removed_terms, removed_bill};
+ghost use Rattle.ledger.specs.Bills.{code_bytes, is_prepay, product_byte, product_of, charge_of, applied_of, owed_of, is_open, state_of, blank_bill, first_bill, renewed, posting, cancelled_bill, is_of_account, removed_terms, removed_bill};
 ghost use Rattle.ledger.specs.Books.{removed_of};
 ghost use Rattle.ledger.specs.Limits.{last_sequence};
 
@@ -27,14 +27,29 @@ impl Product {
             Product::Prepay => true,
         }
     }
+}
 
-    // B or P.
-    pub fn byte(self) -> u8
-        ensures { result ≡ product_byte self }
-    {
-        match self {
-            Product::BillReady => 66,
-            Product::Prepay => 80,
+// B or P.
+impl From<Product> for u8 {
+    ghost from_gives = { λ p x. x ≡ product_byte p };
+
+    fn from(p: Product) -> u8 {
+        match p {
+            Product::BillReady => b'B',
+            Product::Prepay => b'P',
+        }
+    }
+}
+
+// The product of a byte: no refusal, since whoever reads one has asked before whether it is B or P.
+impl From<u8> for Product {
+    ghost from_gives = { λ x p. p ≡ product_of x };
+
+    fn from(x: u8) -> Product {
+        if x == b'P' {
+            Product::Prepay
+        } else {
+            Product::BillReady
         }
     }
 }
@@ -72,12 +87,7 @@ impl Posted {
 }
 
 impl Terms {
-    pub fn is_of(self, id: Identity) -> bool
-        ensures { result ≡ is_of id self }
-    {
-        (self.identity.account == id.account) & (self.identity.key == id.key)
-    }
-
+    // A test of one field, by its name: no equality of two identities.
     pub fn is_of_account(self, account: u64) -> bool
         ensures { result ≡ is_of_account account self }
     {
@@ -87,14 +97,13 @@ impl Terms {
     pub fn is_open(self, today: Date) -> bool
         ensures { result ≡ is_open today self }
     {
-        !self.cancelled & today.at_most(self.latest.scheduled)
+        !self.cancelled & (today <= self.latest.scheduled)
     }
 
     pub fn state(self, today: Date) -> State
         ensures { result ≡ state_of today self }
     {
-        let cancelled = self.cancelled;
-        if cancelled {
+        if self.cancelled {
             return State::Cancelled;
         }
         if self.is_open(today) {
@@ -104,23 +113,11 @@ impl Terms {
     }
 
     // The terms with this removal date in the place of any earlier one.
-    fn removed(self, date: Date) -> Terms
+    fn removed(mut self, date: Date) -> Terms
         ensures { result ≡ removed_terms date self }
     {
-        let identity = self.identity;
-        let code = self.code;
-        let product = self.product;
-        let latest = self.latest;
-        Terms {
-            identity,
-            code,
-            product,
-            sequence: self.sequence,
-            requests: self.requests,
-            cancelled: self.cancelled,
-            latest,
-            removal: Some(date),
-        }
+        self.removal = Some(date);
+        self
     }
 }
 
@@ -180,11 +177,9 @@ impl Bill {
         requires { (self.terms.requests ≤ self.terms.sequence) × (self.terms.sequence < last_sequence) }
         ensures { result ≡ renewed latest self }
     {
-        let mut terms = self.terms;
-        terms.sequence = terms.sequence + 1;
-        terms.requests = terms.requests + 1;
-        terms.latest = latest;
-        self.terms = terms;
+        self.terms.sequence += 1;
+        self.terms.requests += 1;
+        self.terms.latest = latest;
         self
     }
 
@@ -194,14 +189,10 @@ impl Bill {
         ensures { result ≡ posting amounts sup self }
     {
         if sup {
-            let sequence = self.terms.sequence + 1;
-            self.terms.sequence = sequence;
+            self.terms.sequence += 1;
         }
-        let terms = self.terms;
-        Bill {
-            terms,
-            posted: amounts,
-        }
+        self.posted = amounts;
+        self
     }
 
     // The bill marked as cancelled, with no posted amounts.
@@ -209,29 +200,23 @@ impl Bill {
         ensures { result ≡ cancelled_bill self }
     {
         self.terms.cancelled = true;
-        let terms = self.terms;
-        Bill {
-            terms,
-            posted: Posted::None,
-        }
+        self.posted = Posted::None;
+        self
     }
 
     // The bill with this removal date in the place of any earlier one.
-    fn remove(self, date: Date) -> Bill
+    fn remove(mut self, date: Date) -> Bill
         ensures { result ≡ removed_bill date self }
     {
-        let old = self.terms;
-        let terms = old.removed(date);
-        let posted = self.posted;
-        Bill { terms, posted }
+        self.terms = self.terms.removed(date);
+        self
     }
 
     // The same if it is of this account; else the bill as it is.
     pub fn remove_if_of(self, account: u64, date: Date) -> Bill
         ensures { result ≡ removed_of account date self }
     {
-        let terms = self.terms;
-        if terms.is_of_account(account) {
+        if self.terms.is_of_account(account) {
             return self.remove(date);
         }
         self

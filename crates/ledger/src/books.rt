@@ -14,13 +14,12 @@ impl Ledger {
     pub fn empty(today: Date, tracking: u64, confirmation: u64) -> Ledger
         ensures { result ≡ empty_ledger today tracking confirmation }
     {
-        let blank = Bill::blank();
         Ledger {
-            today: today,
+            today,
             next_tracking: tracking,
             next_confirmation: confirmation,
             count: 0,
-            bills: [blank; crate::PLACES],
+            bills: [Bill::blank(); crate::PLACES],
         }
     }
 
@@ -37,14 +36,11 @@ impl Ledger {
         requires { i < ledger_places }
         ensures { result ≡ updated self i u }
     {
-        let h = u.header;
-        let today = h.today;
-        let b = u.bill;
-        self.bills[i] = b;
-        self.today = today;
-        self.next_tracking = h.tracking;
-        self.next_confirmation = h.confirmation;
-        self.count = h.count;
+        self.bills[i] = u.bill;
+        self.today = u.header.today;
+        self.next_tracking = u.header.tracking;
+        self.next_confirmation = u.header.confirmation;
+        self.count = u.header.count;
         self
     }
 
@@ -53,9 +49,7 @@ impl Ledger {
         requires { (self.count ≤ ledger_places) × (every small_charge (live self) ≡ true) }
         ensures { result.0 ≡ total_of (live self) }
     {
-        let b = self.bills;
-        let n = self.count;
-        total_first(b, n)
+        total_first(self.bills, self.count)
     }
 }
 
@@ -63,7 +57,7 @@ impl Ledger {
 fn place_among(bills: &[Bill], id: Identity) -> Option<usize>
     ensures { result ≡ position (of_id id) bills.now }
 {
-    bills.iter().position(|b| b.terms.is_of(id))
+    bills.iter().position(|b| b.terms.identity == id)
 }
 
 fn within(i: usize) -> usize
@@ -95,8 +89,7 @@ pub fn add_charge(sum: Cents, b: Bill) -> Cents
     requires { sum.0 + bill_charge b < 2 ^ 64 }
     ensures { result.0 ≡ sum.0 + bill_charge b }
 {
-    let p = b.posted;
-    sum.plus(p.charge())
+    sum + b.posted.charge()
 }
 
 // The sum of the posted charges of lent bills.
@@ -119,7 +112,7 @@ fn total_first(bills: [Bill; crate::PLACES], n: usize) -> Cents
     total(&bills[..n])
 }
 
-// The signed change of a total.
+// The signed change of a total. By `as`, which is proved to keep both: `try_from` would want an answer for sums that no ledger has.
 pub fn signed_change(new: Cents, old: Cents) -> i64
     requires { (new.0 < 2 ^ 63) × (old.0 < 2 ^ 63) }
     ensures { result ≡ pos new.0 -ℤ pos old.0 }

@@ -25,14 +25,14 @@ pub const ACCOUNT_END: u64 = 1000000000000;
 pub const KEY_END: u64 = 10000;
 
 // What identifies a bill: Customer Account Number and Bill Key.
-#[derive(Clone, Copy)]
+#[derive(Clone, Copy, PartialEq, Eq)]
 pub struct Identity {
     pub account: u64,
     pub key: u64,
 }
 
 // Two of A-Z or 0-9, then C, then two digits: the C is not held.
-#[derive(Clone, Copy)]
+#[derive(Clone, Copy, PartialEq, Eq)]
 pub struct RateCode {
     pub first: u8,
     pub second: u8,
@@ -40,7 +40,7 @@ pub struct RateCode {
     pub ones: u8,
 }
 
-#[derive(Clone, Copy)]
+#[derive(Clone, Copy, PartialEq, Eq)]
 pub enum Product {
     BillReady,
     Prepay,

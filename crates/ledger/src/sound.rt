@@ -13,7 +13,7 @@ fn is_letter(x: u8) -> bool
 }
 
 impl RateCode {
-    // Two letters or digits, and two digits.
+    // Two letters or digits, and two digits. A test and no `TryFrom`: words that are not a sound ledger's hold codes that are none.
     pub fn valid(self) -> bool
         ensures { result ≡ is_rate_code (code_bytes self) }
     {
@@ -47,12 +47,10 @@ impl Terms {
         ensures { result ≡ sound_terms self }
     {
         let id = self.identity;
-        let code = self.code;
         let latest = self.latest;
-        let removal = self.removal;
         (id.account < crate::ACCOUNT_END)
             & (id.key < crate::KEY_END)
-            & code.valid()
+            & self.code.valid()
             & (1 <= self.requests)
             & (self.requests <= self.sequence)
             & (self.sequence <= crate::LAST_SEQUENCE)
@@ -62,7 +60,7 @@ impl Terms {
             & latest.billing.valid()
             & latest.from.valid()
             & latest.scheduled.valid()
-            & is_sound_removal(removal)
+            & is_sound_removal(self.removal)
     }
 }
 
@@ -70,10 +68,7 @@ impl Terms {
 fn is_balanced(charge: Cents, applied: Cents, owed: Cents) -> bool
     ensures { result ≡ balanced charge applied owed }
 {
-    if charge.fits() & applied.fits() & owed.fits() {
-        return applied.plus(owed).same(charge);
-    }
-    false
+    (charge.fits() & applied.fits() & owed.fits()) && applied + owed == charge
 }
 
 impl Posted {
@@ -81,16 +76,14 @@ impl Posted {
     pub fn sound(self, t: Terms) -> bool
         ensures { result ≡ sound_amounts t self }
     {
-        let product = t.product;
-        let cancelled = t.cancelled;
         match self {
             Posted::None => true,
-            Posted::BillReady(charge) => !cancelled & !product.is_prepay() & charge.fits(),
+            Posted::BillReady(charge) => !t.cancelled & !t.product.is_prepay() & charge.fits(),
             Posted::Prepay {
                 charge,
                 applied,
                 owed,
-            } => !cancelled & product.is_prepay() & is_balanced(charge, applied, owed),
+            } => !t.cancelled & t.product.is_prepay() & is_balanced(charge, applied, owed),
         }
     }
 }
@@ -99,8 +92,6 @@ impl Bill {
     pub fn sound(self) -> bool
         ensures { result ≡ sound_bill self }
     {
-        let terms = self.terms;
-        let posted = self.posted;
-        terms.sound() & posted.sound(terms)
+        self.terms.sound() & self.posted.sound(self.terms)
     }
 }

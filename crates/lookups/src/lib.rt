@@ -44,7 +44,7 @@ pub fn due_with(first: Option<Due>, p: usize, b: Bill, account: u64, today: Date
     }
     let date = b.terms.latest.scheduled;
     match first {
-        Some(held) if held.date.at_most(date) => first,
+        Some(held) if held.date <= date => first,
         _ => Some(Due { place: p, date }),
     }
 }

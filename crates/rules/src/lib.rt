@@ -25,12 +25,12 @@ pub enum Cause {
     NoSuchDay = 15,
 }
 
-impl Cause {
-    // Its number.
-    pub fn number(self) -> u64
-        ensures { result ≡ cause_number self }
-    {
-        self as u64
+// Its number.
+impl From<Cause> for u64 {
+    ghost from_gives = { λ cause n. n ≡ cause_number cause };
+
+    fn from(cause: Cause) -> u64 {
+        cause as u64
     }
 }
 
@@ -60,11 +60,11 @@ pub enum ErrorCode {
     Br26 = 26,
 }
 
-impl ErrorCode {
-    // Its number.
-    pub fn number(self) -> u64
-        ensures { result ≡ code_number self }
-    {
-        self as u64
+// Its number.
+impl From<ErrorCode> for u64 {
+    ghost from_gives = { λ code n. n ≡ code_number code };
+
+    fn from(code: ErrorCode) -> u64 {
+        code as u64
     }
 }

@@ -64,7 +64,7 @@ fn put_kind(out: &mut [u8], at: usize, p: Product)
     requires { at + 2 ≤ length out.old }
     ensures { out.new ≡ put out.old at (cell (product_byte p ∷ [])) }
 {
-    let kind = [p.byte(), 44];
+    let kind = [u8::from(p), 44];
     fields::put_bytes(out, at, &kind);
 }
 

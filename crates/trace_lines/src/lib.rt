@@ -83,7 +83,7 @@ fn put_answer(out: &mut [u8], at: usize, answer: Result<Returned, Cause>)
                 rejected: 0,
                 closed: 0,
             };
-            put_figures(out, at, cause.number(), zeros)
+            put_figures(out, at, u64::from(cause), zeros)
         }
     }
 }

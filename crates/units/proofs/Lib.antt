@@ -3,3 +3,4 @@ pub mod DateLaws
 pub mod YearLaws
 pub mod MonthLaws
 pub mod DayExamples
+pub mod DateOrder

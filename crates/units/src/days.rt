@@ -24,6 +24,7 @@ fn days_before_month(y: u64, m: u64) -> u64
     requires { (1 ≤ m) × (m ≤ 12) }
     ensures { result ≡ days_of_months y (m - 1) }
 {
+    // by `as`, which is proved to keep it: an index has no `From`, and `try_from` would want an answer for what is no month
     let k = (m - 1) as usize;
     let days = MONTH_STARTS[k];
     if m <= 2 {

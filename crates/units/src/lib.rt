@@ -4,43 +4,45 @@
 
 mod days;
 
-ghost use Rattle.std.specs.Prelude.{◌≡◌, ◌+◌, ◌<◌, ◌^◌, leb, ltb, eqb};
+ghost use Rattle.std.specs.Prelude.{◌≡◌, ◌+◌, ◌<◌, ◌^◌};
 ghost use Rattle.units.specs.Units.{fits_cents, fits_ccf, fits_rate};
 ghost use Rattle.units.specs.Calendar.{is_leap, month_days, is_date};
 
+use std::ops::Add;
+
 // Whole cents.
-#[derive(Clone, Copy)]
+#[derive(Clone, Copy, PartialEq, Eq, PartialOrd, Ord)]
 pub struct Cents(pub u64);
 
 // Whole hundred cubic feet.
-#[derive(Clone, Copy)]
+#[derive(Clone, Copy, PartialEq, Eq, PartialOrd, Ord)]
 pub struct Ccf(pub u64);
 
 // Hundred-thousandths of a dollar per Mcf.
-#[derive(Clone, Copy)]
+#[derive(Clone, Copy, PartialEq, Eq, PartialOrd, Ord)]
 pub struct Rate(pub u64);
 
 // The last date of the "years 1900 to 2999".
 pub const LAST_DATE: u64 = 29991231;
 
 // A date as yyyymmdd.
-#[derive(Clone, Copy)]
+#[derive(Clone, Copy, PartialEq, Eq, PartialOrd, Ord)]
 pub struct Date(pub u64);
 
-impl Cents {
-    pub fn plus(self, other: Cents) -> Cents
-        requires { self.0 + other.0 < 2 ^ 64 }
-        ensures { result.0 ≡ self.0 + other.0 }
-    {
+impl Add for Cents {
+    type Output = Cents;
+
+    ghost can_add = { λ a b. a.0 + b.0 < 2 ^ 64 };
+
+    ghost add_gives = { λ a b sum. sum.0 ≡ a.0 + b.0 };
+
+    fn add(self, other: Cents) -> Cents {
         Cents(self.0 + other.0)
     }
+}
 
-    pub fn same(self, other: Cents) -> bool
-        ensures { result ≡ eqb self.0 other.0 }
-    {
-        self.0 == other.0
-    }
-
+// A trait with each unit's limit as a constant would need an impl for each, and the number of each by a method: longer than the three `fits`.
+impl Cents {
     // Whether a charge fits its 13 digits.
     pub fn fits(self) -> bool
         ensures { result ≡ fits_cents self }
@@ -49,20 +51,19 @@ impl Cents {
     }
 }
 
-impl Ccf {
-    pub fn plus(self, other: Ccf) -> Ccf
-        requires { self.0 + other.0 < 2 ^ 64 }
-        ensures { result.0 ≡ self.0 + other.0 }
-    {
+impl Add for Ccf {
+    type Output = Ccf;
+
+    ghost can_add = { λ a b. a.0 + b.0 < 2 ^ 64 };
+
+    ghost add_gives = { λ a b sum. sum.0 ≡ a.0 + b.0 };
+
+    fn add(self, other: Ccf) -> Ccf {
         Ccf(self.0 + other.0)
     }
+}
 
-    pub fn same(self, other: Ccf) -> bool
-        ensures { result ≡ eqb self.0 other.0 }
-    {
-        self.0 == other.0
-    }
-
+impl Ccf {
     // Whether a consumption fits its 10 digits.
     pub fn fits(self) -> bool
         ensures { result ≡ fits_ccf self }
@@ -106,19 +107,7 @@ fn month_days(y: u64, m: u64) -> u64
 }
 
 impl Date {
-    pub fn at_most(self, other: Date) -> bool
-        ensures { result ≡ leb self.0 other.0 }
-    {
-        self.0 <= other.0
-    }
-
-    pub fn before(self, other: Date) -> bool
-        ensures { result ≡ ltb self.0 other.0 }
-    {
-        self.0 < other.0
-    }
-
-    // A date of the Gregorian calendar in the years 1900 to 2999.
+    // A date of the Gregorian calendar in the years 1900 to 2999. A test and no `TryFrom`: words that are not a sound ledger's hold dates that are none.
     pub fn valid(self) -> bool
         ensures { result ≡ is_date self.0 }
     {

@@ -129,19 +129,13 @@ fn line_9(d: &[u8], consumption: Ccf, charge: Cents) -> Result<(), ErrorCode>
     let Some(ccf) = records::tier_consumptions(d) else {
         return Err(ErrorCode::Br25);
     };
-    if !Ccf(ccf.0)
-        .plus(Ccf(ccf.1).plus(Ccf(ccf.2).plus(Ccf(ccf.3))))
-        .same(consumption)
-    {
+    if Ccf(ccf.0) + (Ccf(ccf.1) + (Ccf(ccf.2) + Ccf(ccf.3))) != consumption {
         return Err(ErrorCode::Br25);
     }
     let Some(cents) = records::tier_charges(d) else {
         return Err(ErrorCode::Br26);
     };
-    if !Cents(cents.0)
-        .plus(Cents(cents.1).plus(Cents(cents.2).plus(Cents(cents.3))))
-        .same(charge)
-    {
+    if Cents(cents.0) + (Cents(cents.1) + (Cents(cents.2) + Cents(cents.3))) != charge {
         return Err(ErrorCode::Br26);
     }
     Ok(())
@@ -172,7 +166,7 @@ fn prepay(h: &[u8], d: &[u8], consumption: Ccf, charge: Cents) -> Result<Posted,
         return Err(ErrorCode::Br23);
     };
     line_9(d, consumption, charge)?;
-    if !Cents(applied).plus(Cents(owed)).same(charge) {
+    if Cents(applied) + Cents(owed) != charge {
         return Err(ErrorCode::Br20);
     }
     Ok(Posted::Prepay {
@@ -191,7 +185,7 @@ fn amounts(h: &[u8], d: &[u8], t: Terms) -> Result<Posted, ErrorCode>
         return Err(ErrorCode::Br08);
     };
     let asked = t.latest.consumption;
-    if !Ccf(c).same(asked) {
+    if Ccf(c) != asked {
         return Err(ErrorCode::Br06);
     }
     let Some(m) = records::charge(d) else {

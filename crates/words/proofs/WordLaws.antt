@@ -104,6 +104,12 @@ code-bytes ws h =
     let r = and_right b (c && d) q in
     (ltb-true _ _ (and_left a (b && (c && d)) p), ltb-true _ _ (and_left b (c && d) q), ltb-true _ _ (and_left c d r), ltb-true _ _ (and_right c d r))
 
+-- and so is its product's word
+pub product-byte : (ws : List ℕ) → holds_bill ws ≡ true → get_or ws 6 0 < 256
+product-byte ws h =
+    let w = get_or ws 6 0 in
+    or_cases (eqb w 66) (eqb w 80) (place ws h).product (λ e. omega (arith, eqb-true w 66 e)) (λ e. omega (arith, eqb-true w 80 e))
+
 pub four_bytes : (a b c d : ℕ) → a < 256 → b < 256 → c < 256 → d < 256 → holds_code a b c d ≡ true
 four_bytes a b c d h i j k = rw (lt-ltb a 256 h, lt-ltb b 256 i, lt-ltb c 256 j, lt-ltb d 256 k)
 

@@ -4,8 +4,7 @@
 ghost use Rattle.std.specs.Prelude.{◌≡◌, true, ◌+◌, ◌≤◌, ◌<◌, [], ◌∷◌, ◌++◌, length, drop};
 ghost use Rattle.fields.specs.Put.{put};
 ghost use Rattle.ledger.specs.Books.{empty_ledger};
-ghost use Rattle.words.specs.Layout.{place_size, ledger_size, mark_word, terms_words, latest_words, posted_words, removal_word, bill_words, ledger_words, holds_code, holds_posted, holds_bill, holds_ledger, posted_in, code_in, latest_in, removal_in, terms_in, bill_in, ledger_of};
-ghost use Rattle.ledger.specs.Bills.{product_of};
+ghost use Rattle.words.specs.Layout.{place_size, ledger_size, terms_words, latest_words, posted_words, bill_words, ledger_words, holds_code, holds_posted, holds_bill, holds_ledger, posted_in, code_in, latest_in, terms_in, bill_in, ledger_of};
 ghost use Rattle.units.specs.Calendar.{date_of};
 
 use ledger::{Bill, Identity, Latest, Posted, Product, RateCode, Terms};
@@ -61,16 +60,6 @@ pub fn fits(words: &[u64]) -> bool
 }
 
 // ---- the ledger whose words they are
-// B or P.
-fn product_in(w: u64) -> Product
-    ensures { result ≡ product_of w }
-{
-    if w == 80 {
-        return Product::Prepay;
-    }
-    Product::BillReady
-}
-
 // The posted amounts of a kind and its three words.
 fn posted_in(kind: u64, charge: u64, applied: u64, owed: u64) -> Posted
     ensures { result ≡ posted_in kind charge applied owed }
@@ -102,48 +91,30 @@ fn latest_in(w: &[u64]) -> Latest
     }
 }
 
-// The removal date of a word: 0 is none.
-fn removal_in(w: u64) -> Option<Date>
-    ensures { result ≡ removal_in w }
-{
-    if w == 0 {
-        return None;
-    }
-    Some(Date(w))
-}
-
-// A word that is a byte.
-fn byte(w: u64) -> u8
-    requires { w < 256 }
-    ensures { result ≡ w }
-{
-    w as u8
-}
-
-// The rate code of a place's words.
+// The rate code of a place's words. By `as`, which is proved to keep each: `try_from` would want an answer for words that no place holds.
 fn code_in(w: &[u64]) -> RateCode
-    requires place_size_in_bounds { place_size ≤ length w.now }
-    requires w_value { holds_bill w.now ≡ true }
+    requires has_place { place_size ≤ length w.now }
+    requires holds { holds_bill w.now ≡ true }
     ensures { result ≡ code_in w.now }
 {
     RateCode {
-        first: byte(w[2]),
-        second: byte(w[3]),
-        tens: byte(w[4]),
-        ones: byte(w[5]),
+        first: w[2] as u8,
+        second: w[3] as u8,
+        tens: w[4] as u8,
+        ones: w[5] as u8,
     }
 }
 
 // A bill but for its posted amounts, of a place's words.
 fn terms_in(w: &[u64]) -> Terms
-    requires place_size_in_bounds { place_size ≤ length w.now }
-    requires w_value { holds_bill w.now ≡ true }
+    requires has_place { place_size ≤ length w.now }
+    requires holds { holds_bill w.now ≡ true }
     ensures { result ≡ terms_in w.now }
 {
     let code = code_in(w);
-    let product = product_in(w[6]);
+    let product = Product::from(w[6] as u8);
     let latest = latest_in(w);
-    let removal = removal_in(w[19]);
+    let removal = w[19];
     Terms {
         identity: Identity {
             account: w[0],
@@ -155,14 +126,15 @@ fn terms_in(w: &[u64]) -> Terms
         requests: w[8],
         cancelled: w[9] == 1,
         latest,
-        removal,
+        // 0 is none
+        removal: (removal != 0).then_some(Date(removal)),
     }
 }
 
 // The bill of the 20 words from index `at` on.
 pub fn bill_in(words: &[u64], at: usize) -> Bill
-    requires place_size_in_bounds { at + place_size ≤ length words.now }
-    requires words_value { holds_bill (drop at words.now) ≡ true }
+    requires has_place { at + place_size ≤ length words.now }
+    requires holds { holds_bill (drop at words.now) ≡ true }
     ensures { result ≡ bill_in (drop at words.now) }
 {
     let w = &words[at..];
@@ -172,38 +144,6 @@ pub fn bill_in(words: &[u64], at: usize) -> Bill
 }
 
 // ---- a ledger's words
-// Writes src into words from index `at` on.
-fn put_words(words: &mut [u64], at: usize, src: &[u64])
-    requires { at + length src.now ≤ length words.old }
-    ensures { words.new ≡ put words.old at src.now }
-{
-    words[at..at + src.len()].copy_from_slice(src);
-}
-
-// 0 or 1.
-fn mark(m: bool) -> u64
-    ensures { result ≡ mark_word m }
-{
-    if m { 1 } else { 0 }
-}
-
-// A byte as a word.
-fn wide(x: u8) -> u64
-    ensures { result ≡ x }
-{
-    x as u64
-}
-
-// Word 19 of a place.
-fn removal_word(r: Option<Date>) -> u64
-    ensures { result ≡ removal_word r }
-{
-    match r {
-        None => 0,
-        Some(d) => d.0,
-    }
-}
-
 // Words 15 to 19 of a place.
 fn last_words(p: Posted, removal: u64) -> [u64; 5]
     ensures { result ≡ posted_words p ++ (removal ∷ []) }
@@ -240,14 +180,14 @@ fn terms_words(t: Terms) -> [u64; 10]
     [
         t.identity.account,
         t.identity.key,
-        wide(t.code.first),
-        wide(t.code.second),
-        wide(t.code.tens),
-        wide(t.code.ones),
-        wide(p.byte()),
+        u64::from(t.code.first),
+        u64::from(t.code.second),
+        u64::from(t.code.tens),
+        u64::from(t.code.ones),
+        u64::from(u8::from(p)),
         t.sequence,
         t.requests,
-        mark(t.cancelled),
+        u64::from(t.cancelled),
     ]
 }
 
@@ -262,17 +202,17 @@ pub fn put_bill(words: &mut [u64], at: usize, b: Bill)
     let first = terms_words(t);
     let second = latest_words(r);
     let removal = t.removal;
-    let third = last_words(p, removal_word(removal));
-    put_words(words, at, &first);
-    put_words(words, at + 10, &second);
-    put_words(words, at + 15, &third);
+    let third = last_words(p, removal.map_or(0, |d| d.0));
+    words[at..at + 10].copy_from_slice(&first);
+    words[at + 10..at + 15].copy_from_slice(&second);
+    words[at + 15..at + PLACE_SIZE].copy_from_slice(&third);
 }
 
 // Writes the words of a ledger with no bills, which read back as that ledger; none is made.
 pub fn write_empty(words: &mut [u64], today: u64, tracking: u64, confirmation: u64)
     requires { length words.old ≡ ledger_size }
-    ensures words_after { words.new ≡ ledger_words (empty_ledger (date_of today) tracking confirmation) }
-    ensures words_after_2 { ledger_of words.new ≡ empty_ledger (date_of today) tracking confirmation }
+    ensures written { words.new ≡ ledger_words (empty_ledger (date_of today) tracking confirmation) }
+    ensures read_back { ledger_of words.new ≡ empty_ledger (date_of today) tracking confirmation }
 {
     words[0] = today;
     words[1] = tracking;

@@ -6,10 +6,10 @@ use Rattle.business_day.proofs.line_of_input.Goals as goal
 pub returns-clause-answer : goal.returns-clause-answer
 returns-clause-answer g c =
     let read = c.read_input-length in
-    answers _ _ _ read.result (read.auto.buf ∙ c.requires.0) read.ensures.stops _ _ _ _ c.in_default.is c.print_day.ensures.value c.print_day.ensures.out_after
+    answers _ _ _ read.result (read.auto.buf ∙ c.requires.0) read.ensures.stops _ _ _ _ c.in_default.is c.print_day.ensures.answer c.print_day.ensures.written
 
 pub returns-clause-all : goal.returns-clause-all
 returns-clause-all g c =
     let read = c.read_input-length in
-    answers-all _ _ _ read.result (read.auto.buf ∙ c.requires.0) read.ensures.stops _ _ _ _ c.in_default.is c.print_day.ensures.value c.print_day.ensures.out_after
+    answers-all _ _ _ read.result (read.auto.buf ∙ c.requires.0) read.ensures.stops _ _ _ _ c.in_default.is c.print_day.ensures.answer c.print_day.ensures.written
     _ _ read.ensures.bytes

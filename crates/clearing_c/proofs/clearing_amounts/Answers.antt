@@ -7,4 +7,4 @@ pub returns-in-Ok : goal.returns-in-Ok
 returns-in-Ok c = let e = sym c.amounts_of-found.ensures ∙ c.in-Ok.is in record { value = sym (ap number_of e); amounts_after = sym (ap (amounts_left _) e) }
 
 pub returns-in-Err : goal.returns-in-Err
-returns-in-Err c = let e = sym c.amounts_of-found.ensures ∙ c.in-Err.is in record { value = c.number.ensures ∙ sym (ap number_of e); amounts_after = sym (ap (amounts_left _) e) }
+returns-in-Err c = let e = sym c.amounts_of-found.ensures ∙ c.in-Err.is in record { value = c.from.ensures ∙ sym (ap number_of e); amounts_after = sym (ap (amounts_left _) e) }

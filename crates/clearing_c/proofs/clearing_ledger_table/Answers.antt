@@ -7,4 +7,4 @@ pub returns-in-Ok : goal.returns-in-Ok
 returns-in-Ok c = let e = sym c.print-p.ensures.answer ∙ c.in-Ok.is in record { number = sym (ap number_of e); written = sym (ap (number_left _) e); bytes = c.print-p.ensures.written }
 
 pub returns-in-Err : goal.returns-in-Err
-returns-in-Err c = let e = sym c.print-p.ensures.answer ∙ c.in-Err.is in record { number = c.number.ensures ∙ sym (ap number_of e); written = sym (ap (number_left _) e); bytes = c.print-p.ensures.written }
+returns-in-Err c = let e = sym c.print-p.ensures.answer ∙ c.in-Err.is in record { number = c.from.ensures ∙ sym (ap number_of e); written = sym (ap (number_left _) e); bytes = c.print-p.ensures.written }

@@ -43,7 +43,7 @@ loop-x-preserved c =
     let l = c.loop-x in
     let t : take (l.x-index + 1) f ≡ take l.x-index f ++ (get_or f l.x-index 0 ∷ []) = take_more f l.x-index (omega arith) in (
       rw t (numeric-snoc (take l.x-index f) (get_or f l.x-index 0) l.invariant.0 (is_digit-in (get_or f l.x-index 0) (omega arith) (omega arith))),
-      rw (t, number-snoc (take l.x-index f) (get_or f l.x-index 0)) (ap (λ (n : ℕ). n * 10 + (get_or f l.x-index 0 - 48)) l.invariant.1),
+      rw (t, number-snoc (take l.x-index f) (get_or f l.x-index 0), c.from.ensures) (ap (λ (n : ℕ). n * 10 + (get_or f l.x-index 0 - 48)) l.invariant.1),
     )
 
 pub returns : goal.returns

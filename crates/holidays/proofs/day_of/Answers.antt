@@ -8,10 +8,10 @@ use Rattle.holidays.proofs.InputLaws.{held-within, further-held}
 use Rattle.holidays.proofs.day_of.Goals as goal
 
 pub slice_bounds-holidays-end : goal.slice_bounds-holidays-end
-slice_bounds-holidays-end c = held-within _ _ (holidays_of c.args.s.now) _ c.read_holidays-n.ensures.value c.read_holidays-n.ensures.holidays_after
+slice_bounds-holidays-end c = held-within _ _ (holidays_of c.args.s.now) _ c.read_holidays-n.ensures.answer c.read_holidays-n.ensures.dates
 
 pub slice_bounds-business_day-end : goal.slice_bounds-business_day-end
-slice_bounds-business_day-end c = sym (length-take-le _ _ (held-within _ _ (holidays_of c.args.s.now) _ c.read_holidays-n.ensures.value c.read_holidays-n.ensures.holidays_after))
+slice_bounds-business_day-end c = sym (length-take-le _ _ (held-within _ _ (holidays_of c.args.s.now) _ c.read_holidays-n.ensures.answer c.read_holidays-n.ensures.dates))
 
 pub returns : goal.returns
 unfolding day_of
@@ -19,5 +19,5 @@ returns c =
     let read = c.read_holidays-n.ensures in
     let all = holidays_of c.args.s.now in
     c.business_day.ensures
-    ∙ further-held _ _ all _ read.value read.holidays_after refl _ _
+    ∙ further-held _ _ all _ read.answer read.dates refl _ _
     ∙ ap₂ (further_day all) c.date_in.ensures c.digit_in-further.ensures

@@ -3,5 +3,5 @@ use mathlib.Core.Path.{sym, ◌∙◌}
 use Rattle.fields.proofs.DigitLaws.{is_digit-range}
 use Rattle.holidays.proofs.digit_in.Goals as goal
 
-pub overflow_sub-result : goal.overflow_sub-result
-overflow_sub-result c = (is_digit-range _ (sym c.is_digit.ensures ∙ c.if-not-is_digit.false)).0
+pub overflow_sub-x : goal.overflow_sub-x
+overflow_sub-x c = (is_digit-range _ (sym c.is_digit.ensures ∙ c.if-not-is_digit.false)).0

@@ -11,7 +11,7 @@ loop-n-init c = read_none _ _
 pub returns-then-s-at : goal.returns-then-s-at
 returns-then-s-at c =
     let r = read_all c.loop-n.invariant c.if-s-at.true in
-    record { value = r.0; holidays_after = set-get_or _ _ _ ∙ r.1 }
+    record { answer = r.0; dates = set-get_or _ _ _ ∙ r.1 }
 
 pub slice_bounds-date_in-end : goal.slice_bounds-date_in-end
 slice_bounds-date_in-end c = omega (arith, (end-within c.args.s.now c.loop-n.at _ c.if-s-at.false c.line_end-end.ensures).1)

@@ -4,4 +4,4 @@ use Rattle.table.proofs.put_kind.Goals as goal
 
 pub returns : goal.returns
 unfolding cell
-returns c = rw c.byte.ensures at c.put_bytes.ensures
+returns c = rw c.from.ensures at c.put_bytes.ensures

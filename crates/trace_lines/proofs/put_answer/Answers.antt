@@ -6,4 +6,4 @@ pub returns-in-Ok : goal.returns-in-Ok
 returns-in-Ok c = rw c.in-Ok.is c.put_figures.ensures
 
 pub returns-in-Err : goal.returns-in-Err
-returns-in-Err c = rw (c.in-Err.is, sym c.number.ensures) c.put_figures-in-Err.ensures
+returns-in-Err c = rw (c.in-Err.is, sym c.from.ensures) c.put_figures-in-Err.ensures

@@ -8,17 +8,17 @@ pub returns-in_default : goal.returns-in_default
 unfolding line7
 returns-in_default c = rw (sym c.consumption.ensures ∙ c.in_default.is)
 
-pub returns-then-not-same : goal.returns-then-not-same
+pub returns-then-ne : goal.returns-then-ne
 unfolding line7
-returns-then-not-same c =
-    rw (sym c.consumption.ensures ∙ c.in-Some.is, sym c.same.ensures ∙ c.if-not-same.true)
+returns-then-ne c =
+    rw (sym c.consumption.ensures ∙ c.in-Some.is, sym c.ne.ensures ∙ c.if-ne.true)
 
 pub returns-in_default-charge : goal.returns-in_default-charge
 unfolding line7
 returns-in_default-charge c =
     rw (
       sym c.consumption.ensures ∙ c.in-Some.is,
-      sym c.same.ensures ∙ c.if-not-same.false,
+      sym c.ne.ensures ∙ c.if-ne.false,
       sym c.charge.ensures ∙ c.in_default-charge.is,
     )
 
@@ -30,7 +30,7 @@ unfolding line7
 returns-then-is_prepay c =
     rw (
       sym c.consumption.ensures ∙ c.in-Some.is,
-      sym c.same.ensures ∙ c.if-not-same.false,
+      sym c.ne.ensures ∙ c.if-ne.false,
       sym c.charge.ensures ∙ c.in-Some-charge.is,
       sym c.is_prepay.ensures ∙ c.if-is_prepay.true,
     ) c.prepay.ensures
@@ -40,7 +40,7 @@ unfolding line7 line8 line10 amounts_of
 returns c =
     rw (
       sym c.consumption.ensures ∙ c.in-Some.is,
-      sym c.same.ensures ∙ c.if-not-same.false,
+      sym c.ne.ensures ∙ c.if-ne.false,
       sym c.charge.ensures ∙ c.in-Some-charge.is,
       sym c.is_prepay.ensures ∙ c.if-is_prepay.false,
       append-nil (line9 _ _ _),

@@ -22,22 +22,22 @@ returns-in_default-tier_consumptions c =
       sym c.tier_consumptions.ensures ∙ c.in_default-tier_consumptions.is,
     )
 
-pub plus-requires : goal.plus-requires
-plus-requires c = omega (arith, consumptions-fit _ c.requires (sym c.tier_consumptions.ensures ∙ c.in-Some-tier_consumptions.is))
+pub add-requires : goal.add-requires
+add-requires c = omega (arith, consumptions-fit _ c.requires (sym c.tier_consumptions.ensures ∙ c.in-Some-tier_consumptions.is))
 
-pub plus-requires-2 : goal.plus-requires-2
-plus-requires-2 c = omega (arith, consumptions-fit _ c.requires (sym c.tier_consumptions.ensures ∙ c.in-Some-tier_consumptions.is))
+pub add-requires-2 : goal.add-requires-2
+add-requires-2 c = omega (arith, consumptions-fit _ c.requires (sym c.tier_consumptions.ensures ∙ c.in-Some-tier_consumptions.is))
 
-pub plus-requires-3 : goal.plus-requires-3
-plus-requires-3 c = omega (arith, consumptions-fit _ c.requires (sym c.tier_consumptions.ensures ∙ c.in-Some-tier_consumptions.is))
+pub add-requires-3 : goal.add-requires-3
+add-requires-3 c = omega (arith, consumptions-fit _ c.requires (sym c.tier_consumptions.ensures ∙ c.in-Some-tier_consumptions.is))
 
-pub returns-then-not-same : goal.returns-then-not-same
+pub returns-then-ne : goal.returns-then-ne
 unfolding line9
-returns-then-not-same c =
+returns-then-ne c =
     rw (
       rate-good (field_of (tier_rate_in c.args.d.now 88)) (sym c.tier_1_rate.ensures ∙ c.in-Some.is),
-      sum-misses {sum = c.plus-3.result.0} c.args.consumption.0 (sym c.tier_consumptions.ensures ∙ c.in-Some-tier_consumptions.is) (rw (c.plus-3.ensures, c.plus-2.ensures, c.plus.ensures)),
-      sym c.same.ensures ∙ c.if-not-same.true,
+      sum-misses {sum = c.add-3.result.0} c.args.consumption.0 (sym c.tier_consumptions.ensures ∙ c.in-Some-tier_consumptions.is) (rw (c.add-3.ensures, c.add-2.ensures, c.add.ensures)),
+      sym c.ne.ensures ∙ c.if-ne.true,
     )
 
 -- the four charges
@@ -46,29 +46,29 @@ unfolding line9
 returns-in_default-tier_charges c =
     rw (
       rate-good (field_of (tier_rate_in c.args.d.now 88)) (sym c.tier_1_rate.ensures ∙ c.in-Some.is),
-      sum-misses {sum = c.plus-3.result.0} c.args.consumption.0 (sym c.tier_consumptions.ensures ∙ c.in-Some-tier_consumptions.is) (rw (c.plus-3.ensures, c.plus-2.ensures, c.plus.ensures)),
-      sym c.same.ensures ∙ c.if-not-same.false,
+      sum-misses {sum = c.add-3.result.0} c.args.consumption.0 (sym c.tier_consumptions.ensures ∙ c.in-Some-tier_consumptions.is) (rw (c.add-3.ensures, c.add-2.ensures, c.add.ensures)),
+      sym c.ne.ensures ∙ c.if-ne.false,
       sym c.tier_charges.ensures ∙ c.in_default-tier_charges.is,
     )
 
-pub plus-requires-4 : goal.plus-requires-4
-plus-requires-4 c = omega (arith, charges-fit _ c.requires (sym c.tier_charges.ensures ∙ c.in-Some-tier_charges.is))
+pub add-requires-4 : goal.add-requires-4
+add-requires-4 c = omega (arith, charges-fit _ c.requires (sym c.tier_charges.ensures ∙ c.in-Some-tier_charges.is))
 
-pub plus-requires-5 : goal.plus-requires-5
-plus-requires-5 c = omega (arith, charges-fit _ c.requires (sym c.tier_charges.ensures ∙ c.in-Some-tier_charges.is))
+pub add-requires-5 : goal.add-requires-5
+add-requires-5 c = omega (arith, charges-fit _ c.requires (sym c.tier_charges.ensures ∙ c.in-Some-tier_charges.is))
 
-pub plus-requires-6 : goal.plus-requires-6
-plus-requires-6 c = omega (arith, charges-fit _ c.requires (sym c.tier_charges.ensures ∙ c.in-Some-tier_charges.is))
+pub add-requires-6 : goal.add-requires-6
+add-requires-6 c = omega (arith, charges-fit _ c.requires (sym c.tier_charges.ensures ∙ c.in-Some-tier_charges.is))
 
-pub returns-then-not-same-2 : goal.returns-then-not-same-2
+pub returns-then-ne-2 : goal.returns-then-ne-2
 unfolding line9
-returns-then-not-same-2 c =
+returns-then-ne-2 c =
     rw (
       rate-good (field_of (tier_rate_in c.args.d.now 88)) (sym c.tier_1_rate.ensures ∙ c.in-Some.is),
-      sum-misses {sum = c.plus-3.result.0} c.args.consumption.0 (sym c.tier_consumptions.ensures ∙ c.in-Some-tier_consumptions.is) (rw (c.plus-3.ensures, c.plus-2.ensures, c.plus.ensures)),
-      sym c.same.ensures ∙ c.if-not-same.false,
-      sum-misses {sum = c.plus-6.result.0} c.args.charge.0 (sym c.tier_charges.ensures ∙ c.in-Some-tier_charges.is) (rw (c.plus-6.ensures, c.plus-5.ensures, c.plus-4.ensures)),
-      sym c.same-2.ensures ∙ c.if-not-same-2.true,
+      sum-misses {sum = c.add-3.result.0} c.args.consumption.0 (sym c.tier_consumptions.ensures ∙ c.in-Some-tier_consumptions.is) (rw (c.add-3.ensures, c.add-2.ensures, c.add.ensures)),
+      sym c.ne.ensures ∙ c.if-ne.false,
+      sum-misses {sum = c.add-6.result.0} c.args.charge.0 (sym c.tier_charges.ensures ∙ c.in-Some-tier_charges.is) (rw (c.add-6.ensures, c.add-5.ensures, c.add-4.ensures)),
+      sym c.ne-2.ensures ∙ c.if-ne-2.true,
     )
 
 pub returns : goal.returns
@@ -76,8 +76,8 @@ unfolding line9
 returns c =
     rw (
       rate-good (field_of (tier_rate_in c.args.d.now 88)) (sym c.tier_1_rate.ensures ∙ c.in-Some.is),
-      sum-misses {sum = c.plus-3.result.0} c.args.consumption.0 (sym c.tier_consumptions.ensures ∙ c.in-Some-tier_consumptions.is) (rw (c.plus-3.ensures, c.plus-2.ensures, c.plus.ensures)),
-      sym c.same.ensures ∙ c.if-not-same.false,
-      sum-misses {sum = c.plus-6.result.0} c.args.charge.0 (sym c.tier_charges.ensures ∙ c.in-Some-tier_charges.is) (rw (c.plus-6.ensures, c.plus-5.ensures, c.plus-4.ensures)),
-      sym c.same-2.ensures ∙ c.if-not-same-2.false,
+      sum-misses {sum = c.add-3.result.0} c.args.consumption.0 (sym c.tier_consumptions.ensures ∙ c.in-Some-tier_consumptions.is) (rw (c.add-3.ensures, c.add-2.ensures, c.add.ensures)),
+      sym c.ne.ensures ∙ c.if-ne.false,
+      sum-misses {sum = c.add-6.result.0} c.args.charge.0 (sym c.tier_charges.ensures ∙ c.in-Some-tier_charges.is) (rw (c.add-6.ensures, c.add-5.ensures, c.add-4.ensures)),
+      sym c.ne-2.ensures ∙ c.if-ne-2.false,
     )

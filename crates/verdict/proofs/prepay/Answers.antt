@@ -36,24 +36,24 @@ returns-in_err-line_9 c =
     )
     (search rules)
 
-pub plus-requires : goal.plus-requires
-plus-requires c =
+pub add-requires : goal.add-requires
+add-requires c =
     omega (
       arith,
       field_below _ 233 13 _ (omega arith) (sym c.applied.ensures ∙ c.in-Some-applied.is),
       field_below _ 246 13 _ (omega arith) (sym c.owed.ensures ∙ c.in-Some-owed.is),
     )
 
-pub returns-then-not-same : goal.returns-then-not-same
+pub returns-then-ne : goal.returns-then-ne
 unfolding line8 line10
-returns-then-not-same c =
+returns-then-ne c =
     rw (
       sym c.balance.ensures ∙ c.in-Some.is,
       sym c.applied.ensures ∙ c.in-Some-applied.is,
       sym c.owed.ensures ∙ c.in-Some-owed.is,
       first-clear (line9 _ _ _) _ (sym c.line_9.ensures ∙ c.in_ok-line_9.was),
-      sym c.plus.ensures,
-      sym c.same.ensures ∙ c.if-not-same.true,
+      sym c.add.ensures,
+      sym c.ne.ensures ∙ c.if-ne.true,
     )
 
 pub returns : goal.returns
@@ -64,7 +64,7 @@ returns c =
       sym c.applied.ensures ∙ c.in-Some-applied.is,
       sym c.owed.ensures ∙ c.in-Some-owed.is,
       first-clear (line9 _ _ _) _ (sym c.line_9.ensures ∙ c.in_ok-line_9.was),
-      sym c.plus.ensures,
-      sym c.same.ensures ∙ c.if-not-same.false,
+      sym c.add.ensures,
+      sym c.ne.ensures ∙ c.if-ne.false,
       ← c.requires.charge_value,
     )

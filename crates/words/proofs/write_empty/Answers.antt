@@ -20,4 +20,4 @@ pub returns : goal.returns
 returns c =
     let k : length c.args.words.now ≡ ledger_size = c.requires in
     let e = blank-all (empty_ledger (date_of c.args.today) c.args.tracking c.args.confirmation) refl _ _ c.loop-i.i (simp length-set k) (omega arith) c.loop-i.invariant in
-    record { words_after = e.0; words_after_2 = e.1 }
+    record { written = e.0; read_back = e.1 }

@@ -18,4 +18,4 @@ returns c =
     let w4 = next w3 _ c.put_as_sent-2.ensures (length-within a.d.now c.requires.1 87 172 (omega arith)) in
     let w5 = next w4 _ c.put_bytes.ensures refl in
     let w6 = next w5 _ c.put_digits.ensures (length_digits 2 _) in
-    rw (sym c.number.ensures) (next w6 _ c.put_end.ensures (length-spaces-from 264)).same
+    rw (sym c.from.ensures) (next w6 _ c.put_end.ensures (length-spaces-from 264)).same

@@ -20,25 +20,25 @@ returns-then-cancelled c = rw (c.in-Some.is, c.if-cancelled.true)
 
 pub returns-then-not-same_code-r : goal.returns-then-not-same_code-r
 unfolding bill_causes
-returns-then-not-same_code-r c = rw (c.in-Some.is, c.if-cancelled.false, rw (c.same_code.ensures, c.byte.ensures) at c.if-not-same_code-r.true)
+returns-then-not-same_code-r c = rw (c.in-Some.is, c.if-cancelled.false, rw (c.same_code.ensures, c.from.ensures) at c.if-not-same_code-r.true)
 
-pub returns-then-same : goal.returns-then-same
-returns-then-same c =
+pub returns-then-eq : goal.returns-then-eq
+returns-then-eq c =
     -- past cause 6 what is left is 7 and 8
     let past =
-    known-past-6 c.args.r c.args.held c.args.b c.in-Some.t c.in-Some.is c.if-cancelled.false (ap not (rw (c.same_code.ensures, c.byte.ensures) at c.if-not-same_code-r.false)) in
-    rw (past, sym c.same.ensures ∙ c.if-same.true)
+    known-past-6 c.args.r c.args.held c.args.b c.in-Some.t c.in-Some.is c.if-cancelled.false (ap not (rw (c.same_code.ensures, c.from.ensures) at c.if-not-same_code-r.false)) in
+    rw (past, sym c.eq.ensures ∙ c.if-eq.true)
 
 pub returns-then-t-eq-LAST_SEQUENCE : goal.returns-then-t-eq-LAST_SEQUENCE
 returns-then-t-eq-LAST_SEQUENCE c =
     -- past cause 6 what is left is 7 and 8
     let past =
-    known-past-6 c.args.r c.args.held c.args.b c.in-Some.t c.in-Some.is c.if-cancelled.false (ap not (rw (c.same_code.ensures, c.byte.ensures) at c.if-not-same_code-r.false)) in
-    rw (past, sym c.same.ensures ∙ c.if-same.false, eq-eqb _ _ c.if-t-eq-LAST_SEQUENCE.true)
+    known-past-6 c.args.r c.args.held c.args.b c.in-Some.t c.in-Some.is c.if-cancelled.false (ap not (rw (c.same_code.ensures, c.from.ensures) at c.if-not-same_code-r.false)) in
+    rw (past, sym c.eq.ensures ∙ c.if-eq.false, eq-eqb _ _ c.if-t-eq-LAST_SEQUENCE.true)
 
 pub returns : goal.returns
 returns c =
     -- past cause 6 what is left is 7 and 8
     let past =
-    known-past-6 c.args.r c.args.held c.args.b c.in-Some.t c.in-Some.is c.if-cancelled.false (ap not (rw (c.same_code.ensures, c.byte.ensures) at c.if-not-same_code-r.false)) in
-    rw (past, sym c.same.ensures ∙ c.if-same.false, ne_eqb _ _ c.if-t-eq-LAST_SEQUENCE.false)
+    known-past-6 c.args.r c.args.held c.args.b c.in-Some.t c.in-Some.is c.if-cancelled.false (ap not (rw (c.same_code.ensures, c.from.ensures) at c.if-not-same_code-r.false)) in
+    rw (past, sym c.eq.ensures ∙ c.if-eq.false, ne_eqb _ _ c.if-t-eq-LAST_SEQUENCE.false)

@@ -2,4 +2,4 @@
 use Rattle.decisions.proofs.requests.new_bill.Goals as goal
 
 pub returns : goal.returns
-returns c = rw (c.first.ensures, c.product_of.ensures, c.code_of.ensures, c.latest_of-latest.ensures)
+returns c = rw (c.first.ensures, c.from.ensures, c.code_of.ensures, c.latest_of-latest.ensures)

@@ -8,5 +8,5 @@ use Rattle.entries.proofs.run.start.Goals as goal
 
 pub returns : goal.returns
 unfolding fresh_causes start_tests is_date month_days
-returns c = let e = c.write_empty.ensures.words_after_2 in
+returns c = let e = c.write_empty.ensures.read_back in
     (rw e (fresh-sound (record { today = record { 0 = 19000101 }; tracking = 1; confirmation = 1 }) refl), e, ap book e)

@@ -3,14 +3,14 @@ use mathlib.Core.Path.{sym, ◌∙◌}
 use Rattle.ledger.specs.Bills.{state_of}
 use Rattle.ledger.proofs.Terms.state.Goals as goal
 
-pub returns-then-cancelled : goal.returns-then-cancelled
+pub returns-then-self : goal.returns-then-self
 unfolding state_of
-returns-then-cancelled c = rw c.if-cancelled.true
+returns-then-self c = rw c.if-self.true
 
 pub returns-then-is_open : goal.returns-then-is_open
 unfolding state_of
-returns-then-is_open c = rw (sym c.is_open.ensures ∙ c.if-is_open.true, c.if-cancelled.false)
+returns-then-is_open c = rw (sym c.is_open.ensures ∙ c.if-is_open.true, c.if-self.false)
 
 pub returns : goal.returns
 unfolding state_of
-returns c = rw (sym c.is_open.ensures ∙ c.if-is_open.false, c.if-cancelled.false)
+returns c = rw (sym c.is_open.ensures ∙ c.if-is_open.false, c.if-self.false)

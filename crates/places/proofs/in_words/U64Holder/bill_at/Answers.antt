@@ -7,7 +7,7 @@ use Rattle.words.proofs.PartLaws.{bill-of}
 use Rattle.places.proofs.in_words.U64Holder.bill_at.Goals as goal
 
 pub bill_in-requires : goal.bill_in-requires
-bill_in-requires c = record { place_size_in_bounds = omega (arith, words_long _ c.requires.0); words_value = holds_at _ c.args.p (words-bills _ c.requires.0) c.requires.1 }
+bill_in-requires c = record { has_place = omega (arith, words_long _ c.requires.0); holds = holds_at _ c.args.p (words-bills _ c.requires.0) c.requires.1 }
 
 pub returns : goal.returns
 returns c = c.bill_in.ensures ∙ bill-of _ c.requires.0 c.args.p c.requires.1
