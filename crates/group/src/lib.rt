@@ -14,7 +14,7 @@ ghost use Rattle.group.specs.Groups.{verdict_on};
 ghost use Rattle.group.specs.parts.Turns.{identity_in, identity_at, sought_by, InWidthsAt, CanPost, ids_by, bill_by, WithinFile, TurnLeaves};
 
 use ledger::{Bill, Identity, LedgerHeader, Posted, Terms, Update};
-use records::{FILE_RECORDS, RECORD_SIZE};
+use records::{FILE_RECORDS, RECORD_SIZE, layout};
 use rules::ErrorCode;
 use units::Date;
 
@@ -50,8 +50,8 @@ fn identity_of(h: &[u8], d: &[u8]) -> Identity
     ensures { result ≡ identity_in h.now d.now }
 {
     Identity {
-        account: records::account(h).unwrap_or(0),
-        key: records::key(d).unwrap_or(0),
+        account: layout::ACCOUNT.number(h).unwrap_or(0),
+        key: layout::KEY.number(d).unwrap_or(0),
     }
 }
 

@@ -14,7 +14,7 @@ ghost use Rattle.verdict.specs.parts.Dated.{dated_terms, Dated};
 ghost use Rattle.verdict.specs.Lines.{removed_long, line6, rate_of, line9, lines8to10, lines7to10, lines5to10, sent_charge, amounts_of, settle, verdict_of};
 
 use ledger::{Posted, RateCode, Terms};
-use records::Notification;
+use records::{Notification, layout};
 use rules::ErrorCode;
 use units::{Ccf, Cents, Date, Rate};
 
@@ -24,7 +24,7 @@ fn has_code(h: &[u8], c: RateCode) -> bool
     ensures { result ≡ same_list (rate_code_in h.now) (code_bytes c) }
 {
     let code = [c.first, c.second, 67, c.tens, c.ones];
-    records::has_rate_code(h, &code)
+    layout::RATE_CODE.holds(h, &code)
 }
 
 // Line 6 for RSP.
@@ -35,10 +35,10 @@ fn line_6_response(h: &[u8], d: &[u8], t: Terms, today: Date) -> Result<(), Erro
     if !t.is_open(today) {
         return Err(ErrorCode::Br09);
     }
-    if !records::has_tracking(h, t.latest.tracking) {
+    if !layout::TRACKING.holds_number(h, t.latest.tracking) {
         return Err(ErrorCode::Br01);
     }
-    if !records::has_sequence(d, t.sequence) {
+    if !layout::SEQUENCE.holds_number(d, t.sequence) {
         return Err(ErrorCode::Br05);
     }
     Ok(())
@@ -79,7 +79,7 @@ fn line_6_supplement(h: &[u8], d: &[u8], t: Terms, today: Date) -> Result<(), Er
     if removed_long(removal, today) {
         return Err(ErrorCode::Br13);
     }
-    if !records::has_sequence(d, 0) {
+    if !layout::SEQUENCE.holds_number(d, 0) {
         return Err(ErrorCode::Br05);
     }
     let sequence = t.sequence;
@@ -112,9 +112,7 @@ fn tier_1_rate(d: &[u8]) -> Option<Rate>
     requires { 94 ≤ length d.now }
     ensures { result ≡ rate_of (field_of (tier_rate_in d.now 88)) }
 {
-    let Some(rate) = records::tier_1_rate(d) else {
-        return None;
-    };
+    let rate = layout::TIER_1_RATE.number(d)?;
     Some(Rate(rate))
 }
 
@@ -129,19 +127,13 @@ fn line_9(d: &[u8], consumption: Ccf, charge: Cents) -> Result<(), ErrorCode>
     let Some(ccf) = records::tier_consumptions(d) else {
         return Err(ErrorCode::Br25);
     };
-    if !Ccf(ccf.0)
-        .plus(Ccf(ccf.1).plus(Ccf(ccf.2).plus(Ccf(ccf.3))))
-        .same(consumption)
-    {
+    if !Ccf(ccf.sum()).same(consumption) {
         return Err(ErrorCode::Br25);
     }
     let Some(cents) = records::tier_charges(d) else {
         return Err(ErrorCode::Br26);
     };
-    if !Cents(cents.0)
-        .plus(Cents(cents.1).plus(Cents(cents.2).plus(Cents(cents.3))))
-        .same(charge)
-    {
+    if !Cents(cents.sum()).same(charge) {
         return Err(ErrorCode::Br26);
     }
     Ok(())
@@ -162,13 +154,13 @@ fn prepay(h: &[u8], d: &[u8], consumption: Ccf, charge: Cents) -> Result<Posted,
     requires charge_value { charge.0 ≡ sent_charge d.now }
     ensures { result ≡ settle (first (lines8to10 true h.now d.now consumption.0 charge.0)) (amounts_of true d.now) }
 {
-    let Some(_) = records::balance(h) else {
+    let Some(_) = layout::BALANCE.number(h) else {
         return Err(ErrorCode::Br21);
     };
-    let Some(applied) = records::applied(d) else {
+    let Some(applied) = layout::APPLIED.number(d) else {
         return Err(ErrorCode::Br22);
     };
-    let Some(owed) = records::owed(d) else {
+    let Some(owed) = layout::OWED.number(d) else {
         return Err(ErrorCode::Br23);
     };
     line_9(d, consumption, charge)?;
@@ -187,14 +179,14 @@ fn amounts(h: &[u8], d: &[u8], t: Terms) -> Result<Posted, ErrorCode>
     requires { (record_size ≤ length h.now) × (record_size ≤ length d.now) }
     ensures { result ≡ settle (first (lines7to10 h.now d.now t)) (amounts_of (is_prepay t.product) d.now) }
 {
-    let Some(c) = records::consumption(d) else {
+    let Some(c) = layout::CONSUMPTION.number(d) else {
         return Err(ErrorCode::Br08);
     };
     let asked = t.latest.consumption;
     if !Ccf(c).same(asked) {
         return Err(ErrorCode::Br06);
     }
-    let Some(m) = records::charge(d) else {
+    let Some(m) = layout::CHARGE.number(d) else {
         return Err(ErrorCode::Br10);
     };
     let product = t.product;

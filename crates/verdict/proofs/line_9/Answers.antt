@@ -22,21 +22,15 @@ returns-in_default-tier_consumptions c =
       sym c.tier_consumptions.ensures ∙ c.in_default-tier_consumptions.is,
     )
 
-pub plus-requires : goal.plus-requires
-plus-requires c = omega (arith, consumptions-fit _ c.requires (sym c.tier_consumptions.ensures ∙ c.in-Some-tier_consumptions.is))
-
-pub plus-requires-2 : goal.plus-requires-2
-plus-requires-2 c = omega (arith, consumptions-fit _ c.requires (sym c.tier_consumptions.ensures ∙ c.in-Some-tier_consumptions.is))
-
-pub plus-requires-3 : goal.plus-requires-3
-plus-requires-3 c = omega (arith, consumptions-fit _ c.requires (sym c.tier_consumptions.ensures ∙ c.in-Some-tier_consumptions.is))
+pub sum-requires : goal.sum-requires
+sum-requires c = omega (arith, consumptions-fit _ c.requires (sym c.tier_consumptions.ensures ∙ c.in-Some-tier_consumptions.is))
 
 pub returns-then-not-same : goal.returns-then-not-same
 unfolding line9
 returns-then-not-same c =
     rw (
       rate-good (field_of (tier_rate_in c.args.d.now 88)) (sym c.tier_1_rate.ensures ∙ c.in-Some.is),
-      sum-misses {sum = c.plus-3.result.0} c.args.consumption.0 (sym c.tier_consumptions.ensures ∙ c.in-Some-tier_consumptions.is) (rw (c.plus-3.ensures, c.plus-2.ensures, c.plus.ensures)),
+      sum-misses c.args.consumption.0 (sym c.tier_consumptions.ensures ∙ c.in-Some-tier_consumptions.is) c.sum.ensures,
       sym c.same.ensures ∙ c.if-not-same.true,
     )
 
@@ -46,28 +40,22 @@ unfolding line9
 returns-in_default-tier_charges c =
     rw (
       rate-good (field_of (tier_rate_in c.args.d.now 88)) (sym c.tier_1_rate.ensures ∙ c.in-Some.is),
-      sum-misses {sum = c.plus-3.result.0} c.args.consumption.0 (sym c.tier_consumptions.ensures ∙ c.in-Some-tier_consumptions.is) (rw (c.plus-3.ensures, c.plus-2.ensures, c.plus.ensures)),
+      sum-misses c.args.consumption.0 (sym c.tier_consumptions.ensures ∙ c.in-Some-tier_consumptions.is) c.sum.ensures,
       sym c.same.ensures ∙ c.if-not-same.false,
       sym c.tier_charges.ensures ∙ c.in_default-tier_charges.is,
     )
 
-pub plus-requires-4 : goal.plus-requires-4
-plus-requires-4 c = omega (arith, charges-fit _ c.requires (sym c.tier_charges.ensures ∙ c.in-Some-tier_charges.is))
-
-pub plus-requires-5 : goal.plus-requires-5
-plus-requires-5 c = omega (arith, charges-fit _ c.requires (sym c.tier_charges.ensures ∙ c.in-Some-tier_charges.is))
-
-pub plus-requires-6 : goal.plus-requires-6
-plus-requires-6 c = omega (arith, charges-fit _ c.requires (sym c.tier_charges.ensures ∙ c.in-Some-tier_charges.is))
+pub sum-requires-2 : goal.sum-requires-2
+sum-requires-2 c = omega (arith, charges-fit _ c.requires (sym c.tier_charges.ensures ∙ c.in-Some-tier_charges.is))
 
 pub returns-then-not-same-2 : goal.returns-then-not-same-2
 unfolding line9
 returns-then-not-same-2 c =
     rw (
       rate-good (field_of (tier_rate_in c.args.d.now 88)) (sym c.tier_1_rate.ensures ∙ c.in-Some.is),
-      sum-misses {sum = c.plus-3.result.0} c.args.consumption.0 (sym c.tier_consumptions.ensures ∙ c.in-Some-tier_consumptions.is) (rw (c.plus-3.ensures, c.plus-2.ensures, c.plus.ensures)),
+      sum-misses c.args.consumption.0 (sym c.tier_consumptions.ensures ∙ c.in-Some-tier_consumptions.is) c.sum.ensures,
       sym c.same.ensures ∙ c.if-not-same.false,
-      sum-misses {sum = c.plus-6.result.0} c.args.charge.0 (sym c.tier_charges.ensures ∙ c.in-Some-tier_charges.is) (rw (c.plus-6.ensures, c.plus-5.ensures, c.plus-4.ensures)),
+      sum-misses c.args.charge.0 (sym c.tier_charges.ensures ∙ c.in-Some-tier_charges.is) c.sum-2.ensures,
       sym c.same-2.ensures ∙ c.if-not-same-2.true,
     )
 
@@ -76,8 +64,8 @@ unfolding line9
 returns c =
     rw (
       rate-good (field_of (tier_rate_in c.args.d.now 88)) (sym c.tier_1_rate.ensures ∙ c.in-Some.is),
-      sum-misses {sum = c.plus-3.result.0} c.args.consumption.0 (sym c.tier_consumptions.ensures ∙ c.in-Some-tier_consumptions.is) (rw (c.plus-3.ensures, c.plus-2.ensures, c.plus.ensures)),
+      sum-misses c.args.consumption.0 (sym c.tier_consumptions.ensures ∙ c.in-Some-tier_consumptions.is) c.sum.ensures,
       sym c.same.ensures ∙ c.if-not-same.false,
-      sum-misses {sum = c.plus-6.result.0} c.args.charge.0 (sym c.tier_charges.ensures ∙ c.in-Some-tier_charges.is) (rw (c.plus-6.ensures, c.plus-5.ensures, c.plus-4.ensures)),
+      sum-misses c.args.charge.0 (sym c.tier_charges.ensures ∙ c.in-Some-tier_charges.is) c.sum-2.ensures,
       sym c.same-2.ensures ∙ c.if-not-same-2.false,
     )
