@@ -122,7 +122,7 @@ pub fn decide(
     f: Option<usize>,
     b: Bill,
 ) -> Result<Update, Cause>
-    requires tracking_le_used_up { (h.tracking ≤ used_up) × (h.confirmation ≤ used_up) × (h.count ≤ ledger_places) }
+    requires numbers { (h.tracking ≤ used_up) × (h.confirmation ≤ used_up) × (h.count ≤ ledger_places) }
     requires sound_at { SoundAt f b }
     ensures { result ≡ decided_by (first (causes_by c room h f b)) c h f b }
 {

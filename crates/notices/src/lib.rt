@@ -49,8 +49,8 @@ pub fn put_end(out: &mut [u8], at: usize, from: usize)
 
 // Writes positions 1 to 41 of a record.
 pub fn put_alike(out: &mut [u8], at: usize, l: Alike, record_type: &[u8], notice: &[u8])
-    requires at_in_bounds { at + 41 ≤ length out.old }
-    requires record_type_len { (length record_type.now ≡ 2) × (length notice.now ≡ 3) }
+    requires has_room { at + 41 ≤ length out.old }
+    requires wide { (length record_type.now ≡ 2) × (length notice.now ≡ 3) }
     ensures { out.new ≡ put out.old at (alike_fields l record_type.now notice.now) }
 {
     layout::COMPANY.put_text(out, at, b"34");
@@ -83,8 +83,8 @@ pub fn put_header(
     confirmation: u64,
     scheduled: u64,
 )
-    requires record_size_in_bounds { at + record_size ≤ length out.old }
-    requires notice_len { length notice.now ≡ 3 }
+    requires has_room { at + record_size ≤ length out.old }
+    requires wide { length notice.now ≡ 3 }
     ensures { out.new ≡ put out.old at (header l notice.now confirmation scheduled) }
 {
     put_alike(out, at, l, b"01", notice);
@@ -100,8 +100,8 @@ pub fn put_header(
 
 // Writes a detail to position 45.
 pub fn put_detail_to_key(out: &mut [u8], at: usize, l: Alike, notice: &[u8], key: u64)
-    requires at_in_bounds { at + 45 ≤ length out.old }
-    requires notice_len { length notice.now ≡ 3 }
+    requires has_room { at + 45 ≤ length out.old }
+    requires wide { length notice.now ≡ 3 }
     ensures { out.new ≡ put out.old at (detail_to_key l notice.now key) }
 {
     put_alike(out, at, l, b"02", notice);

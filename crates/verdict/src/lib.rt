@@ -60,8 +60,8 @@ fn removed_long(removal: Option<Date>, today: Date) -> bool
 
 // Line 6 for SUP.
 fn line_6_supplement(h: &[u8], d: &[u8], t: Terms, today: Date) -> Result<(), ErrorCode>
-    requires record_size_in_bounds { (record_size ≤ length h.now) × (record_size ≤ length d.now) }
-    requires today_value { (is_date today.0 ≡ true) × (dated_terms t ≡ true) }
+    requires whole { (record_size ≤ length h.now) × (record_size ≤ length d.now) }
+    requires dates { (is_date today.0 ≡ true) × (dated_terms t ≡ true) }
     ensures { result ≡ first (line6 Notification.Supplement today h.now d.now t) }
 {
     let cancelled = t.cancelled;
@@ -97,8 +97,8 @@ fn line_6(
     t: Terms,
     today: Date,
 ) -> Result<(), ErrorCode>
-    requires record_size_in_bounds { (record_size ≤ length h.now) × (record_size ≤ length d.now) }
-    requires today_value { (is_date today.0 ≡ true) × (dated_terms t ≡ true) }
+    requires whole { (record_size ≤ length h.now) × (record_size ≤ length d.now) }
+    requires dates { (is_date today.0 ≡ true) × (dated_terms t ≡ true) }
     ensures { result ≡ first (line6 notification today h.now d.now t) }
 {
     match notification {
@@ -150,8 +150,8 @@ fn bill_ready(d: &[u8], consumption: Ccf, charge: Cents) -> Result<Posted, Error
 
 // Lines 8 to 10 for Prepay.
 fn prepay(h: &[u8], d: &[u8], consumption: Ccf, charge: Cents) -> Result<Posted, ErrorCode>
-    requires record_size_in_bounds { (record_size ≤ length h.now) × (record_size ≤ length d.now) }
-    requires charge_value { charge.0 ≡ sent_charge d.now }
+    requires whole { (record_size ≤ length h.now) × (record_size ≤ length d.now) }
+    requires charge_sent { charge.0 ≡ sent_charge d.now }
     ensures { result ≡ settle (first (lines8to10 true h.now d.now consumption.0 charge.0)) (amounts_of true d.now) }
 {
     let Some(_) = layout::BALANCE.number(h) else {
@@ -204,8 +204,8 @@ fn known(
     t: Terms,
     today: Date,
 ) -> Result<Posted, ErrorCode>
-    requires record_size_in_bounds { (record_size ≤ length h.now) × (record_size ≤ length d.now) }
-    requires today_value { (is_date today.0 ≡ true) × (dated_terms t ≡ true) }
+    requires whole { (record_size ≤ length h.now) × (record_size ≤ length d.now) }
+    requires dates { (is_date today.0 ≡ true) × (dated_terms t ≡ true) }
     ensures { result ≡ settle (first (lines5to10 notification today h.now d.now t)) (amounts_of (is_prepay t.product) d.now) }
 {
     let code = t.code;
@@ -224,7 +224,7 @@ pub fn verdict_of(
     b: Option<Terms>,
     today: Date,
 ) -> Result<Posted, ErrorCode>
-    requires record_size_in_bounds { (record_size ≤ length h.now) × (record_size ≤ length d.now) }
+    requires whole { (record_size ≤ length h.now) × (record_size ≤ length d.now) }
     requires dated { Dated today b }
     ensures { result ≡ verdict_of notification today h.now d.now b }
 {

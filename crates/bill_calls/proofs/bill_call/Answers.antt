@@ -36,7 +36,7 @@ decide-decided-requires c =
     let finds = s.found ∙ ap (λ (x : Identity). place_of x (live l)) c.call_identity.ensures in
     let q = sound-ready l sure in
     record {
-      tracking_le_used_up = rw s.header (q.tracking, q.confirmation, q.count);
+      numbers = rw s.header (q.tracking, q.confirmation, q.count);
       sound_at = rw s.bill (sound-here l (places l _ c.well_formed.0) sure _ _ s.place _ finds);
     }
 

@@ -15,6 +15,6 @@ returns c =
     let w2 = next w1 _ c.put_code.ensures refl in
     let w3 = next w2 _ c.put_number.ensures (length_digits 12 _) in
     let w4 = next w3 _ c.put_number-2.ensures (length_digits 9 _) in
-    let w5 = next w4 _ c.put_text-2.ensures c.requires.record_type_len.0 in
-    let w6 = next w5 _ c.put_text-3.ensures c.requires.record_type_len.1 in
+    let w5 = next w4 _ c.put_text-2.ensures c.requires.wide.0 in
+    let w6 = next w5 _ c.put_text-3.ensures c.requires.wide.1 in
     (next w6 _ c.put_number-3.ensures (length_digits 8 _)).same

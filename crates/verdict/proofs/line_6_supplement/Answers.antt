@@ -15,7 +15,7 @@ unfolding line6
 returns-then-is_open c = rw (sym c.is_open.ensures ∙ c.if-is_open.true, c.if-cancelled.false)
 
 pub is_year_past-requires : goal.is_year_past-requires
-is_year_past-requires c = dated-billing c.args.t c.requires.today_value.1
+is_year_past-requires c = dated-billing c.args.t c.requires.dates.1
 
 pub returns-then-is_year_past : goal.returns-then-is_year_past
 unfolding line6
@@ -28,7 +28,7 @@ returns-then-is_year_past c =
 
 pub removed_long-requires : goal.removed_long-requires
 removed_long-requires c =
-    (c.requires.today_value.0, dated-removal c.args.t c.requires.today_value.1)
+    (c.requires.dates.0, dated-removal c.args.t c.requires.dates.1)
 
 pub returns-then-removed_long : goal.returns-then-removed_long
 unfolding line6

@@ -66,5 +66,5 @@ returns c =
       first-clear (line9 _ _ _) _ (sym c.line_9.ensures ∙ c.in_ok-line_9.was),
       sym c.plus.ensures,
       sym c.same.ensures ∙ c.if-not-same.false,
-      ← c.requires.charge_value,
+      ← c.requires.charge_sent,
     )

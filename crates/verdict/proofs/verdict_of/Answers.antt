@@ -10,7 +10,7 @@ returns-in_default c = rw c.in_default.is
 
 pub known-requires : goal.known-requires
 known-requires c =
-    let dated : Dated c.args.today (Some c.in-Some.t) = rw c.in-Some.is at c.requires.dated in record { record_size_in_bounds = c.requires.record_size_in_bounds; today_value = dated }
+    let dated : Dated c.args.today (Some c.in-Some.t) = rw c.in-Some.is at c.requires.dated in record { whole = c.requires.whole; dates = dated }
 
 pub returns : goal.returns
 unfolding verdict_of line4
