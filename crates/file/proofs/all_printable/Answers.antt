@@ -9,6 +9,3 @@ use Rattle.file.proofs.all_printable.Goals as goal
 
 pub loop-x-preserved : goal.loop-x-preserved
 loop-x-preserved c = printable-more (take c.args.n c.args.r.now) c.loop-x.x-index c.loop-x.good c.loop-x-test.true c.loop-x.invariant
-
-pub returns : goal.returns
-returns c = c.loop-x.invariant ∙ ap (every printable) (take_all c.loop-x.x-index (take c.args.n c.args.r.now) c.loop-x-test.false)

@@ -18,14 +18,6 @@ add-tally-requires c =
     let v = verdict-now _ _ c.args.f c.args.b _ _ _ c.sought_by.ensures c.verdict_at-v.ensures in
     (c.requires.widths.1, omega (arith, c.answer-size.ensures.2, c.requires.in_file), rw v (came-small _ _ _ _), rw v (went-small _ _ c.args.f c.args.b _ c.requires.widths.0))
 
-pub overflow_add-header : goal.overflow_add-header
-overflow_add-header c =
-    omega (arith, c.ids_used.ensures.1, c.requires.widths)
-
-pub overflow_add-header-2 : goal.overflow_add-header-2
-overflow_add-header-2 c =
-    omega (arith, c.requires.widths)
-
 pub post-bill-requires : goal.post-bill-requires
 post-bill-requires c =
     rw (verdict-now _ _ c.args.f c.args.b _ _ _ c.sought_by.ensures c.verdict_at-v.ensures) (can-post _ _ c.args.f c.args.b _ c.requires.widths.0)

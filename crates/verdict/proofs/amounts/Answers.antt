@@ -22,9 +22,6 @@ returns-in_default-number c =
       sym c.number-2.ensures ∙ c.in_default-number.is,
     )
 
-pub prepay-requires-clause-charge_sent : goal.prepay-requires-clause-charge_sent
-prepay-requires-clause-charge_sent c = rw (sym c.number-2.ensures ∙ c.in-Some-number.is)
-
 pub returns-then-is_prepay : goal.returns-then-is_prepay
 unfolding line7
 returns-then-is_prepay c =

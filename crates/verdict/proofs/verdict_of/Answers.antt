@@ -8,10 +8,6 @@ pub returns-in_default : goal.returns-in_default
 unfolding verdict_of line4
 returns-in_default c = rw c.in_default.is
 
-pub known-requires : goal.known-requires
-known-requires c =
-    let dated : Dated c.args.today (Some c.in-Some.t) = rw c.in-Some.is at c.requires.dated in record { whole = c.requires.whole; dates = dated }
-
 pub returns : goal.returns
 unfolding verdict_of line4
 returns c = rw c.in-Some.is c.known.ensures

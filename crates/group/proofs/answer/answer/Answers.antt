@@ -6,11 +6,6 @@ use Rattle.group.specs.parts.Turns.{answer_at}
 use Rattle.group.proofs.AnswerSizes.{details-are, sized-acf, sized-rej}
 use Rattle.group.proofs.answer.answer.Goals as goal
 
-pub write_acf-requires : goal.write_acf-requires
-write_acf-requires c =
-    let room = c.requires.has_room c.if-writes.true in
-    (omega (arith, c.requires), omega (arith, c.requires, room))
-
 pub returns-then-writes : goal.returns-then-writes
 unfolding answer_at
 returns-then-writes c =
