@@ -7,7 +7,7 @@ ghost use Rattle.causes.specs.parts.Decisions.{SoundAt, CanRenew, requested_by, 
 ghost use Rattle.ledger.specs.Limits.{ledger_places, used_up};
 
 use causes::{BillCall, Request, checks};
-use ledger::{Bill, Identity, Latest, LedgerHeader, Product, Update};
+use ledger::{Bill, Identity, Latest, LedgerHeader, Product, RateCode, Update};
 use rules::Cause;
 use units::Cents;
 
@@ -45,7 +45,7 @@ fn new_bill(r: Request, tracking: u64) -> Bill
     let code = r.code;
     let id = r.identity;
     let latest = latest_of(r, tracking);
-    Bill::first(id, checks::code_of(code), product_of(r.product), latest)
+    Bill::first(id, RateCode::from(code), product_of(r.product), latest)
 }
 
 // The bill as a request leaves it: a new one, or a known one with the new values.
