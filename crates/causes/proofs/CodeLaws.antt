@@ -1,13 +1,11 @@
 -- Five bytes as a rate code. Assumes nothing.
 use mathlib.Core.Path.{◌≡◌, refl}
 use mathlib.Core.Bool.{Bool, true, false, ◌&&◌, ◌||◌, and-true, and-false}
-use mathlib.Core.List.{[], ◌∷◌}
 use lib.Dec.{eqb}
 use Rattle.fields.specs.Digits.{is_digit}
 use Rattle.fields.specs.Put.{same_list}
 use Rattle.ledger.specs.declared.RateCode.{RateCode}
 use Rattle.ledger.specs.Bills.{is_letter, is_rate_code, code_bytes}
-use Rattle.rules.proofs.ListLaws.{all-joined}
 use Rattle.causes.specs.declared.CodeField.{CodeField}
 use Rattle.causes.specs.Causes.{five_of}
 use Rattle.causes.specs.Requests.{code_of}

@@ -1,5 +1,5 @@
 -- Each field stands where document 01 says: what a record holds at a field's place is what stands at the document's positions. Assumes nothing.
-use Rattle.std.specs.Prelude.{ℕ, ◌+◌, ◌≡◌, List}
+use Rattle.std.specs.Prelude.{ℕ, ◌≡◌, List}
 use mathlib.Core.Path.{refl}
 use Rattle.fields.specs.Put.{part}
 use Rattle.records.specs.Layout.{company_in, rate_code_in, account_in, tracking_in, type_in, notice_in, transmission_in, confirmation_in, scheduled_in, record_count_in, balance_in, key_in, billing_in, sequence_in, consumption_in, detail_charge_in, from_in, tier_rate_in, previous_sequence_in, previous_consumption_in, previous_charge_in, applied_in, owed_in, error_code_in}

@@ -1,9 +1,5 @@
 -- `file::all_printable` meets its contract. The invariant: the test so far is that of the bytes passed.
-use mathlib.Core.Path.{ap, ◌∙◌}
 use lib.ListN.{take}
-use lib.Seq.{take_all}
-use Rattle.rules.specs.Lists.{every}
-use Rattle.file.specs.File.{printable}
 use Rattle.file.proofs.FileLaws.{printable-more}
 use Rattle.file.proofs.all_printable.Goals as goal
 

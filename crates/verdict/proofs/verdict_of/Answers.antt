@@ -1,8 +1,6 @@
 -- `verdict::verdict_of` meets its contract, by whether there is a bill.
-use Rattle.verdict.specs.parts.Dated.{Dated}
 use Rattle.verdict.specs.Lines.{line4, verdict_of}
 use Rattle.verdict.proofs.verdict_of.Goals as goal
-use Rattle.std.specs.Prelude.{Some}
 
 pub returns-in_default : goal.returns-in_default
 unfolding verdict_of line4
