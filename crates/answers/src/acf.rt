@@ -14,25 +14,25 @@ use units::Date;
 
 // Writes the Tracking ID: a new one on a SUP, else the sender's.
 fn put_tracking(out: &mut [u8], at: usize, h: &[u8], sup: bool, tracking: u64)
-    requires { (at + 9 ≤ length out.old) × (28 ≤ length h.now) }
-    ensures { out.new ≡ put out.old at (cond sup (digits 9 tracking) (tracking_in h.now)) }
+    requires { (at + 28 ≤ length out.old) × (28 ≤ length h.now) }
+    ensures { out.new ≡ put out.old (at + 19) (cond sup (digits 9 tracking) (tracking_in h.now)) }
 {
     if sup {
-        fields::put_digits(out, at, layout::TRACKING_WIDTH, tracking);
+        layout::TRACKING.put_number(out, at, tracking);
     } else {
-        fields::put_part(out, at, h, layout::TRACKING, layout::TRACKING_WIDTH);
+        layout::TRACKING.copy(out, at, h);
     }
 }
 
 // Writes the Prepaid Balance: the sender's for Prepay, else spaces.
 fn put_balance(out: &mut [u8], at: usize, h: &[u8], prepay: bool)
-    requires { (at + 13 ≤ length out.old) × (73 ≤ length h.now) }
-    ensures { out.new ≡ put out.old at (cond prepay (balance_in h.now) (spaces 13)) }
+    requires { (at + 73 ≤ length out.old) × (73 ≤ length h.now) }
+    ensures { out.new ≡ put out.old (at + 60) (cond prepay (balance_in h.now) (spaces 13)) }
 {
     if prepay {
-        fields::put_part(out, at, h, layout::BALANCE, layout::BALANCE_WIDTH);
+        layout::BALANCE.copy(out, at, h);
     } else {
-        fields::put_fill(out, at, layout::BALANCE_WIDTH, 32);
+        layout::BALANCE.fill(out, at, 32);
     }
 }
 
@@ -42,16 +42,11 @@ fn put_alike(out: &mut [u8], at: usize, h: &[u8], a: Acf)
     ensures { out.new ≡ put out.old at (acf_alike h.now a) }
 {
     let sup = is_sup(h);
-    fields::put_part(out, at, h, layout::COMPANY, layout::TRACKING);
-    put_tracking(out, at + layout::TRACKING, h, sup, a.tracking);
-    crate::put_as_sent(out, at, h, layout::TYPE, layout::TYPE_WIDTH);
-    fields::put_bytes(out, at + layout::NOTICE, b"ACF");
-    fields::put_digits(
-        out,
-        at + layout::TRANSMISSION,
-        layout::TRANSMISSION_WIDTH,
-        a.today.0,
-    );
+    layout::TO_TRACKING.copy(out, at, h);
+    put_tracking(out, at, h, sup, a.tracking);
+    layout::TYPE.copy(out, at, h);
+    layout::NOTICE.put_text(out, at, b"ACF");
+    layout::TRANSMISSION.put_number(out, at, a.today.0);
 }
 
 // The Scheduled Date: none on a SUP, else the bill's.
@@ -74,11 +69,11 @@ pub fn write(out: &mut [u8], at: usize, h: &[u8], a: Acf)
     put_alike(out, at, h, a);
     notices::put_to_count(
         out,
-        at + layout::CONFIRMATION,
+        at + layout::CONFIRMATION.at,
         a.confirmation,
         scheduled,
         b"00",
     );
-    put_balance(out, at + layout::BALANCE, h, prepay);
+    put_balance(out, at, h, prepay);
     notices::put_end(out, at, layout::HEADER_FILLER);
 }

@@ -14,14 +14,9 @@ fn put_alike(out: &mut [u8], at: usize, r: &[u8], x: Rej)
     requires { (at + 41 ≤ length out.old) × (record_size ≤ length r.now) }
     ensures { out.new ≡ put out.old at (rej_alike r.now x) }
 {
-    fields::put_part(out, at, r, layout::COMPANY, layout::NOTICE);
-    fields::put_bytes(out, at + layout::NOTICE, b"REJ");
-    fields::put_digits(
-        out,
-        at + layout::TRANSMISSION,
-        layout::TRANSMISSION_WIDTH,
-        x.today.0,
-    );
+    layout::TO_NOTICE.copy(out, at, r);
+    layout::NOTICE.put_text(out, at, b"REJ");
+    layout::TRANSMISSION.put_number(out, at, x.today.0);
 }
 
 // Writes the header.
@@ -30,19 +25,8 @@ fn put_header(out: &mut [u8], at: usize, h: &[u8], x: Rej)
     ensures { out.new ≡ put out.old at (rej_header h.now x) }
 {
     put_alike(out, at, h, x);
-    fields::put_digits(
-        out,
-        at + layout::CONFIRMATION,
-        layout::CONFIRMATION_WIDTH,
-        x.confirmation,
-    );
-    crate::put_as_sent(
-        out,
-        at,
-        h,
-        layout::SCHEDULED,
-        layout::SCHEDULED_TO_END_WIDTH,
-    );
+    layout::CONFIRMATION.put_number(out, at, x.confirmation);
+    layout::SCHEDULED_TO_END.copy(out, at, h);
 }
 
 // Whether a detail's From Date is all spaces or all zeros.
@@ -50,18 +34,18 @@ fn is_blank(d: &[u8]) -> bool
     requires { 87 ≤ length d.now }
     ensures { result ≡ is_blank (from_in d.now) }
 {
-    records::has_from_date(d, b"        ") | records::has_from_date(d, b"00000000")
+    layout::FROM.holds(d, b"        ") | layout::FROM.holds(d, b"00000000")
 }
 
 // Writes the From Date that goes back.
 fn put_from(out: &mut [u8], at: usize, d: &[u8], sup: bool)
-    requires { (at + 8 ≤ length out.old) × (87 ≤ length d.now) }
-    ensures { out.new ≡ put out.old at (from_back sup (from_in d.now)) }
+    requires { (at + 87 ≤ length out.old) × (87 ≤ length d.now) }
+    ensures { out.new ≡ put out.old (at + 79) (from_back sup (from_in d.now)) }
 {
     if sup & is_blank(d) {
-        fields::put_bytes(out, at, b"00010101");
+        layout::FROM.put_text(out, at, b"00010101");
     } else {
-        fields::put_part(out, at, d, layout::FROM, layout::FROM_WIDTH);
+        layout::FROM.copy(out, at, d);
     }
 }
 
@@ -71,16 +55,11 @@ fn put_detail(out: &mut [u8], at: usize, d: &[u8], sup: bool, x: Rej)
     ensures { out.new ≡ put out.old at (rej_detail sup d.now x) }
 {
     put_alike(out, at, d, x);
-    crate::put_as_sent(out, at, d, layout::KEY, layout::KEY_TO_CHARGE_WIDTH);
-    put_from(out, at + layout::FROM, d, sup);
-    crate::put_as_sent(out, at, d, layout::TIER_1, layout::TIERS_TO_OWED_WIDTH);
-    fields::put_bytes(out, at + layout::ERROR_CODE, b"BR");
-    fields::put_digits(
-        out,
-        at + layout::ERROR_NUMBER,
-        layout::ERROR_NUMBER_WIDTH,
-        u64::from(x.code),
-    );
+    layout::KEY_TO_CHARGE.copy(out, at, d);
+    put_from(out, at, d, sup);
+    layout::TIERS_TO_OWED.copy(out, at, d);
+    layout::ERROR_LETTERS.put_text(out, at, b"BR");
+    layout::ERROR_NUMBER.put_number(out, at, u64::from(x.code));
     notices::put_end(out, at, layout::REJ_FILLER);
 }
 

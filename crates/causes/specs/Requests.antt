@@ -13,6 +13,10 @@ use Rattle.causes.specs.declared.Request.{Request}
 abbrev pub code_of : CodeField → RateCode
 code_of x = record { first = x.first; second = x.second; tens = x.tens; ones = x.ones }
 
+-- the five bytes of a rate code, the third a C
+abbrev pub field_of_code : RateCode → CodeField
+field_of_code c = record { first = c.first; second = c.second; third = 67; tens = c.tens; ones = c.ones }
+
 -- "from its latest request the Tracking ID, consumption, Billing Date, From Date and Scheduled Date"
 abbrev pub latest_of : Request → ℕ → Latest
 latest_of r tracking =

@@ -5,7 +5,7 @@ ghost use Rattle.rules.specs.Lists.{all};
 ghost use Rattle.ledger.specs.Bills.{is_rate_code, code_bytes};
 ghost use Rattle.rules.specs.Rules.{first};
 ghost use Rattle.causes.specs.Causes.{is_number, good_identity, five_of, is_product, undated_tests, request_tests, lacks, fresh_causes, bill_causes, request_causes, file_causes, cancel_causes, close_causes, good_removal, removal_causes};
-ghost use Rattle.causes.specs.Requests.{code_of, closes};
+ghost use Rattle.causes.specs.Requests.{closes};
 ghost use Rattle.ledger.specs.Limits.{used_up};
 ghost use Rattle.records.specs.Limits.{file_records};
 
@@ -29,34 +29,18 @@ pub fn good_identity(id: Identity) -> bool
     (id.account < ledger::ACCOUNT_END) & (id.key < ledger::KEY_END)
 }
 
-// The rate code that five bytes hold.
-pub fn code_of(x: CodeField) -> RateCode
-    ensures { result ≡ code_of x }
-{
-    RateCode {
-        first: x.first,
-        second: x.second,
-        tens: x.tens,
-        ones: x.ones,
-    }
-}
-
 // Whether five bytes hold a rate code.
 fn good_code(x: CodeField) -> bool
     ensures { result ≡ is_rate_code (five_of x) }
 {
-    code_of(x).valid() & (x.third == 67)
+    RateCode::from(x).valid() & (x.third == 67)
 }
 
 // Whether five bytes hold this rate code.
 fn same_code(x: CodeField, c: RateCode) -> bool
     ensures { result ≡ same_list (five_of x) (code_bytes c) }
 {
-    (x.first == c.first)
-        & (x.second == c.second)
-        & (x.third == 67)
-        & (x.tens == c.tens)
-        & (x.ones == c.ones)
+    x == CodeField::from(c)
 }
 
 fn good_product(x: u8) -> bool

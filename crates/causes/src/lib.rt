@@ -7,8 +7,9 @@ pub mod checks;
 
 ghost use Rattle.std.specs.Prelude.{◌≡◌, ◌≤◌, length};
 ghost use Rattle.causes.specs.Causes.{code_field};
+ghost use Rattle.causes.specs.Requests.{code_of, field_of_code};
 
-use ledger::Identity;
+use ledger::{Identity, RateCode};
 use units::{Ccf, Date};
 
 // What fresh takes.
@@ -20,13 +21,42 @@ pub struct Start {
 }
 
 // Five bytes that may hold a rate code.
-#[derive(Clone, Copy)]
+#[derive(Clone, Copy, PartialEq, Eq)]
 pub struct CodeField {
     pub first: u8,
     pub second: u8,
     pub third: u8,
     pub tens: u8,
     pub ones: u8,
+}
+
+// The rate code of five bytes: no refusal, since whoever keeps one has asked before whether they hold one.
+impl From<CodeField> for RateCode {
+    ghost from_gives = { λ x c. c ≡ code_of x };
+
+    fn from(x: CodeField) -> RateCode {
+        RateCode {
+            first: x.first,
+            second: x.second,
+            tens: x.tens,
+            ones: x.ones,
+        }
+    }
+}
+
+// The five bytes of a rate code: its third is C.
+impl From<RateCode> for CodeField {
+    ghost from_gives = { λ c x. x ≡ field_of_code c };
+
+    fn from(c: RateCode) -> CodeField {
+        CodeField {
+            first: c.first,
+            second: c.second,
+            third: b'C',
+            tens: c.tens,
+            ones: c.ones,
+        }
+    }
 }
 
 // The field that the first five bytes of s are.

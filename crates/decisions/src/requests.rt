@@ -6,7 +6,7 @@ ghost use Rattle.causes.specs.parts.Decisions.{SoundAt, CanRenew, requested_by, 
 ghost use Rattle.ledger.specs.Limits.{ledger_places, used_up};
 
 use causes::{BillCall, Request, checks};
-use ledger::{Bill, Identity, Latest, LedgerHeader, Product, Update};
+use ledger::{Bill, Identity, Latest, LedgerHeader, Product, RateCode, Update};
 use rules::Cause;
 use units::Cents;
 
@@ -34,7 +34,7 @@ fn new_bill(r: Request, tracking: u64) -> Bill
     let code = r.code;
     let id = r.identity;
     let latest = latest_of(r, tracking);
-    Bill::first(id, checks::code_of(code), Product::from(r.product), latest)
+    Bill::first(id, RateCode::from(code), Product::from(r.product), latest)
 }
 
 // The bill as a request leaves it: a new one, or a known one with the new values.
@@ -111,7 +111,7 @@ pub fn decide(
     f: Option<usize>,
     b: Bill,
 ) -> Result<Update, Cause>
-    requires tracking_le_used_up { (h.tracking ≤ used_up) × (h.confirmation ≤ used_up) × (h.count ≤ ledger_places) }
+    requires numbers { (h.tracking ≤ used_up) × (h.confirmation ≤ used_up) × (h.count ≤ ledger_places) }
     requires sound_at { SoundAt f b }
     ensures { result ≡ decided_by (first (causes_by c room h f b)) c h f b }
 {

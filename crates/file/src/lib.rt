@@ -28,7 +28,7 @@ fn is_header(r: &[u8]) -> bool
     requires { 30 ≤ length r.now }
     ensures { result ≡ is_header r.now }
 {
-    records::has_type(r, b"01")
+    layout::TYPE.holds(r, b"01")
 }
 
 // Whether a record is as document 01 asks.
@@ -37,7 +37,7 @@ fn good_record(r: &[u8]) -> bool
     ensures { result ≡ good_record r.now }
 {
     let last = r[layout::END];
-    all_printable(r, layout::END) & (last == 13) & (is_header(r) | records::has_type(r, b"02"))
+    all_printable(r, layout::END) & (last == 13) & (is_header(r) | layout::TYPE.holds(r, b"02"))
 }
 
 // Whether record i is a header.
@@ -57,7 +57,7 @@ pub fn sup_at(s: &[u8], i: usize) -> bool
 {
     let a = i * RECORD_SIZE;
     let e = a + RECORD_SIZE;
-    records::has_notice(&s[a..e], b"SUP")
+    layout::NOTICE.holds(&s[a..e], b"SUP")
 }
 
 // The check of a whole file: cause 11 where it is false.
@@ -108,7 +108,7 @@ pub fn count_groups(s: &[u8], n: usize) -> Counts
     for r in s[..n * RECORD_SIZE].chunks_exact(RECORD_SIZE) {
         if is_header(r) {
             g += 1;
-            if records::has_notice(r, b"SUP") {
+            if layout::NOTICE.holds(r, b"SUP") {
                 k += 1;
             }
         }
@@ -121,12 +121,12 @@ fn unfit_pair(h: &[u8], d: &[u8]) -> bool
     requires { (60 ≤ length h.now) × (45 ≤ length d.now) }
     ensures { result ≡ unfit h.now d.now }
 {
-    !records::has_record_count_01(h)
-        | !records::has_company_34(h)
-        | !fields::same_part(h, layout::COMPANY, d, layout::COMPANY, layout::TYPE)
-        | !fields::same_part(h, layout::NOTICE, d, layout::NOTICE, layout::NOTICE_WIDTH)
-        | !fields::is_numeric(h, layout::ACCOUNT, layout::ACCOUNT_WIDTH)
-        | !fields::is_numeric(d, layout::KEY, layout::KEY_WIDTH)
+    !layout::RECORD_COUNT.holds(h, b"01")
+        | !layout::COMPANY.holds(h, b"34")
+        | !layout::TO_TYPE.is_same(h, d)
+        | !layout::NOTICE.is_same(h, d)
+        | !layout::ACCOUNT.is_numeric(h)
+        | !layout::KEY.is_numeric(d)
 }
 
 // Lines 1 and 2 for a header and its only detail: BR17, BR19, or the Notification Code.
@@ -137,10 +137,10 @@ fn pair_form(h: &[u8], d: &[u8]) -> Result<Notification, ErrorCode>
     if unfit_pair(h, d) {
         return Err(ErrorCode::Br17);
     }
-    if records::has_notice(h, b"RSP") {
+    if layout::NOTICE.holds(h, b"RSP") {
         return Ok(Notification::Response);
     }
-    if records::has_notice(h, b"SUP") {
+    if layout::NOTICE.holds(h, b"SUP") {
         return Ok(Notification::Supplement);
     }
     Err(ErrorCode::Br19)

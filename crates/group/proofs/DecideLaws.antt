@@ -17,7 +17,6 @@ use Rattle.group.specs.parts.Turns.{identity_at}
 use Rattle.std.specs.Prelude.{Option, Ok, Err}
 use Rattle.records.specs.Layout.{is_rsp}
 use Rattle.rules.specs.declared.ErrorCode.{ErrorCode}
-use Rattle.records.specs.declared.Notification.{Notification}
 use Rattle.records.specs.declared.Notification.TheVariants.{Response, Supplement}
 use native.Mathlib.Omega.{arith}
 use Rattle.ledger.specs.declared.Terms.{Terms}

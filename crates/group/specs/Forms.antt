@@ -1,6 +1,6 @@
 -- What lines 1 and 2 give for each case of a group's form: "An answer may be an enum. If so, a definition gives this paper's number and values for
 -- each of the enum's cases". Assumes nothing.
-use Rattle.std.specs.Prelude.{ℕ, ◌≡◌, Bool, [], ◌∷◌, Result, Ok, Err, ⊤}
+use Rattle.std.specs.Prelude.{◌≡◌, Bool, [], ◌∷◌, Result, Ok, Err, ⊤}
 use Rattle.ledger.specs.Books.{View}
 use Rattle.file.specs.File.{Group, line1, line2, form_of}
 use Rattle.rules.specs.Rules.{rule, first}

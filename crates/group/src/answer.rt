@@ -49,8 +49,8 @@ pub fn answer(
     b: Bill,
     h: LedgerHeader,
 ) -> usize
-    requires header_lt_records { (g.header < g.records) × (g.records * record_size ≤ length s.now) × (g.records ≤ file_records) }
-    requires record_size_in_bounds { writes ≡ true → at + (g.records - g.header) * record_size ≤ length out.old }
+    requires in_file { (g.header < g.records) × (g.records * record_size ≤ length s.now) × (g.records ≤ file_records) }
+    requires has_room { writes ≡ true → at + (g.records - g.header) * record_size ≤ length out.old }
     ensures { (out.new ≡ put out.old at (if_written writes (answer_at v h b (group_at s.now g.header g.records)))) × (result ≡ length (answer_at v h b (group_at s.now g.header g.records))) × (result ≤ (g.records - g.header) * record_size) }
 {
     let today = h.today;

@@ -14,7 +14,7 @@ ghost use Rattle.group.specs.Groups.{verdict_on};
 ghost use Rattle.group.specs.parts.Turns.{identity_in, identity_at, sought_by, InWidthsAt, CanPost, ids_by, bill_by, WithinFile, TurnLeaves};
 
 use ledger::{Bill, Identity, LedgerHeader, Posted, Terms, Update};
-use records::{FILE_RECORDS, RECORD_SIZE};
+use records::{FILE_RECORDS, RECORD_SIZE, layout};
 use rules::ErrorCode;
 use units::Date;
 
@@ -50,8 +50,8 @@ fn identity_of(h: &[u8], d: &[u8]) -> Identity
     ensures { result ≡ identity_in h.now d.now }
 {
     Identity {
-        account: records::account(h).unwrap_or(0),
-        key: records::key(d).unwrap_or(0),
+        account: layout::ACCOUNT.number(h).unwrap_or(0),
+        key: layout::KEY.number(d).unwrap_or(0),
     }
 }
 
@@ -79,7 +79,7 @@ pub fn verdict_at(
     b: Option<Terms>,
     today: Date,
 ) -> Result<Posted, ErrorCode>
-    requires i_lt_n { (i < n) × (n * record_size ≤ length s.now) }
+    requires in_file { (i < n) × (n * record_size ≤ length s.now) }
     requires dated { Dated today b }
     ensures { result ≡ verdict_on duplicate today b (group_at s.now i n) }
 {
@@ -147,8 +147,8 @@ pub fn turn(
     f: Option<usize>,
     b: Bill,
 ) -> TurnResult
-    requires header_lt_records { (g.header < g.records) × (g.records * record_size ≤ length s.now) × (g.records ≤ file_records) × (writes ≡ true → c.written + (g.records - g.header) * record_size ≤ length out.old) }
-    requires in_widths_at { InWidthsAt f b × WithinFile c × (h.tracking ≤ 1000000200) × (h.confirmation ≤ 1000000200) × (is_date h.today.0 ≡ true) }
+    requires in_file { (g.header < g.records) × (g.records * record_size ≤ length s.now) × (g.records ≤ file_records) × (writes ≡ true → c.written + (g.records - g.header) * record_size ≤ length out.old) }
+    requires widths { InWidthsAt f b × WithinFile c × (h.tracking ≤ 1000000200) × (h.confirmation ≤ 1000000200) × (is_date h.today.0 ≡ true) }
     ensures { TurnLeaves (verdict_on g.duplicate h.today (sought_by f b) (group_at s.now g.header g.records)) (group_at s.now g.header g.records) h b c writes out.old out.new result }
 {
     let sup = file::sup_at(s, g.header);

@@ -47,8 +47,8 @@ fn read_identity(s: &[u8], at: usize) -> Option<Identity>
     requires { at + 16 ≤ length s.now }
     ensures { result ≡ identity_field_of (part s.now at 12) (part s.now (at + 12) 4) }
 {
-    let account = fields::read_field(s, at, layout::ACCOUNT_WIDTH)?;
-    let key = fields::read_field(s, at + layout::ACCOUNT_WIDTH, layout::KEY_WIDTH)?;
+    let account = fields::read_field(s, at, layout::ACCOUNT.width)?;
+    let key = fields::read_field(s, at + layout::ACCOUNT.width, layout::KEY.width)?;
     Some(Identity { account, key })
 }
 
@@ -131,10 +131,10 @@ fn removal_body(s: &[u8]) -> Body
     requires { 20 ≤ length s.now }
     ensures { result ≡ removal_body s.now }
 {
-    let Some(account) = fields::read_field(s, 0, layout::ACCOUNT_WIDTH) else {
+    let Some(account) = fields::read_field(s, 0, layout::ACCOUNT.width) else {
         return Body::Unread;
     };
-    let Some(date) = fields::read_field(s, layout::ACCOUNT_WIDTH, 8) else {
+    let Some(date) = fields::read_field(s, layout::ACCOUNT.width, 8) else {
         return Body::Unread;
     };
     Body::Removal(AccountRemoval {

@@ -23,11 +23,11 @@ fn put_sequence_to_charge(out: &mut [u8], at: usize, sequence: u64, ccf: Ccf, ch
     requires { at + 26 ≤ length out.old }
     ensures { out.new ≡ put out.old at (digits 3 sequence ++ digits 10 ccf.0 ++ digits 13 charge.0) }
 {
-    let ccf_at = at + layout::SEQUENCE_WIDTH;
-    let charge_at = at + (layout::SEQUENCE_WIDTH + layout::CONSUMPTION_WIDTH);
-    fields::put_digits(out, at, layout::SEQUENCE_WIDTH, sequence);
-    fields::put_digits(out, ccf_at, layout::CONSUMPTION_WIDTH, ccf.0);
-    fields::put_digits(out, charge_at, layout::CHARGE_WIDTH, charge.0);
+    let ccf_at = at + layout::SEQUENCE.width;
+    let charge_at = at + (layout::SEQUENCE.width + layout::CONSUMPTION.width);
+    fields::put_digits(out, at, layout::SEQUENCE.width, sequence);
+    fields::put_digits(out, ccf_at, layout::CONSUMPTION.width, ccf.0);
+    fields::put_digits(out, charge_at, layout::CHARGE.width, charge.0);
 }
 
 // Writes the detail to position 207.
@@ -41,15 +41,10 @@ fn put_to_tiers(out: &mut [u8], at: usize, b: Bil)
     let today = b.today;
     let alike = crate::alike_for(terms, latest.tracking, today);
     crate::put_detail_to_key(out, at, alike, b"BIL", terms.identity.key);
-    fields::put_digits(
-        out,
-        at + layout::BILLING,
-        layout::BILLING_WIDTH,
-        latest.billing.0,
-    );
-    put_sequence_to_charge(out, at + layout::SEQUENCE, terms.sequence, ccf, Cents(0));
-    fields::put_digits(out, at + layout::FROM, layout::FROM_WIDTH, latest.from.0);
-    fields::put_fill(out, at + layout::TIER_1, layout::TIERS_WIDTH, 48);
+    layout::BILLING.put_number(out, at, latest.billing.0);
+    put_sequence_to_charge(out, at + layout::SEQUENCE.at, terms.sequence, ccf, Cents(0));
+    layout::FROM.put_number(out, at, latest.from.0);
+    layout::TIERS.fill(out, at, 48);
 }
 
 fn product_fill(prepay: bool) -> u8
@@ -73,17 +68,12 @@ fn put_detail(out: &mut [u8], at: usize, b: Bil)
     put_to_tiers(out, at, b);
     put_sequence_to_charge(
         out,
-        at + layout::PREVIOUS_SEQUENCE,
+        at + layout::PREVIOUS_SEQUENCE.at,
         terms.requests,
         previous,
         charge,
     );
-    fields::put_fill(
-        out,
-        at + layout::APPLIED,
-        layout::APPLIED_WIDTH + layout::OWED_WIDTH,
-        fill,
-    );
+    layout::APPLIED_AND_OWED.fill(out, at, fill);
     crate::put_end(out, at, layout::DETAIL_FILLER);
 }
 

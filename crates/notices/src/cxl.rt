@@ -28,5 +28,5 @@ pub fn write(out: &mut [u8], at: usize, x: Cxl)
     let detail = at + records::RECORD_SIZE;
     crate::put_header(out, at, alike, b"CXL", x.confirmation, 0);
     crate::put_detail_to_key(out, detail, alike, b"CXL", x.terms.identity.key);
-    crate::put_end(out, detail, layout::BILLING);
+    crate::put_end(out, detail, layout::BILLING.at);
 }

@@ -49,27 +49,17 @@ pub fn put_end(out: &mut [u8], at: usize, from: usize)
 
 // Writes positions 1 to 41 of a record.
 pub fn put_alike(out: &mut [u8], at: usize, l: Alike, record_type: &[u8], notice: &[u8])
-    requires at_in_bounds { at + 41 ≤ length out.old }
-    requires record_type_len { (length record_type.now ≡ 2) × (length notice.now ≡ 3) }
+    requires has_room { at + 41 ≤ length out.old }
+    requires wide { (length record_type.now ≡ 2) × (length notice.now ≡ 3) }
     ensures { out.new ≡ put out.old at (alike_fields l record_type.now notice.now) }
 {
-    fields::put_bytes(out, at, b"34");
-    ledger::bills::put_code(out, at + layout::RATE_CODE, l.code);
-    fields::put_digits(out, at + layout::ACCOUNT, layout::ACCOUNT_WIDTH, l.account);
-    fields::put_digits(
-        out,
-        at + layout::TRACKING,
-        layout::TRACKING_WIDTH,
-        l.tracking,
-    );
-    fields::put_bytes(out, at + layout::TYPE, record_type);
-    fields::put_bytes(out, at + layout::NOTICE, notice);
-    fields::put_digits(
-        out,
-        at + layout::TRANSMISSION,
-        layout::TRANSMISSION_WIDTH,
-        l.today.0,
-    );
+    layout::COMPANY.put_text(out, at, b"34");
+    ledger::bills::put_code(out, at + layout::RATE_CODE.at, l.code);
+    layout::ACCOUNT.put_number(out, at, l.account);
+    layout::TRACKING.put_number(out, at, l.tracking);
+    layout::TYPE.put_text(out, at, record_type);
+    layout::NOTICE.put_text(out, at, notice);
+    layout::TRANSMISSION.put_number(out, at, l.today.0);
 }
 
 // Writes Confirmation Number, Scheduled Date and Record Count, positions 42 to 60 of a header.
@@ -77,10 +67,10 @@ pub fn put_to_count(out: &mut [u8], at: usize, confirmation: u64, scheduled: u64
     requires { (at + 19 ≤ length out.old) × (length count.now ≡ 2) }
     ensures { out.new ≡ put out.old at (digits 9 confirmation ++ digits 8 scheduled ++ count.now) }
 {
-    let scheduled_at = at + layout::CONFIRMATION_WIDTH;
-    let count_at = at + (layout::CONFIRMATION_WIDTH + layout::SCHEDULED_WIDTH);
-    fields::put_digits(out, at, layout::CONFIRMATION_WIDTH, confirmation);
-    fields::put_digits(out, scheduled_at, layout::SCHEDULED_WIDTH, scheduled);
+    let scheduled_at = at + layout::CONFIRMATION.width;
+    let count_at = at + (layout::CONFIRMATION.width + layout::SCHEDULED.width);
+    fields::put_digits(out, at, layout::CONFIRMATION.width, confirmation);
+    fields::put_digits(out, scheduled_at, layout::SCHEDULED.width, scheduled);
     fields::put_bytes(out, count_at, count);
 }
 
@@ -93,27 +83,27 @@ pub fn put_header(
     confirmation: u64,
     scheduled: u64,
 )
-    requires record_size_in_bounds { at + record_size ≤ length out.old }
-    requires notice_len { length notice.now ≡ 3 }
+    requires has_room { at + record_size ≤ length out.old }
+    requires wide { length notice.now ≡ 3 }
     ensures { out.new ≡ put out.old at (header l notice.now confirmation scheduled) }
 {
     put_alike(out, at, l, b"01", notice);
     put_to_count(
         out,
-        at + layout::CONFIRMATION,
+        at + layout::CONFIRMATION.at,
         confirmation,
         scheduled,
         b"01",
     );
-    put_end(out, at, layout::BALANCE);
+    put_end(out, at, layout::BALANCE.at);
 }
 
 // Writes a detail to position 45.
 pub fn put_detail_to_key(out: &mut [u8], at: usize, l: Alike, notice: &[u8], key: u64)
-    requires at_in_bounds { at + 45 ≤ length out.old }
-    requires notice_len { length notice.now ≡ 3 }
+    requires has_room { at + 45 ≤ length out.old }
+    requires wide { length notice.now ≡ 3 }
     ensures { out.new ≡ put out.old at (detail_to_key l notice.now key) }
 {
     put_alike(out, at, l, b"02", notice);
-    fields::put_digits(out, at + layout::KEY, layout::KEY_WIDTH, key);
+    layout::KEY.put_number(out, at, key);
 }

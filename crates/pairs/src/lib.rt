@@ -6,7 +6,7 @@ ghost use Rattle.records.specs.Limits.{record_size, file_records};
 ghost use Rattle.file.specs.parts.Walk.{group_at, mark_at};
 ghost use Rattle.pairs.specs.parts.GroupNumbers.{code_number, named_by, group_number, number_at, number_slot};
 
-use records::{FILE_RECORDS, Notification, RECORD_SIZE};
+use records::{FILE_RECORDS, Notification, RECORD_SIZE, layout};
 use rules::ErrorCode;
 
 // A form's Notification Code as a number, 0 for none.
@@ -25,8 +25,8 @@ fn named(h: &[u8], d: &[u8], code: u64) -> u64
     requires { (19 ≤ length h.now) × (45 ≤ length d.now) × (code ≤ 2) }
     ensures { result ≡ named_by h.now d.now code }
 {
-    let account = records::account(h).unwrap_or(0);
-    let key = records::key(d).unwrap_or(0);
+    let account = layout::ACCOUNT.number(h).unwrap_or(0);
+    let key = layout::KEY.number(d).unwrap_or(0);
     code * 10000000000000000 + (account * 10000 + key)
 }
 

@@ -2,3 +2,4 @@
 pub mod LayoutLaws
 pub mod FieldLaws
 pub mod TierLaws
+pub mod Places

@@ -12,7 +12,7 @@ ghost use Rattle.trace_lines.specs.parts.ReadAnswers.{group_from, read_verdict, 
 use records::{RECORD_SIZE, layout};
 
 // Where the error code of a REJ's first detail stands.
-const FIRST_ERROR_CODE: usize = RECORD_SIZE + layout::ERROR_CODE;
+const FIRST_ERROR_CODE: usize = RECORD_SIZE + layout::ERROR_CODE.at;
 
 // Writes n bytes of src from index `from` on and a comma.
 fn put_field(out: &mut [u8], at: usize, src: &[u8], from: usize, n: usize)
@@ -43,7 +43,7 @@ fn put_key(out: &mut [u8], at: usize, s: &[u8], i: usize, k: usize)
         fields::put_bytes(out, at, b"    ,");
         return;
     }
-    put_in_record(out, at, s, i + 1, layout::KEY, layout::KEY_WIDTH);
+    put_in_record(out, at, s, i + 1, layout::KEY.at, layout::KEY.width);
 }
 
 // Writes ACF or the error code, as the answer to a group of k details has it, and byte 10; answers where they end.
@@ -52,7 +52,7 @@ fn put_verdict(out: &mut [u8], at: usize, sent: &[u8], from: usize, k: usize) ->
     requires record_size_in_bounds { from + (k + 1) * record_size ≤ length sent.now }
     ensures { (out.new ≡ put out.old at (ended (read_verdict (drop from sent.now) k))) × (result ≡ at + length (ended (read_verdict (drop from sent.now) k))) }
 {
-    if fields::is_text(sent, from + layout::NOTICE, b"ACF") {
+    if fields::is_text(sent, from + layout::NOTICE.at, b"ACF") {
         fields::put_bytes(out, at, b"ACF\n");
         return at + 4;
     }
@@ -65,7 +65,7 @@ fn put_verdict(out: &mut [u8], at: usize, sent: &[u8], from: usize, k: usize) ->
         at,
         sent,
         from + FIRST_ERROR_CODE,
-        layout::ERROR_CODE_WIDTH,
+        layout::ERROR_CODE.width,
     );
     fields::put_bytes(out, at + 4, b"\n");
     at + 5
@@ -76,7 +76,7 @@ fn next_answer(sent: &[u8], from: usize, k: usize) -> usize
     requires { from + (k + 1) * record_size ≤ length sent.now }
     ensures { result ≡ from + answer_long (drop from sent.now) k }
 {
-    if fields::is_text(sent, from + layout::NOTICE, b"ACF") {
+    if fields::is_text(sent, from + layout::NOTICE.at, b"ACF") {
         return from + RECORD_SIZE;
     }
     from + (k + 1) * RECORD_SIZE
@@ -102,12 +102,12 @@ fn put_group_line(r: Reached, out: &mut [u8], s: &[u8], i: usize, k: usize, sent
         out,
         at + 6,
         sent,
-        from + layout::CONFIRMATION,
-        layout::CONFIRMATION_WIDTH,
+        from + layout::CONFIRMATION.at,
+        layout::CONFIRMATION.width,
     );
-    put_in_record(out, at + 16, s, i, layout::ACCOUNT, layout::ACCOUNT_WIDTH);
+    put_in_record(out, at + 16, s, i, layout::ACCOUNT.at, layout::ACCOUNT.width);
     put_key(out, at + 29, s, i, k);
-    put_in_record(out, at + 34, s, i, layout::NOTICE, layout::NOTICE_WIDTH);
+    put_in_record(out, at + 34, s, i, layout::NOTICE.at, layout::NOTICE.width);
     put_verdict(out, at + 38, sent, from, k)
 }
 

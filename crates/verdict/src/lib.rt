@@ -14,7 +14,7 @@ ghost use Rattle.verdict.specs.parts.Dated.{dated_terms, Dated};
 ghost use Rattle.verdict.specs.Lines.{removed_long, line6, rate_of, line9, lines8to10, lines7to10, lines5to10, sent_charge, amounts_of, settle, verdict_of};
 
 use ledger::{Posted, RateCode, Terms};
-use records::Notification;
+use records::{Notification, layout};
 use rules::ErrorCode;
 use units::{Ccf, Cents, Date, Rate};
 
@@ -24,7 +24,7 @@ fn has_code(h: &[u8], c: RateCode) -> bool
     ensures { result ≡ same_list (rate_code_in h.now) (code_bytes c) }
 {
     let code = [c.first, c.second, 67, c.tens, c.ones];
-    records::has_rate_code(h, &code)
+    layout::RATE_CODE.holds(h, &code)
 }
 
 // Line 6 for RSP.
@@ -35,10 +35,10 @@ fn line_6_response(h: &[u8], d: &[u8], t: Terms, today: Date) -> Result<(), Erro
     if !t.is_open(today) {
         return Err(ErrorCode::Br09);
     }
-    if !records::has_tracking(h, t.latest.tracking) {
+    if !layout::TRACKING.holds_number(h, t.latest.tracking) {
         return Err(ErrorCode::Br01);
     }
-    if !records::has_sequence(d, t.sequence) {
+    if !layout::SEQUENCE.holds_number(d, t.sequence) {
         return Err(ErrorCode::Br05);
     }
     Ok(())
@@ -60,8 +60,8 @@ fn removed_long(removal: Option<Date>, today: Date) -> bool
 
 // Line 6 for SUP.
 fn line_6_supplement(h: &[u8], d: &[u8], t: Terms, today: Date) -> Result<(), ErrorCode>
-    requires record_size_in_bounds { (record_size ≤ length h.now) × (record_size ≤ length d.now) }
-    requires today_value { (is_date today.0 ≡ true) × (dated_terms t ≡ true) }
+    requires whole { (record_size ≤ length h.now) × (record_size ≤ length d.now) }
+    requires dates { (is_date today.0 ≡ true) × (dated_terms t ≡ true) }
     ensures { result ≡ first (line6 Notification.Supplement today h.now d.now t) }
 {
     let cancelled = t.cancelled;
@@ -79,7 +79,7 @@ fn line_6_supplement(h: &[u8], d: &[u8], t: Terms, today: Date) -> Result<(), Er
     if removed_long(removal, today) {
         return Err(ErrorCode::Br13);
     }
-    if !records::has_sequence(d, 0) {
+    if !layout::SEQUENCE.holds_number(d, 0) {
         return Err(ErrorCode::Br05);
     }
     let sequence = t.sequence;
@@ -97,8 +97,8 @@ fn line_6(
     t: Terms,
     today: Date,
 ) -> Result<(), ErrorCode>
-    requires record_size_in_bounds { (record_size ≤ length h.now) × (record_size ≤ length d.now) }
-    requires today_value { (is_date today.0 ≡ true) × (dated_terms t ≡ true) }
+    requires whole { (record_size ≤ length h.now) × (record_size ≤ length d.now) }
+    requires dates { (is_date today.0 ≡ true) × (dated_terms t ≡ true) }
     ensures { result ≡ first (line6 notification today h.now d.now t) }
 {
     match notification {
@@ -112,9 +112,7 @@ fn tier_1_rate(d: &[u8]) -> Option<Rate>
     requires { 94 ≤ length d.now }
     ensures { result ≡ rate_of (field_of (tier_rate_in d.now 88)) }
 {
-    let Some(rate) = records::tier_1_rate(d) else {
-        return None;
-    };
+    let rate = layout::TIER_1_RATE.number(d)?;
     Some(Rate(rate))
 }
 
@@ -129,13 +127,13 @@ fn line_9(d: &[u8], consumption: Ccf, charge: Cents) -> Result<(), ErrorCode>
     let Some(ccf) = records::tier_consumptions(d) else {
         return Err(ErrorCode::Br25);
     };
-    if Ccf(ccf.0) + (Ccf(ccf.1) + (Ccf(ccf.2) + Ccf(ccf.3))) != consumption {
+    if Ccf(ccf.sum()) != consumption {
         return Err(ErrorCode::Br25);
     }
     let Some(cents) = records::tier_charges(d) else {
         return Err(ErrorCode::Br26);
     };
-    if Cents(cents.0) + (Cents(cents.1) + (Cents(cents.2) + Cents(cents.3))) != charge {
+    if Cents(cents.sum()) != charge {
         return Err(ErrorCode::Br26);
     }
     Ok(())
@@ -152,17 +150,17 @@ fn bill_ready(d: &[u8], consumption: Ccf, charge: Cents) -> Result<Posted, Error
 
 // Lines 8 to 10 for Prepay.
 fn prepay(h: &[u8], d: &[u8], consumption: Ccf, charge: Cents) -> Result<Posted, ErrorCode>
-    requires record_size_in_bounds { (record_size ≤ length h.now) × (record_size ≤ length d.now) }
-    requires charge_value { charge.0 ≡ sent_charge d.now }
+    requires whole { (record_size ≤ length h.now) × (record_size ≤ length d.now) }
+    requires charge_sent { charge.0 ≡ sent_charge d.now }
     ensures { result ≡ settle (first (lines8to10 true h.now d.now consumption.0 charge.0)) (amounts_of true d.now) }
 {
-    let Some(_) = records::balance(h) else {
+    let Some(_) = layout::BALANCE.number(h) else {
         return Err(ErrorCode::Br21);
     };
-    let Some(applied) = records::applied(d) else {
+    let Some(applied) = layout::APPLIED.number(d) else {
         return Err(ErrorCode::Br22);
     };
-    let Some(owed) = records::owed(d) else {
+    let Some(owed) = layout::OWED.number(d) else {
         return Err(ErrorCode::Br23);
     };
     line_9(d, consumption, charge)?;
@@ -181,14 +179,14 @@ fn amounts(h: &[u8], d: &[u8], t: Terms) -> Result<Posted, ErrorCode>
     requires { (record_size ≤ length h.now) × (record_size ≤ length d.now) }
     ensures { result ≡ settle (first (lines7to10 h.now d.now t)) (amounts_of (is_prepay t.product) d.now) }
 {
-    let Some(c) = records::consumption(d) else {
+    let Some(c) = layout::CONSUMPTION.number(d) else {
         return Err(ErrorCode::Br08);
     };
     let asked = t.latest.consumption;
     if Ccf(c) != asked {
         return Err(ErrorCode::Br06);
     }
-    let Some(m) = records::charge(d) else {
+    let Some(m) = layout::CHARGE.number(d) else {
         return Err(ErrorCode::Br10);
     };
     let product = t.product;
@@ -206,8 +204,8 @@ fn known(
     t: Terms,
     today: Date,
 ) -> Result<Posted, ErrorCode>
-    requires record_size_in_bounds { (record_size ≤ length h.now) × (record_size ≤ length d.now) }
-    requires today_value { (is_date today.0 ≡ true) × (dated_terms t ≡ true) }
+    requires whole { (record_size ≤ length h.now) × (record_size ≤ length d.now) }
+    requires dates { (is_date today.0 ≡ true) × (dated_terms t ≡ true) }
     ensures { result ≡ settle (first (lines5to10 notification today h.now d.now t)) (amounts_of (is_prepay t.product) d.now) }
 {
     let code = t.code;
@@ -226,7 +224,7 @@ pub fn verdict_of(
     b: Option<Terms>,
     today: Date,
 ) -> Result<Posted, ErrorCode>
-    requires record_size_in_bounds { (record_size ≤ length h.now) × (record_size ≤ length d.now) }
+    requires whole { (record_size ≤ length h.now) × (record_size ≤ length d.now) }
     requires dated { Dated today b }
     ensures { result ≡ verdict_of notification today h.now d.now b }
 {

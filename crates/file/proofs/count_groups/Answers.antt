@@ -36,17 +36,17 @@ loop-r-init c =
     let f = ap (λ (x : ChunksExact ℕ). x.size) c.into_iter-r-iterator.ensures.into_iter_gives ∙ c.chunks_exact-r-items.ensures.size in
     (f, rw e (start s n c.requires))
 
-pub loop-r-preserved-then-has_notice : goal.loop-r-preserved-then-has_notice
-loop-r-preserved-then-has_notice c =
+pub loop-r-preserved-then-holds : goal.loop-r-preserved-then-holds
+loop-r-preserved-then-holds c =
     let h = c.in-Some.ensures.steps in
     let v = subst (λ (x : List ℕ). Inv c.args.s.now c.args.n c.loop-r.g c.loop-r.k x) h.1.0 c.loop-r.invariant.1 in
-    (omega arith, past-header c.in-Some.r.now c.next.new.self.rest.now (omega arith) v true (sym c.is_header.ensures ∙ c.if-is_header.true) (sym c.has_notice.ensures ∙ c.if-has_notice.true))
+    (omega arith, past-header c.in-Some.r.now c.next.new.self.rest.now (omega arith) v true (sym c.is_header.ensures ∙ c.if-is_header.true) (sym c.holds.ensures ∙ c.if-holds.true))
 
-pub loop-r-preserved-else-has_notice : goal.loop-r-preserved-else-has_notice
-loop-r-preserved-else-has_notice c =
+pub loop-r-preserved-else-holds : goal.loop-r-preserved-else-holds
+loop-r-preserved-else-holds c =
     let h = c.in-Some.ensures.steps in
     let v = subst (λ (x : List ℕ). Inv c.args.s.now c.args.n c.loop-r.g c.loop-r.k x) h.1.0 c.loop-r.invariant.1 in
-    (omega arith, past-header c.in-Some.r.now c.next.new.self.rest.now (omega arith) v false (sym c.is_header.ensures ∙ c.if-is_header.true) (sym c.has_notice.ensures ∙ c.if-has_notice.false))
+    (omega arith, past-header c.in-Some.r.now c.next.new.self.rest.now (omega arith) v false (sym c.is_header.ensures ∙ c.if-is_header.true) (sym c.holds.ensures ∙ c.if-holds.false))
 
 pub loop-r-preserved : goal.loop-r-preserved
 loop-r-preserved c =

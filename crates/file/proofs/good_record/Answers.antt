@@ -4,4 +4,4 @@ use Rattle.file.proofs.good_record.Goals as goal
 
 pub returns : goal.returns
 unfolding good_record is_detail
-returns c = rw (c.all_printable.ensures, c.is_header.ensures, c.has_type.ensures)
+returns c = rw (c.all_printable.ensures, c.is_header.ensures, c.holds.ensures)

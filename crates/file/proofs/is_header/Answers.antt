@@ -4,4 +4,4 @@ use Rattle.file.proofs.is_header.Goals as goal
 
 pub returns : goal.returns
 unfolding is_header
-returns c = c.has_type.ensures
+returns c = c.holds.ensures

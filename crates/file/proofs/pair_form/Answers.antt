@@ -7,14 +7,14 @@ pub returns-then-unfit_pair : goal.returns-then-unfit_pair
 unfolding pair_form
 returns-then-unfit_pair c = rw (sym c.unfit_pair.ensures ∙ c.if-unfit_pair.true)
 
-pub returns-then-has_notice : goal.returns-then-has_notice
+pub returns-then-holds : goal.returns-then-holds
 unfolding pair_form
-returns-then-has_notice c = rw (sym c.unfit_pair.ensures ∙ c.if-unfit_pair.false, sym c.has_notice.ensures ∙ c.if-has_notice.true)
+returns-then-holds c = rw (sym c.unfit_pair.ensures ∙ c.if-unfit_pair.false, sym c.holds.ensures ∙ c.if-holds.true)
 
-pub returns-then-has_notice-2 : goal.returns-then-has_notice-2
+pub returns-then-holds-2 : goal.returns-then-holds-2
 unfolding pair_form
-returns-then-has_notice-2 c = rw (sym c.unfit_pair.ensures ∙ c.if-unfit_pair.false, sym c.has_notice.ensures ∙ c.if-has_notice.false, sym c.has_notice-2.ensures ∙ c.if-has_notice-2.true)
+returns-then-holds-2 c = rw (sym c.unfit_pair.ensures ∙ c.if-unfit_pair.false, sym c.holds.ensures ∙ c.if-holds.false, sym c.holds-2.ensures ∙ c.if-holds-2.true)
 
 pub returns : goal.returns
 unfolding pair_form
-returns c = rw (sym c.unfit_pair.ensures ∙ c.if-unfit_pair.false, sym c.has_notice.ensures ∙ c.if-has_notice.false, sym c.has_notice-2.ensures ∙ c.if-has_notice-2.false)
+returns c = rw (sym c.unfit_pair.ensures ∙ c.if-unfit_pair.false, sym c.holds.ensures ∙ c.if-holds.false, sym c.holds-2.ensures ∙ c.if-holds-2.false)

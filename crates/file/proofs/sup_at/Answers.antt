@@ -6,4 +6,4 @@ use Rattle.file.proofs.sup_at.Goals as goal
 
 pub returns : goal.returns
 returns c =
-    c.has_notice.ensures ∙ ap is_sup (lent-record c.args.s.now c.args.i)
+    c.holds.ensures ∙ ap is_sup (lent-record c.args.s.now c.args.i)

@@ -5,11 +5,4 @@ use Rattle.file.proofs.unfit_pair.Goals as goal
 pub returns : goal.returns
 unfolding unfit
 returns c =
-    rw (
-      c.has_record_count_01.ensures,
-      c.has_company_34.ensures,
-      c.same_part.ensures,
-      c.same_part-2.ensures,
-      c.is_numeric.ensures,
-      c.is_numeric-2.ensures,
-    )
+    rw (c.holds.ensures, c.holds-2.ensures, c.is_same.ensures, c.is_same-2.ensures, c.is_numeric.ensures, c.is_numeric-2.ensures)

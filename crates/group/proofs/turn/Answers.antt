@@ -8,27 +8,19 @@ use Rattle.group.proofs.turn.Goals as goal
 
 pub verdict_at-v-requires : goal.verdict_at-v-requires
 verdict_at-v-requires c = record {
-  i_lt_n = (c.requires.header_lt_records.0, c.requires.header_lt_records.1);
+  in_file = (c.requires.in_file.0, c.requires.in_file.1);
   dated = subst (Dated c.args.h.today) (sym c.sought_by.ensures)
-      (dated-by c.args.h.today c.args.f c.args.b c.requires.in_widths_at.4 c.requires.in_widths_at.0);
+      (dated-by c.args.h.today c.args.f c.args.b c.requires.widths.4 c.requires.widths.0);
 }
 
 pub add-tally-requires : goal.add-tally-requires
 add-tally-requires c =
     let v = verdict-now _ _ c.args.f c.args.b _ _ _ c.sought_by.ensures c.verdict_at-v.ensures in
-    (c.requires.in_widths_at.1, omega (arith, c.answer-size.ensures.2, c.requires.header_lt_records), rw v (came-small _ _ _ _), rw v (went-small _ _ c.args.f c.args.b _ c.requires.in_widths_at.0))
-
-pub overflow_add-header : goal.overflow_add-header
-overflow_add-header c =
-    omega (arith, c.ids_used.ensures.1, c.requires.in_widths_at)
-
-pub overflow_add-header-2 : goal.overflow_add-header-2
-overflow_add-header-2 c =
-    omega (arith, c.requires.in_widths_at)
+    (c.requires.widths.1, omega (arith, c.answer-size.ensures.2, c.requires.in_file), rw v (came-small _ _ _ _), rw v (went-small _ _ c.args.f c.args.b _ c.requires.widths.0))
 
 pub post-bill-requires : goal.post-bill-requires
 post-bill-requires c =
-    rw (verdict-now _ _ c.args.f c.args.b _ _ _ c.sought_by.ensures c.verdict_at-v.ensures) (can-post _ _ c.args.f c.args.b _ c.requires.in_widths_at.0)
+    rw (verdict-now _ _ c.args.f c.args.b _ _ _ c.sought_by.ensures c.verdict_at-v.ensures) (can-post _ _ c.args.f c.args.b _ c.requires.widths.0)
 
 pub returns : goal.returns
 returns c =

@@ -11,5 +11,5 @@ pub returns : goal.returns
 unfolding detail_to_key
 returns c =
     let a = c.args in
-    let w1 = first a.out.now a.at _ (omega (arith, c.requires)) c.put_alike.ensures (length-alike a.l a.notice.now c.requires.notice_len _ refl) in
-    (next w1 _ c.put_digits.ensures (length_digits 4 _)).same
+    let w1 = first a.out.now a.at _ (omega (arith, c.requires)) c.put_alike.ensures (length-alike a.l a.notice.now c.requires.wide _ refl) in
+    (next w1 _ c.put_number.ensures (length_digits 4 _)).same

@@ -7,18 +7,18 @@ use Rattle.pairs.proofs.named.Goals as goal
 
 pub overflow_mul-result-2 : goal.overflow_mul-result-2
 overflow_mul-result-2 c =
-    let a : c.unwrap_or-account.result < 10 ^ 12 = rw (c.unwrap_or-account.ensures, c.account.ensures) (small-value _ 12 (length-part-le _ 7 12)) in omega arith
+    let a : c.unwrap_or-account.result < 10 ^ 12 = rw (c.unwrap_or-account.ensures, c.number.ensures) (small-value _ 12 (length-part-le _ 7 12)) in omega arith
 
 pub overflow_add-result : goal.overflow_add-result
 overflow_add-result c =
-    let a : c.unwrap_or-account.result < 10 ^ 12 = rw (c.unwrap_or-account.ensures, c.account.ensures) (small-value _ 12 (length-part-le _ 7 12)) in
-    let k : c.unwrap_or-key.result < 10 ^ 4 = rw (c.unwrap_or-key.ensures, c.key.ensures) (small-value _ 4 (length-part-le _ 41 4)) in omega arith
+    let a : c.unwrap_or-account.result < 10 ^ 12 = rw (c.unwrap_or-account.ensures, c.number.ensures) (small-value _ 12 (length-part-le _ 7 12)) in
+    let k : c.unwrap_or-key.result < 10 ^ 4 = rw (c.unwrap_or-key.ensures, c.number-2.ensures) (small-value _ 4 (length-part-le _ 41 4)) in omega arith
 
 pub overflow_add-result-2 : goal.overflow_add-result-2
 overflow_add-result-2 c =
-    let a : c.unwrap_or-account.result < 10 ^ 12 = rw (c.unwrap_or-account.ensures, c.account.ensures) (small-value _ 12 (length-part-le _ 7 12)) in
-    let k : c.unwrap_or-key.result < 10 ^ 4 = rw (c.unwrap_or-key.ensures, c.key.ensures) (small-value _ 4 (length-part-le _ 41 4)) in omega arith
+    let a : c.unwrap_or-account.result < 10 ^ 12 = rw (c.unwrap_or-account.ensures, c.number.ensures) (small-value _ 12 (length-part-le _ 7 12)) in
+    let k : c.unwrap_or-key.result < 10 ^ 4 = rw (c.unwrap_or-key.ensures, c.number-2.ensures) (small-value _ 4 (length-part-le _ 41 4)) in omega arith
 
 pub returns : goal.returns
 unfolding named_by
-returns c = rw (c.unwrap_or-account.ensures, c.account.ensures, c.unwrap_or-key.ensures, c.key.ensures)
+returns c = rw (c.unwrap_or-account.ensures, c.number.ensures, c.unwrap_or-key.ensures, c.number-2.ensures)

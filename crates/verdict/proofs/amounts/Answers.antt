@@ -6,32 +6,29 @@ use Rattle.verdict.proofs.amounts.Goals as goal
 
 pub returns-in_default : goal.returns-in_default
 unfolding line7
-returns-in_default c = rw (sym c.consumption.ensures ∙ c.in_default.is)
+returns-in_default c = rw (sym c.number.ensures ∙ c.in_default.is)
 
 pub returns-then-ne : goal.returns-then-ne
 unfolding line7
 returns-then-ne c =
-    rw (sym c.consumption.ensures ∙ c.in-Some.is, sym c.ne.ensures ∙ c.if-ne.true)
+    rw (sym c.number.ensures ∙ c.in-Some.is, sym c.ne.ensures ∙ c.if-ne.true)
 
-pub returns-in_default-charge : goal.returns-in_default-charge
+pub returns-in_default-number : goal.returns-in_default-number
 unfolding line7
-returns-in_default-charge c =
+returns-in_default-number c =
     rw (
-      sym c.consumption.ensures ∙ c.in-Some.is,
+      sym c.number.ensures ∙ c.in-Some.is,
       sym c.ne.ensures ∙ c.if-ne.false,
-      sym c.charge.ensures ∙ c.in_default-charge.is,
+      sym c.number-2.ensures ∙ c.in_default-number.is,
     )
-
-pub prepay-requires-clause-charge_value : goal.prepay-requires-clause-charge_value
-prepay-requires-clause-charge_value c = rw (sym c.charge.ensures ∙ c.in-Some-charge.is)
 
 pub returns-then-is_prepay : goal.returns-then-is_prepay
 unfolding line7
 returns-then-is_prepay c =
     rw (
-      sym c.consumption.ensures ∙ c.in-Some.is,
+      sym c.number.ensures ∙ c.in-Some.is,
       sym c.ne.ensures ∙ c.if-ne.false,
-      sym c.charge.ensures ∙ c.in-Some-charge.is,
+      sym c.number-2.ensures ∙ c.in-Some-number.is,
       sym c.is_prepay.ensures ∙ c.if-is_prepay.true,
     ) c.prepay.ensures
 
@@ -39,9 +36,9 @@ pub returns : goal.returns
 unfolding line7 line8 line10 amounts_of
 returns c =
     rw (
-      sym c.consumption.ensures ∙ c.in-Some.is,
+      sym c.number.ensures ∙ c.in-Some.is,
       sym c.ne.ensures ∙ c.if-ne.false,
-      sym c.charge.ensures ∙ c.in-Some-charge.is,
+      sym c.number-2.ensures ∙ c.in-Some-number.is,
       sym c.is_prepay.ensures ∙ c.if-is_prepay.false,
       append-nil (line9 _ _ _),
     ) c.bill_ready.ensures

@@ -7,14 +7,14 @@ pub returns-then-not-is_open : goal.returns-then-not-is_open
 unfolding line6
 returns-then-not-is_open c = rw (sym c.is_open.ensures ∙ c.if-not-is_open.true)
 
-pub returns-then-not-has_tracking : goal.returns-then-not-has_tracking
+pub returns-then-not-holds_number : goal.returns-then-not-holds_number
 unfolding line6
-returns-then-not-has_tracking c = rw (sym c.is_open.ensures ∙ c.if-not-is_open.false, sym c.has_tracking.ensures ∙ c.if-not-has_tracking.true)
+returns-then-not-holds_number c = rw (sym c.is_open.ensures ∙ c.if-not-is_open.false, sym c.holds_number.ensures ∙ c.if-not-holds_number.true)
 
-pub returns-then-not-has_sequence : goal.returns-then-not-has_sequence
+pub returns-then-not-holds_number-2 : goal.returns-then-not-holds_number-2
 unfolding line6
-returns-then-not-has_sequence c = rw (sym c.is_open.ensures ∙ c.if-not-is_open.false, sym c.has_tracking.ensures ∙ c.if-not-has_tracking.false, sym c.has_sequence.ensures ∙ c.if-not-has_sequence.true)
+returns-then-not-holds_number-2 c = rw (sym c.is_open.ensures ∙ c.if-not-is_open.false, sym c.holds_number.ensures ∙ c.if-not-holds_number.false, sym c.holds_number-2.ensures ∙ c.if-not-holds_number-2.true)
 
 pub returns : goal.returns
 unfolding line6
-returns c = rw (sym c.is_open.ensures ∙ c.if-not-is_open.false, sym c.has_tracking.ensures ∙ c.if-not-has_tracking.false, sym c.has_sequence.ensures ∙ c.if-not-has_sequence.false)
+returns c = rw (sym c.is_open.ensures ∙ c.if-not-is_open.false, sym c.holds_number.ensures ∙ c.if-not-holds_number.false, sym c.holds_number-2.ensures ∙ c.if-not-holds_number-2.false)

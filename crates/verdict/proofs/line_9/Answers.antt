@@ -22,21 +22,15 @@ returns-in_default-tier_consumptions c =
       sym c.tier_consumptions.ensures ∙ c.in_default-tier_consumptions.is,
     )
 
-pub add-requires : goal.add-requires
-add-requires c = omega (arith, consumptions-fit _ c.requires (sym c.tier_consumptions.ensures ∙ c.in-Some-tier_consumptions.is))
-
-pub add-requires-2 : goal.add-requires-2
-add-requires-2 c = omega (arith, consumptions-fit _ c.requires (sym c.tier_consumptions.ensures ∙ c.in-Some-tier_consumptions.is))
-
-pub add-requires-3 : goal.add-requires-3
-add-requires-3 c = omega (arith, consumptions-fit _ c.requires (sym c.tier_consumptions.ensures ∙ c.in-Some-tier_consumptions.is))
+pub sum-requires : goal.sum-requires
+sum-requires c = omega (arith, consumptions-fit _ c.requires (sym c.tier_consumptions.ensures ∙ c.in-Some-tier_consumptions.is))
 
 pub returns-then-ne : goal.returns-then-ne
 unfolding line9
 returns-then-ne c =
     rw (
       rate-good (field_of (tier_rate_in c.args.d.now 88)) (sym c.tier_1_rate.ensures ∙ c.in-Some.is),
-      sum-misses {sum = c.add-3.result.0} c.args.consumption.0 (sym c.tier_consumptions.ensures ∙ c.in-Some-tier_consumptions.is) (rw (c.add-3.ensures, c.add-2.ensures, c.add.ensures)),
+      sum-misses c.args.consumption.0 (sym c.tier_consumptions.ensures ∙ c.in-Some-tier_consumptions.is) c.sum.ensures,
       sym c.ne.ensures ∙ c.if-ne.true,
     )
 
@@ -46,28 +40,22 @@ unfolding line9
 returns-in_default-tier_charges c =
     rw (
       rate-good (field_of (tier_rate_in c.args.d.now 88)) (sym c.tier_1_rate.ensures ∙ c.in-Some.is),
-      sum-misses {sum = c.add-3.result.0} c.args.consumption.0 (sym c.tier_consumptions.ensures ∙ c.in-Some-tier_consumptions.is) (rw (c.add-3.ensures, c.add-2.ensures, c.add.ensures)),
+      sum-misses c.args.consumption.0 (sym c.tier_consumptions.ensures ∙ c.in-Some-tier_consumptions.is) c.sum.ensures,
       sym c.ne.ensures ∙ c.if-ne.false,
       sym c.tier_charges.ensures ∙ c.in_default-tier_charges.is,
     )
 
-pub add-requires-4 : goal.add-requires-4
-add-requires-4 c = omega (arith, charges-fit _ c.requires (sym c.tier_charges.ensures ∙ c.in-Some-tier_charges.is))
-
-pub add-requires-5 : goal.add-requires-5
-add-requires-5 c = omega (arith, charges-fit _ c.requires (sym c.tier_charges.ensures ∙ c.in-Some-tier_charges.is))
-
-pub add-requires-6 : goal.add-requires-6
-add-requires-6 c = omega (arith, charges-fit _ c.requires (sym c.tier_charges.ensures ∙ c.in-Some-tier_charges.is))
+pub sum-requires-2 : goal.sum-requires-2
+sum-requires-2 c = omega (arith, charges-fit _ c.requires (sym c.tier_charges.ensures ∙ c.in-Some-tier_charges.is))
 
 pub returns-then-ne-2 : goal.returns-then-ne-2
 unfolding line9
 returns-then-ne-2 c =
     rw (
       rate-good (field_of (tier_rate_in c.args.d.now 88)) (sym c.tier_1_rate.ensures ∙ c.in-Some.is),
-      sum-misses {sum = c.add-3.result.0} c.args.consumption.0 (sym c.tier_consumptions.ensures ∙ c.in-Some-tier_consumptions.is) (rw (c.add-3.ensures, c.add-2.ensures, c.add.ensures)),
+      sum-misses c.args.consumption.0 (sym c.tier_consumptions.ensures ∙ c.in-Some-tier_consumptions.is) c.sum.ensures,
       sym c.ne.ensures ∙ c.if-ne.false,
-      sum-misses {sum = c.add-6.result.0} c.args.charge.0 (sym c.tier_charges.ensures ∙ c.in-Some-tier_charges.is) (rw (c.add-6.ensures, c.add-5.ensures, c.add-4.ensures)),
+      sum-misses c.args.charge.0 (sym c.tier_charges.ensures ∙ c.in-Some-tier_charges.is) c.sum-2.ensures,
       sym c.ne-2.ensures ∙ c.if-ne-2.true,
     )
 
@@ -76,8 +64,8 @@ unfolding line9
 returns c =
     rw (
       rate-good (field_of (tier_rate_in c.args.d.now 88)) (sym c.tier_1_rate.ensures ∙ c.in-Some.is),
-      sum-misses {sum = c.add-3.result.0} c.args.consumption.0 (sym c.tier_consumptions.ensures ∙ c.in-Some-tier_consumptions.is) (rw (c.add-3.ensures, c.add-2.ensures, c.add.ensures)),
+      sum-misses c.args.consumption.0 (sym c.tier_consumptions.ensures ∙ c.in-Some-tier_consumptions.is) c.sum.ensures,
       sym c.ne.ensures ∙ c.if-ne.false,
-      sum-misses {sum = c.add-6.result.0} c.args.charge.0 (sym c.tier_charges.ensures ∙ c.in-Some-tier_charges.is) (rw (c.add-6.ensures, c.add-5.ensures, c.add-4.ensures)),
+      sum-misses c.args.charge.0 (sym c.tier_charges.ensures ∙ c.in-Some-tier_charges.is) c.sum-2.ensures,
       sym c.ne-2.ensures ∙ c.if-ne-2.false,
     )

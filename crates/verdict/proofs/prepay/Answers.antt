@@ -9,29 +9,29 @@ use Rattle.std.proofs.Common.{rules}
 
 pub returns-in_default : goal.returns-in_default
 unfolding line8
-returns-in_default c = rw (sym c.balance.ensures ∙ c.in_default.is)
+returns-in_default c = rw (sym c.number.ensures ∙ c.in_default.is)
 
-pub returns-in_default-applied : goal.returns-in_default-applied
+pub returns-in_default-number : goal.returns-in_default-number
 unfolding line8
-returns-in_default-applied c =
-    rw (sym c.balance.ensures ∙ c.in-Some.is, sym c.applied.ensures ∙ c.in_default-applied.is)
+returns-in_default-number c =
+    rw (sym c.number.ensures ∙ c.in-Some.is, sym c.number-2.ensures ∙ c.in_default-number.is)
 
-pub returns-in_default-owed : goal.returns-in_default-owed
+pub returns-in_default-number-2 : goal.returns-in_default-number-2
 unfolding line8
-returns-in_default-owed c =
+returns-in_default-number-2 c =
     rw (
-      sym c.balance.ensures ∙ c.in-Some.is,
-      sym c.applied.ensures ∙ c.in-Some-applied.is,
-      sym c.owed.ensures ∙ c.in_default-owed.is,
+      sym c.number.ensures ∙ c.in-Some.is,
+      sym c.number-2.ensures ∙ c.in-Some-number.is,
+      sym c.number-3.ensures ∙ c.in_default-number-2.is,
     )
 
 pub returns-in_err-line_9 : goal.returns-in_err-line_9
 unfolding line8
 returns-in_err-line_9 c =
     rw (
-      sym c.balance.ensures ∙ c.in-Some.is,
-      sym c.applied.ensures ∙ c.in-Some-applied.is,
-      sym c.owed.ensures ∙ c.in-Some-owed.is,
+      sym c.number.ensures ∙ c.in-Some.is,
+      sym c.number-2.ensures ∙ c.in-Some-number.is,
+      sym c.number-3.ensures ∙ c.in-Some-number-2.is,
       first-stop _ _ (sym c.line_9.ensures ∙ c.in_err-line_9.was),
     )
     (search rules)
@@ -40,17 +40,17 @@ pub add-requires : goal.add-requires
 add-requires c =
     omega (
       arith,
-      field_below _ 233 13 _ (omega arith) (sym c.applied.ensures ∙ c.in-Some-applied.is),
-      field_below _ 246 13 _ (omega arith) (sym c.owed.ensures ∙ c.in-Some-owed.is),
+      field_below _ 233 13 _ (omega arith) (sym c.number-2.ensures ∙ c.in-Some-number.is),
+      field_below _ 246 13 _ (omega arith) (sym c.number-3.ensures ∙ c.in-Some-number-2.is),
     )
 
 pub returns-then-ne : goal.returns-then-ne
 unfolding line8 line10
 returns-then-ne c =
     rw (
-      sym c.balance.ensures ∙ c.in-Some.is,
-      sym c.applied.ensures ∙ c.in-Some-applied.is,
-      sym c.owed.ensures ∙ c.in-Some-owed.is,
+      sym c.number.ensures ∙ c.in-Some.is,
+      sym c.number-2.ensures ∙ c.in-Some-number.is,
+      sym c.number-3.ensures ∙ c.in-Some-number-2.is,
       first-clear (line9 _ _ _) _ (sym c.line_9.ensures ∙ c.in_ok-line_9.was),
       sym c.add.ensures,
       sym c.ne.ensures ∙ c.if-ne.true,
@@ -60,11 +60,11 @@ pub returns : goal.returns
 unfolding line8 line10 amounts_of
 returns c =
     rw (
-      sym c.balance.ensures ∙ c.in-Some.is,
-      sym c.applied.ensures ∙ c.in-Some-applied.is,
-      sym c.owed.ensures ∙ c.in-Some-owed.is,
+      sym c.number.ensures ∙ c.in-Some.is,
+      sym c.number-2.ensures ∙ c.in-Some-number.is,
+      sym c.number-3.ensures ∙ c.in-Some-number-2.is,
       first-clear (line9 _ _ _) _ (sym c.line_9.ensures ∙ c.in_ok-line_9.was),
       sym c.add.ensures,
       sym c.ne.ensures ∙ c.if-ne.false,
-      ← c.requires.charge_value,
+      ← c.requires.charge_sent,
     )

@@ -1,16 +1,10 @@
 -- `verdict::verdict_of` meets its contract, by whether there is a bill.
-use Rattle.verdict.specs.parts.Dated.{Dated}
 use Rattle.verdict.specs.Lines.{line4, verdict_of}
 use Rattle.verdict.proofs.verdict_of.Goals as goal
-use Rattle.std.specs.Prelude.{Some}
 
 pub returns-in_default : goal.returns-in_default
 unfolding verdict_of line4
 returns-in_default c = rw c.in_default.is
-
-pub known-requires : goal.known-requires
-known-requires c =
-    let dated : Dated c.args.today (Some c.in-Some.t) = rw c.in-Some.is at c.requires.dated in record { record_size_in_bounds = c.requires.record_size_in_bounds; today_value = dated }
 
 pub returns : goal.returns
 unfolding verdict_of line4

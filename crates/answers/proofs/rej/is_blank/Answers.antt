@@ -5,4 +5,4 @@ use Rattle.answers.proofs.rej.is_blank.Goals as goal
 
 pub returns : goal.returns
 unfolding is_blank part filled
-returns c = rw (c.has_from_date.ensures, c.has_from_date-2.ensures)
+returns c = rw (c.holds.ensures, c.holds-2.ensures)

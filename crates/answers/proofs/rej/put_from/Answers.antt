@@ -4,8 +4,8 @@ use Rattle.answers.proofs.rej.put_from.Goals as goal
 
 pub returns-then-sup-is_blank : goal.returns-then-sup-is_blank
 unfolding from_back
-returns-then-sup-is_blank c = rw (rw c.is_blank.ensures at c.if-sup-is_blank.true) c.put_bytes.ensures
+returns-then-sup-is_blank c = rw (rw c.is_blank.ensures at c.if-sup-is_blank.true) c.put_text.ensures
 
 pub returns-else-sup-is_blank : goal.returns-else-sup-is_blank
 unfolding from_back
-returns-else-sup-is_blank c = rw (rw c.is_blank.ensures at c.if-sup-is_blank.false) c.put_part.ensures
+returns-else-sup-is_blank c = rw (rw c.is_blank.ensures at c.if-sup-is_blank.false) c.copy.ensures

@@ -11,5 +11,5 @@ unfolding rej_header
 returns c =
     let a = c.args in
     let w1 = first a.out.now a.at _ (omega (arith, c.requires)) c.put_alike.ensures (length-rej-alike a.h.now c.requires.1 _) in
-    let w2 = next w1 _ c.put_digits.ensures (length_digits 9 _) in
-    (next w2 _ c.put_as_sent.ensures (length-within a.h.now c.requires.1 50 271 (omega arith))).same
+    let w2 = next w1 _ c.put_number.ensures (length_digits 9 _) in
+    (next w2 _ c.copy.ensures (length-within a.h.now c.requires.1 50 271 (omega arith))).same

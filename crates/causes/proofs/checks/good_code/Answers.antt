@@ -3,4 +3,4 @@ use Rattle.causes.proofs.CodeLaws.{good-five}
 use Rattle.causes.proofs.checks.good_code.Goals as goal
 
 pub returns : goal.returns
-returns c = rw (c.valid.ensures, c.code_of.ensures) (good-five _)
+returns c = rw (c.valid.ensures, c.from.ensures) (good-five _)

@@ -27,7 +27,7 @@ bill_at-b-requires g c =
 pub decide-requires : goal.decide-requires
 decide-requires g c =
     let q = sound-ready _ c.requires.0 in
-    let he = c.header-h.ensures in record { tracking_le_used_up = (rw he q.tracking, rw he q.confirmation, rw he q.count); sound_at = sound-in (g.T.Holder.held c.args.lent.now) (g.met.T.Holder.places _ (g.met.T.Holder.sound_holds _ c.requires.0)) c.requires.0 c.args.c _ c.call_identity.ensures _ he _ c.find-f.ensures _ c.bill_place-p.ensures.0 _ c.bill_at-b.ensures }
+    let he = c.header-h.ensures in record { numbers = (rw he q.tracking, rw he q.confirmation, rw he q.count); sound_at = sound-in (g.T.Holder.held c.args.lent.now) (g.met.T.Holder.places _ (g.met.T.Holder.sound_holds _ c.requires.0)) c.requires.0 c.args.c _ c.call_identity.ensures _ he _ c.find-f.ensures _ c.bill_place-p.ensures.0 _ c.bill_at-b.ensures }
 
 pub returns-in_err-u : goal.returns-in_err-u
 returns-in_err-u g c =

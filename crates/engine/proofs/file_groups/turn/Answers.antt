@@ -12,7 +12,7 @@ pub find-f-requires : goal.find-f-requires
 find-f-requires g c = (c.requires.ws_value.0, rw c.header-h.ensures c.requires.ws_value.1.count)
 
 pub turn-x-requires : goal.turn-x-requires
-turn-x-requires g c = record { header_lt_records = c.requires.header_lt_records; in_widths_at = (turn-calm (g.T.Holder.held c.args.lent.now) c.args.c c.requires.ws_value.1 c.args.s.now c.args.g.header c.args.g.records _ c.identity_at.ensures _ (found-is (g.T.Holder.held c.args.lent.now) _ _ c.header-h.ensures _ c.find-f.ensures) _ (place_is (g.T.Holder.held c.args.lent.now) _ _ c.header-h.ensures _ c.find-f.ensures _ c.bill_place-p.ensures.0) _ c.bill_at-b.ensures, c.requires.ws_value.1.few, rw c.header-h.ensures c.requires.ws_value.1.tracking, rw c.header-h.ensures c.requires.ws_value.1.confirmation, rw c.header-h.ensures c.requires.ws_value.1.today) }
+turn-x-requires g c = record { in_file = c.requires.header_lt_records; widths = (turn-calm (g.T.Holder.held c.args.lent.now) c.args.c c.requires.ws_value.1 c.args.s.now c.args.g.header c.args.g.records _ c.identity_at.ensures _ (found-is (g.T.Holder.held c.args.lent.now) _ _ c.header-h.ensures _ c.find-f.ensures) _ (place_is (g.T.Holder.held c.args.lent.now) _ _ c.header-h.ensures _ c.find-f.ensures _ c.bill_place-p.ensures.0) _ c.bill_at-b.ensures, c.requires.ws_value.1.few, rw c.header-h.ensures c.requires.ws_value.1.tracking, rw c.header-h.ensures c.requires.ws_value.1.confirmation, rw c.header-h.ensures c.requires.ws_value.1.today) }
 
 pub update-requires : goal.update-requires
 update-requires g c =

@@ -6,23 +6,18 @@ use Rattle.group.specs.parts.Turns.{answer_at}
 use Rattle.group.proofs.AnswerSizes.{details-are, sized-acf, sized-rej}
 use Rattle.group.proofs.answer.answer.Goals as goal
 
-pub write_acf-requires : goal.write_acf-requires
-write_acf-requires c =
-    let room = c.requires.record_size_in_bounds c.if-writes.true in
-    (omega (arith, c.requires), omega (arith, c.requires, room))
-
 pub returns-then-writes : goal.returns-then-writes
 unfolding answer_at
 returns-then-writes c =
     let a = c.args in
     let told = c.in-Ok.is in
-    let z = sized-acf a.v a.h a.b a.s.now a.g.header a.g.records c.requires.header_lt_records.0 c.requires.header_lt_records.1 _ told in
+    let z = sized-acf a.v a.h a.b a.s.now a.g.header a.g.records c.requires.in_file.0 c.requires.in_file.1 _ told in
     (rw (c.if-writes.true, told, header_is a.s.now a.g.header a.g.records) (rw c.acf_of.ensures at c.write_acf.ensures), z.0, z.1)
 
 pub write-requires : goal.write-requires
 write-requires c =
     let a = c.args in
-    let room = c.requires.record_size_in_bounds c.if-writes-2.true in
+    let room = c.requires.has_room c.if-writes-2.true in
     let k = leading-within a.s.now a.g.header a.g.records in
     (omega (arith, c.requires, room, k, c.detail_count-k.ensures), omega (arith, c.requires, k, c.detail_count-k.ensures))
 
@@ -38,7 +33,7 @@ returns-then-writes-2 c =
     let a = c.args in
     let told = c.in-Err.is in
     let k = c.detail_count-k.ensures in
-    let z = sized-rej a.v a.h a.b a.s.now a.g.header a.g.records c.requires.header_lt_records.0 c.requires.header_lt_records.1 _ told _ k in
+    let z = sized-rej a.v a.h a.b a.s.now a.g.header a.g.records c.requires.in_file.0 c.requires.in_file.1 _ told _ k in
     (rw (c.if-writes-2.true, told, header_is a.s.now a.g.header a.g.records, details-are a.s.now a.g.header a.g.records _ k) c.write.ensures, z.0, z.1)
 
 pub overflow_add-result-in-Err : goal.overflow_add-result-in-Err
@@ -51,7 +46,7 @@ pub returns-else-writes : goal.returns-else-writes
 returns-else-writes c =
     let a = c.args in
     let told = c.in-Ok.is in
-    let z = sized-acf a.v a.h a.b a.s.now a.g.header a.g.records c.requires.header_lt_records.0 c.requires.header_lt_records.1 _ told in
+    let z = sized-acf a.v a.h a.b a.s.now a.g.header a.g.records c.requires.in_file.0 c.requires.in_file.1 _ told in
     (rw c.if-writes.false (put-nil _ _), z.0, z.1)
 
 pub returns-else-writes-2 : goal.returns-else-writes-2
@@ -59,5 +54,5 @@ returns-else-writes-2 c =
     let a = c.args in
     let told = c.in-Err.is in
     let k = c.detail_count-k.ensures in
-    let z = sized-rej a.v a.h a.b a.s.now a.g.header a.g.records c.requires.header_lt_records.0 c.requires.header_lt_records.1 _ told _ k in
+    let z = sized-rej a.v a.h a.b a.s.now a.g.header a.g.records c.requires.in_file.0 c.requires.in_file.1 _ told _ k in
     (rw c.if-writes-2.false (put-nil _ _), z.0, z.1)

@@ -15,5 +15,5 @@ returns c =
     let a = c.args in
     let w1 = first a.out.now a.at _ (omega (arith, c.requires)) c.put_to_tiers.ensures (length-bil-to-tiers _) in
     let w2 = next-three w1 (digits 3 a.b.bill.terms.requests) (digits 10 a.b.previous.0) (digits 13 (charge_of a.b.bill.posted).0) (rw c.charge-charge.ensures at c.put_sequence_to_charge.ensures) (length_digits 3 _) (length_digits 10 _) (length_digits 13 _) in
-    let w3 = next w2 _ (rw (c.product_fill-fill.ensures, c.is_prepay.ensures) at c.put_fill.ensures) (length-filled 26 _) in
+    let w3 = next w2 _ (rw (c.product_fill-fill.ensures, c.is_prepay.ensures) at c.fill.ensures) (length-filled 26 _) in
     (next w3 _ c.put_end.ensures (length-spaces-from 260)).same

@@ -15,7 +15,7 @@ returns c =
     let a = c.args in
     let t = a.b.bill.terms in
     let w1 = first a.out.now a.at _ (omega (arith, c.requires)) (rw c.alike_for-alike.ensures at c.put_detail_to_key.ensures) (length-detail-to-key _ _ refl _) in
-    let w2 = next w1 _ c.put_digits.ensures (length_digits 8 _) in
+    let w2 = next w1 _ c.put_number.ensures (length_digits 8 _) in
     let w3 = next-three w2 (digits 3 t.sequence) (digits 10 t.latest.consumption.0) (zeros 13) (rw no-charge at c.put_sequence_to_charge.ensures) (length_digits 3 _) (length_digits 10 _) (length-filled 13 48) in
-    let w4 = next w3 _ c.put_digits-2.ensures (length_digits 8 _) in
-    (next w4 _ c.put_fill.ensures (length-filled 120 48)).same
+    let w4 = next w3 _ c.put_number-2.ensures (length_digits 8 _) in
+    (next w4 _ c.fill.ensures (length-filled 120 48)).same

@@ -1,8 +1,0 @@
--- `decisions::notice::previous` meets its contract, by the place that was told.
-use Rattle.decisions.proofs.notice.previous.Goals as goal
-
-pub returns-in-None : goal.returns-in-None
-returns-in-None c = rw c.in-None.is
-
-pub returns-in-Some : goal.returns-in-Some
-returns-in-Some c = rw c.in-Some.is

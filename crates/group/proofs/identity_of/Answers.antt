@@ -1,5 +1,0 @@
--- `group::identity_of` meets its contract.
-use Rattle.group.proofs.identity_of.Goals as goal
-
-pub returns : goal.returns
-returns c = rw (c.unwrap_or.ensures, c.account.ensures, c.unwrap_or-2.ensures, c.key.ensures)
