@@ -1,7 +1,7 @@
 -- Entries after_entry one after another, whatever is written of them. Assumes nothing.
 use Prim.Native.Nat.{ℕ, ◌+◌, ◌-◌, ◌≤◌, ◌<◌}
 use mathlib.Core.Path.{◌≡◌, refl, sym, ap, ◌∙◌}
-use mathlib.Core.Bool.{Bool, true, false, true≢false, false≢true}
+use mathlib.Core.Bool.{true, true≢false}
 use mathlib.Core.List.{List, [], ◌∷◌, ◌++◌, append_assoc}
 use native.Mathlib.Omega.{arith}
 use native.Mathlib.Nat.{add-zero}
@@ -21,7 +21,9 @@ use Rattle.journal.proofs.HeadLaws.{whole-fits}
 use Rattle.journal.proofs.JournalLaws.{parse-whole}
 use Rattle.journal.proofs.BeginLaws.{whole-taken, makes-append}
 use Rattle.journal.proofs.MadeLaws.{made-book}
-use Rattle.entries.specs.parts.Running.{behind, entry_at, ran_to, FirstMade, NoneLeft}
+use Rattle.entries.specs.declared.entry.Ended.{Ended}
+use Rattle.entries.specs.declared.entry.Ended.TheVariants.{Full}
+use Rattle.entries.specs.parts.Running.{behind, entry_at, met_bad, ran_to, FirstMade, NoneLeft}
 
 pub made-append : (l : Ledger) (es fs : List Entry) → ledger_after_entries l (es ++ fs) ≡ ledger_after_entries (ledger_after_entries l es) fs
 unfolding ledger_after_entries
@@ -34,12 +36,12 @@ first-none seen src ws h = record { sound = h; used = omega arith; parsed = refl
 
 -- ---- the end of a run
 module _ (src : List ℕ) (at seen n : ℕ) where
-  pub left-full : NoneLeft src (ran_to at seen n true false)
-  left-full = record { left = λ z. absurd (true≢false z); goes = λ z. refl }
+  pub left-full : NoneLeft src (ran_to at seen n Full)
+  left-full = record { left = λ z. absurd (true≢false z) }
 
-  pub left-none : (bad : Bool) → parse seen (drop at src) ≡ record { entries = []; stopped = bad; rest = drop at src }
-      → NoneLeft src (ran_to at seen n false bad)
-  left-none bad e = record { left = λ z. e; goes = λ z. absurd (false≢true z) }
+  pub left-none : (end : Ended) → parse seen (drop at src) ≡ record { entries = []; stopped = met_bad end; rest = drop at src }
+      → NoneLeft src (ran_to at seen n end)
+  left-none end e = record { left = λ z. e }
 
 -- ---- one entry more: the one of m bytes that stands behind those that were after_entry
 module _ (seen : ℕ) (src ws₀ ws : List ℕ) (at k : ℕ) (done : List Entry) (w : FirstMade seen src ws₀ ws at k done)

@@ -1,7 +1,7 @@
 -- An entry by its call on the words. Assumes nothing.
 use Prim.Native.Nat.{ℕ, ◌-◌}
 use mathlib.Core.Path.{◌≡◌, refl}
-use mathlib.Core.Bool.{Bool, true, false}
+use mathlib.Core.Bool.{Bool, true}
 use mathlib.Core.List.{List}
 use lib.ListN.{take, drop}
 use Rattle.fields.specs.Put.{put, part}
@@ -15,10 +15,10 @@ use Rattle.journal.specs.declared.Head.TheVariants.{Cut, Bad, Whole}
 use Rattle.journal.specs.Entries.{head_of}
 use Rattle.journal.specs.EntryCalls.{entry_called, entry_written}
 use Rattle.journal.proofs.MadeLaws.{Taken, made-sound}
-use Rattle.entries.specs.declared.entry.Stepped.TheVariants as step
+use Rattle.entries.specs.declared.entry.Ended.TheVariants as end
 use Rattle.entries.specs.parts.Stepping.{EntryCalledIn, SteppedIn}
 use Rattle.engine.proofs.LentCalls.{said-none}
-use Rattle.std.specs.Prelude.{Result, Err}
+use Rattle.std.specs.Prelude.{Result, Ok, Err}
 use Rattle.rules.specs.declared.Cause.{Cause}
 use Rattle.calls.specs.declared.Returned.{Returned}
 use Rattle.rules.specs.declared.Cause.TheVariants.{BadArgument}
@@ -36,13 +36,13 @@ module _ (writes : Bool) (room : ℕ) (ws out : List ℕ) (sure : sound_ledger (
 
 -- ---- what stands at the start of some bytes
 module _ (writes : Bool) (seen : ℕ) (src ws₀ out₀ : List ℕ) where
-  pub step_cut : head_of seen src ≡ Cut → SteppedIn writes 0 seen src ws₀ out₀ ws₀ out₀ (step.NoEntry false)
+  pub step_cut : head_of seen src ≡ Cut → SteppedIn writes 0 seen src ws₀ out₀ ws₀ out₀ (Err end.Cut)
   step_cut e = rw e (refl, refl, refl)
 
-  pub step-bad : head_of seen src ≡ Bad → SteppedIn writes 0 seen src ws₀ out₀ ws₀ out₀ (step.NoEntry true)
+  pub step-bad : head_of seen src ≡ Bad → SteppedIn writes 0 seen src ws₀ out₀ ws₀ out₀ (Err end.Bad)
   step-bad e = rw e (refl, refl, refl)
 
   pub step-made : (b : Body) (n : ℕ) → head_of seen src ≡ Whole b n → (ws out : List ℕ) (a : Result Returned Cause) → EntryCalledIn writes 64200 0 b (take (n - 3) (drop 3 src)) ws₀ out₀ ws out a
-      → SteppedIn writes 0 seen src ws₀ out₀ ws out (step.Made n a)
+      → SteppedIn writes 0 seen src ws₀ out₀ ws out (Ok (record { size = n; answer = a }))
   unfolding part
   step-made b n e ws out a m = rw e (a, refl, m)

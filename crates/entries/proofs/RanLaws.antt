@@ -10,7 +10,7 @@ use Rattle.words.specs.Layout as layout
 use Rattle.journal.specs.Journal.{Entry, Parsed, parse, after_entries, first_book, ends_bad, journal_ledger, is_bad}
 use Rattle.journal.specs.EntryCalls.{notices_of, brn_of}
 use Rattle.entries.specs.declared.run.Ran.{Ran}
-use Rattle.entries.specs.parts.Running.{behind, RanIn}
+use Rattle.entries.specs.parts.Running.{behind, met_bad, had_no_room, RanIn}
 use Rattle.entries.proofs.RunNotices.{notices-append}
 
 module _ (seen : ℕ) (writes : Bool) (src ws₀ out₀ ws out : List ℕ) (r : Ran) (w : RanIn seen writes src ws₀ out₀ ws out r) where
@@ -35,8 +35,8 @@ module _ (seen : ℕ) (writes : Bool) (src ws₀ out₀ ws out : List ℕ) (r : 
       )
 
   -- a run that was not held up made all entries
-  module _ (e : r.full ≡ false) where
-    all-parsed : parse seen src ≡ behind w.done (record { entries = []; stopped = r.stopped; rest = drop r.used src })
+  module _ (e : had_no_room r.end ≡ false) where
+    all-parsed : parse seen src ≡ behind w.done (record { entries = []; stopped = met_bad r.end; rest = drop r.used src })
     all-parsed = w.made.parsed ∙ ap (behind w.done) (w.rest.left e)
 
     pub all_done : (parse seen src).entries ≡ w.done
@@ -51,7 +51,7 @@ module _ (seen : ℕ) (writes : Bool) (src ws₀ out₀ ws out : List ℕ) (r : 
     pub all-count : r.seen ≡ seen + length (parse seen src).entries
     all-count = w.made.count ∙ ap (λ (es : List Entry). seen + length es) (sym all_done)
 
-    pub all-stopped : r.stopped ≡ (parse seen src).stopped
+    pub all-stopped : met_bad r.end ≡ (parse seen src).stopped
     all-stopped = sym (ap (λ (p : Parsed). p.stopped) all-parsed)
 
     pub all_rest : drop r.used src ≡ (parse seen src).rest
@@ -59,12 +59,12 @@ module _ (seen : ℕ) (writes : Bool) (src ws₀ out₀ ws out : List ℕ) (r : 
 
 -- ---- a whole journal, from the ledger before the first entry
 module _ (writes : Bool) (src ws₀ out₀ ws out : List ℕ) (r : Ran) (w : RanIn 0 writes src ws₀ out₀ ws out r) (z : book (layout.ledger_of ws₀) ≡ first_book)
-    (e : r.full ≡ false) where
+    (e : had_no_room r.end ≡ false) where
   pub journal-books : book (layout.ledger_of ws) ≡ journal_ledger src
   unfolding journal_ledger
   journal-books = all-books 0 writes src ws₀ out₀ ws out r w e ∙ ap (λ (k : Book). after_entries k (parse 0 src).entries) z
 
-  pub journal-bad : ends_bad r.stopped (length src - r.used) r.seen ≡ is_bad src
+  pub journal-bad : ends_bad (met_bad r.end) (length src - r.used) r.seen ≡ is_bad src
   unfolding is_bad
   journal-bad =
       let x : length src - r.used ≡ length (parse 0 src).rest = sym (length-drop r.used src) ∙ ap length (all_rest 0 writes src ws₀ out₀ ws out r w e) in

@@ -24,13 +24,14 @@ use Rattle.journal.specs.Journal.{Entry, after_entry, after_entries, call_of}
 use Rattle.journal.specs.EntryCalls.{entry_written, notices_of, written_by, length_of}
 use Rattle.journal.proofs.MadeLaws.{made-written}
 use Rattle.journal.proofs.ShortLaws.{made-short, made-length}
-use Rattle.entries.specs.declared.entry.Stepped.{Stepped}
-use Rattle.entries.specs.declared.entry.Stepped.TheVariants as step
+use Rattle.entries.specs.declared.entry.Made.{Made}
+use Rattle.entries.specs.declared.entry.Ended.{Ended}
+use Rattle.entries.specs.declared.entry.Ended.TheVariants.{Full}
 use Rattle.entries.specs.parts.Stepping.{StepOn, SteppedIn}
-use Rattle.entries.specs.parts.Running.{entry_at, ran_to, FirstMade, NoneLeft, RanIn}
+use Rattle.entries.specs.parts.Running.{entry_at, had_no_room, ran_to, FirstMade, NoneLeft, RanIn}
 use Rattle.entries.proofs.StoodLaws.{Stood, stood-whole, stood-left}
 use Rattle.entries.proofs.FirstMadeLaws.{first-none, left-full, left-none, next_fits, first_more}
-use Rattle.std.specs.Prelude.{Result}
+use Rattle.std.specs.Prelude.{Result, Ok, Err}
 use Rattle.rules.specs.declared.Cause.{Cause}
 use Rattle.calls.specs.declared.Returned.{Returned}
 
@@ -83,7 +84,7 @@ module _ (writes : Bool) (n : ℕ) (out₀ : List ℕ) (room : writes ≡ true �
       put-lent out₀ to (length out₀ - to) 0 [] now (omega arith) (omega arith) (e ∙ put-nil (part out₀ to (length out₀ - to)) 0) ∙ sym (put-nil out₀ (to + 0))
 
   -- what a step on the parts comes to
-  pub next-in : (seen : ℕ) (src s ws₀ ws now : List ℕ) (r : Stepped) → s ≡ src → SteppedIn writes 0 seen s ws₀ lent ws now r
+  pub next-in : (seen : ℕ) (src s ws₀ ws now : List ℕ) (r : Result Made Ended) → s ≡ src → SteppedIn writes 0 seen s ws₀ lent ws now r
       → SteppedIn writes n seen src ws₀ out₀ ws (put_mid to (length out₀ - to) out₀ now) r
   next-in seen src s ws₀ ws now r e x = go (head_of seen src) (rw e at x)
     where
@@ -123,9 +124,9 @@ module _ (src ws₀ : List ℕ) (seen₀ : ℕ) (writes : Bool) (out₀ ws out :
   running-room f z = full-room writes refl f z
 
   -- what a run leaves that ends here
-  ends : (full bad : Bool) → (writes && ltb (length out - n) 64200) ≡ full → NoneLeft src (ran_to at seen n full bad)
-      → RanIn seen₀ writes src ws₀ out₀ ws out (ran_to at seen n full bad)
-  ends full bad f e =
+  ends : (end : Ended) → (writes && ltb (length out - n) 64200) ≡ had_no_room end → NoneLeft src (ran_to at seen n end)
+      → RanIn seen₀ writes src ws₀ out₀ ws out (ran_to at seen n end)
+  ends end f e =
       record {
         done = w.done;
         made = w.made;
@@ -138,19 +139,25 @@ module _ (src ws₀ : List ℕ) (seen₀ : ℕ) (writes : Bool) (out₀ ws out :
       }
 
   -- the output has no room for another entry's notices
-  pub ran-full : (writes && ltb (length out - n) 64200) ≡ true → RanIn seen₀ writes src ws₀ out₀ ws out (ran_to at seen n true false)
-  ran-full f = ends true false f (left-full src at seen n)
+  pub ran-full : (writes && ltb (length out - n) 64200) ≡ true → RanIn seen₀ writes src ws₀ out₀ ws out (ran_to at seen n Full)
+  ran-full f = ends Full f (left-full src at seen n)
 
-  module _ (ws' out' : List ℕ) (r : Stepped) (s : SteppedIn writes n seen (drop at src) ws out ws' out' r) where
+  module _ (ws' out' : List ℕ) (r : Result Made Ended) (s : SteppedIn writes n seen (drop at src) ws out ws' out' r) where
     -- no whole entry stands there
-    pub ran-left : (bad : Bool) → (writes && ltb (length out - n) 64200) ≡ false → r ≡ step.NoEntry bad → RanIn seen₀ writes src ws₀ out₀ ws' out' (ran_to at seen n false bad)
-    ran-left bad f e =
-        let x = stood-left writes n seen (drop at src) ws out ws' out' r s bad e in
-        rw (x.1, x.2) (ends false bad f (left-none src at seen n bad x.0))
+    pub ran-left : (end : Ended) → (writes && ltb (length out - n) 64200) ≡ false → r ≡ Err end → RanIn seen₀ writes src ws₀ out₀ ws' out' (ran_to at seen n end)
+    ran-left end f e =
+        let x = stood-left writes n seen (drop at src) ws out ws' out' r s end e in
+        rw (x.1, x.2) (ends end (f ∙ sym x.3) (left-none src at seen n end x.0))
 
-    module _ (m : ℕ) (a : Result Returned Cause) (e : r ≡ step.Made m a) where
+    module _ (made : Made) (e : r ≡ Ok made) where
+      abbrev m : ℕ
+      m = made.size
+
+      abbrev a : Result Returned Cause
+      a = made.answer
+
       abbrev was : Stood writes n seen (drop at src) ws out ws' out' r s m a
-      was = stood-whole writes n seen (drop at src) ws out ws' out' r s m a e
+      was = stood-whole writes n seen (drop at src) ws out ws' out' r s made e
 
       abbrev bytes : List ℕ
       bytes = part (drop at src) 3 (m - 3)

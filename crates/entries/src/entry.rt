@@ -4,6 +4,7 @@ ghost use Rattle.ledger.specs.Sound.{sound_ledger};
 ghost use Rattle.words.specs.Layout.{ledger_of};
 ghost use Rattle.journal.proofs.MadeLaws.{Taken};
 ghost use Rattle.entries.specs.parts.Stepping.{EntryCalledIn, SteppedIn};
+ghost use Rattle.entries.specs.parts.Running.{met_bad, had_no_room};
 ghost use Rattle.records.specs.Limits.{file_size};
 
 use calls::Returned;
@@ -11,11 +12,35 @@ use engine::call;
 use journal::{Body, Head};
 use rules::Cause;
 
-// What stands before a reader: no whole good entry, and whether a bad one; or one that was made, with how many bytes it has and what its call answers.
+// An entry that was made: how many bytes it has, and what its call answers.
 #[derive(Clone, Copy)]
-pub enum Stepped {
-    NoEntry(bool),
-    Made(usize, Result<Returned, Cause>),
+pub struct Made {
+    pub size: usize,
+    pub answer: Result<Returned, Cause>,
+}
+
+// Why no further entry is made: none stands whole at the start of the bytes that are left, a bad one does, or the output has no room for another's.
+#[derive(Clone, Copy)]
+pub enum Ended {
+    Cut,
+    Bad,
+    Full,
+}
+
+impl Ended {
+    // Whether a bad entry stands there.
+    pub fn is_bad(self) -> bool
+        ensures { result ≡ met_bad self }
+    {
+        matches!(self, Ended::Bad)
+    }
+
+    // Whether entries may be left that had no room.
+    pub fn is_full(self) -> bool
+        ensures { result ≡ had_no_room self }
+    {
+        matches!(self, Ended::Full)
+    }
 }
 
 // Makes an entry, whose body's bytes are s; its call is lent so much room.
@@ -27,8 +52,8 @@ pub fn entry(
     body: Body,
     s: &[u8],
 ) -> Result<Returned, Cause>
-    requires ws_value { (sound_ledger (ledger_of ws.old) ≡ true) × Taken body }
-    requires room_in_bounds { writes ≡ true → room ≤ length out.old }
+    requires is_sound { (sound_ledger (ledger_of ws.old) ≡ true) × Taken body }
+    requires has_room { writes ≡ true → room ≤ length out.old }
     ensures { EntryCalledIn writes room 0 body s.now ws.old out.old ws.new out.new result }
 {
     match body {
@@ -43,18 +68,24 @@ pub fn entry(
 }
 
 // Makes the entry at the start of src, after so many entries: "Each call's output there is 64,200 bytes".
-pub fn step(ws: &mut [u64], out: &mut [u8], src: &[u8], seen: u64, writes: bool) -> Stepped
-    requires ws_value { sound_ledger (ledger_of ws.old) ≡ true }
-    requires file_size_in_bounds { writes ≡ true → file_size ≤ length out.old }
+pub fn step(
+    ws: &mut [u64],
+    out: &mut [u8],
+    src: &[u8],
+    seen: u64,
+    writes: bool,
+) -> Result<Made, Ended>
+    requires is_sound { sound_ledger (ledger_of ws.old) ≡ true }
+    requires has_room { writes ≡ true → file_size ≤ length out.old }
     ensures { SteppedIn writes 0 seen src.now ws.old out.old ws.new out.new result }
 {
     let h = journal::head_at(src, seen);
     match h {
-        Head::Cut => Stepped::NoEntry(false),
-        Head::Bad => Stepped::NoEntry(true),
-        Head::Whole(body, n) => {
-            let a = entry(ws, out, writes, records::FILE_SIZE, body, &src[3..n]);
-            Stepped::Made(n, a)
+        Head::Cut => Err(Ended::Cut),
+        Head::Bad => Err(Ended::Bad),
+        Head::Whole(body, size) => {
+            let answer = entry(ws, out, writes, records::FILE_SIZE, body, &src[3..size]);
+            Ok(Made { size, answer })
         }
     }
 }

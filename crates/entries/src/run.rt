@@ -5,36 +5,21 @@ ghost use Rattle.ledger.specs.Sound.{sound_ledger};
 ghost use Rattle.words.specs.Layout.{ledger_of, ledger_size};
 ghost use Rattle.journal.specs.Journal.{first_book};
 ghost use Rattle.journal.specs.EntryCalls.{length_of, first_ledger};
-ghost use Rattle.entries.specs.parts.Running.{ran_to, RanIn};
+ghost use Rattle.entries.specs.parts.Running.{RanIn};
 ghost use Rattle.records.specs.Limits.{file_size};
 
 use crate::entry;
-use crate::entry::Stepped;
+use crate::entry::Ended;
 use calls::Returned;
 use rules::Cause;
 
-// How many bytes were read, how many entries came by now, how many bytes stand of them in the output or would, whether the output has no room for another entry's, and
-// whether a bad entry stands there.
+// How many bytes were read, how many entries came by now, how many bytes stand of them in the output or would, and why the run ended.
 #[derive(Clone, Copy)]
 pub struct Ran {
     pub used: usize,
     pub seen: u64,
     pub written: usize,
-    pub full: bool,
-    pub stopped: bool,
-}
-
-// What a run came to.
-pub fn ran_to(used: usize, seen: u64, written: usize, full: bool, stopped: bool) -> Ran
-    ensures { result ≡ ran_to used seen written full stopped }
-{
-    Ran {
-        used,
-        seen,
-        written,
-        full,
-        stopped,
-    }
+    pub end: Ended,
 }
 
 // How many bytes a call wrote, or would have written.
@@ -79,17 +64,27 @@ pub fn run(ws: &mut [u64], out: &mut [u8], writes: bool, src: &[u8], seen: u64) 
         let to = place_for(writes, n);
         let r = entry::step(ws, &mut out[to..], &src[at..], k, writes);
         match r {
-            Stepped::NoEntry(bad) => {
-                return ran_to(at, k, n, false, bad);
+            Err(end) => {
+                return Ran {
+                    used: at,
+                    seen: k,
+                    written: n,
+                    end,
+                };
             }
-            Stepped::Made(m, a) => {
-                at += m;
+            Ok(made) => {
+                at += made.size;
                 k += 1;
-                n += written(a);
+                n += written(made.answer);
             }
         }
     }
-    ran_to(at, k, n, true, false)
+    Ran {
+        used: at,
+        seen: k,
+        written: n,
+        end: Ended::Full,
+    }
 }
 
 // Writes the words of the ledger before the first entry of a journal: no bill, both numbers 1.

@@ -5,7 +5,7 @@ use mathlib.Core.Bool.{true}
 use mathlib.Core.List.{List, [], ◌∷◌, ◌++◌, append-nil}
 use Rattle.units.specs.declared.Date.{Date}
 use Rattle.ledger.specs.declared.Ledger.{Ledger}
-use Rattle.ledger.specs.Books.{Book, book}
+use Rattle.ledger.specs.Books.{book}
 use Rattle.ledger.specs.Sound.{sound_ledger}
 use Rattle.rules.specs.Rules.{first}
 use Rattle.causes.specs.declared.AccountRemoval.{AccountRemoval}

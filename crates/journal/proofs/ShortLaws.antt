@@ -1,7 +1,6 @@
 -- How much an entry's call reads and writes. Assumes nothing.
 use Prim.Native.Nat.{ℕ, ◌≤◌}
 use mathlib.Core.Path.{◌≡◌, refl, sym, ap, ◌∙◌}
-use mathlib.Core.Bool.{true}
 use mathlib.Core.List.{List}
 use native.Mathlib.Omega.{arith}
 use lib.ListN.{length}
@@ -10,7 +9,7 @@ use Rattle.ledger.specs.Books.{book}
 use Rattle.rules.specs.Rules.{first}
 use Rattle.causes.specs.declared.Start.{Start}
 use Rattle.causes.specs.Causes.{Call, request, file, cancel, close, removal, fresh_causes}
-use Rattle.calls.specs.Machine.{cause, room_of, next_written, outcome, step_in, cause_in, answer_by, called}
+use Rattle.calls.specs.Machine.{room_of, outcome, step_in, cause_in, answer_by, called}
 use Rattle.calls.specs.Days.{fresh_by, fresh_called}
 use Rattle.calls.proofs.CallLaws.{clear-sound, written-clear}
 use Rattle.calls.proofs.RunLaws.{cause-in}

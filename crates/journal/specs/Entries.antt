@@ -1,17 +1,15 @@
 -- "A journal entry is a one-byte tag, a two-byte length (high byte first) and the body, in ASCII fields". Assumes nothing.
-use Rattle.std.specs.Prelude.{ℕ, ◌+◌, ◌*◌, Bool, true, false, cond, not, ◌&&◌, List, eqb, leb, ltb, length, get_or, Result, Ok, Err, ⊤}
+use Rattle.std.specs.Prelude.{ℕ, ◌+◌, ◌*◌, Bool, true, false, cond, not, ◌&&◌, List, eqb, leb, ltb, length, get_or, Result, Ok, Err, ⊤, Option, Some, None}
 use Rattle.fields.specs.Digits.{number, numeric}
 use Rattle.fields.specs.Put.{part, positions}
 use Rattle.units.specs.declared.Date.{Date}
 use Rattle.rules.specs.Rules.{first}
-use Rattle.causes.specs.declared.Request.{Request}
 use Rattle.causes.specs.Causes.{code_field, fresh_causes}
 use Rattle.journal.specs.declared.Body.{Body}
 use Rattle.journal.specs.declared.Body.TheVariants as body
 use Rattle.journal.specs.declared.Head.{Head}
 use Rattle.journal.specs.declared.Head.TheVariants.{Cut, Bad, Whole}
 use Rattle.journal.specs.declared.Frame.{Frame}
-use Rattle.journal.specs.declared.Frame.TheVariants.{Nothing, Sized}
 use Rattle.records.specs.Limits.{file_size}
 use Rattle.rules.specs.declared.Cause.{Cause}
 
@@ -127,11 +125,11 @@ unfoldable pub head_of : ℕ → List ℕ → Head
 head_of seen s = cond (ltb (length s) 3) Cut (head_by seen s (get_or s 0 0) (get_or s 1 0 * 256 + get_or s 2 0))
 
 -- what stands at the start of s by its tag and length alone: an entry whose bytes are all there, if the two go together
-unfoldable pub frame_of : List ℕ → Frame
+unfoldable pub frame_of : List ℕ → Option Frame
 frame_of s =
     let tag = get_or s 0 0 in
     let n = get_or s 1 0 * 256 + get_or s 2 0 in
-    cond (good_length tag n && leb (n + 3) (length s)) (Sized tag n) Nothing
+    cond (good_length tag n && leb (n + 3) (length s)) (Some (record { tag = tag; length = n })) None
 
 -- "journal entry bad | 13": document 01's number for each case of what stands there; for a whole entry its call answers
 abbrev pub head_number : Head → ℕ

@@ -3,7 +3,7 @@ use Rattle.std.specs.Prelude.{ℕ, List, [], ◌∷◌, ◌++◌, Result, Ok, Er
 use Rattle.ledger.specs.declared.Ledger.{Ledger}
 use Rattle.ledger.specs.Books.{Book, empty_ledger}
 use Rattle.calls.specs.declared.Called.{Called}
-use Rattle.causes.specs.Causes.{Call, request, file, cancel, close, removal}
+use Rattle.causes.specs.Causes.{request, file, cancel, close, removal}
 use Rattle.calls.specs.Machine.{Outcome, outcomes, called, step_in}
 use Rattle.calls.specs.Days.{fresh_called}
 use Rattle.journal.specs.declared.Body.{Body}

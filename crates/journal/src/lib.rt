@@ -1,8 +1,9 @@
 // Journal entries: what stands at the start of some bytes.
 #![tactic(auto)]
 
-ghost use Rattle.std.specs.Prelude.{◌≡◌, true, ◌+◌, ◌-◌, ◌*◌, ◌≤◌, ◌<◌, length, get_or};
+ghost use Rattle.std.specs.Prelude.{◌≡◌, true, ◌+◌, ◌-◌, ◌*◌, ◌≤◌, ◌<◌, length, get_or, unwrap_or};
 ghost use Rattle.fields.specs.Put.{part, put};
+ghost use Rattle.journal.specs.declared.Body.TheVariants.{Unread};
 ghost use Rattle.journal.specs.Journal.{ends_bad};
 ghost use Rattle.journal.specs.parts.Fields.{identity_field_of};
 ghost use Rattle.journal.specs.Entries.{fresh_body, request_body, cancel_body, close_body, removal_body, body_of, good_length, in_turn, whole_of, head_by, head_of, frame_of};
@@ -35,11 +36,11 @@ pub enum Head {
     Whole(Body, usize),
 }
 
-// What stands there by its tag and length alone: no whole entry, or one with this tag and so many bytes in its body.
+// An entry by its tag and the length of its body alone.
 #[derive(Clone, Copy)]
-pub enum Frame {
-    Nothing,
-    Sized(u8, usize),
+pub struct Frame {
+    pub tag: u8,
+    pub length: usize,
 }
 
 // Reads the account from index `at` on, and the key behind it: the identity, where both hold digits only.
@@ -52,48 +53,32 @@ fn read_identity(s: &[u8], at: usize) -> Option<Identity>
     Some(Identity { account, key })
 }
 
-// The body of a fresh: today, Tracking, Confirmation.
-fn fresh_body(s: &[u8]) -> Body
+// The body of a fresh: today, Tracking, Confirmation; none, here and below, where a field that should be digits is not.
+fn fresh_body(s: &[u8]) -> Option<Body>
     requires { 26 ≤ length s.now }
-    ensures { result ≡ fresh_body s.now }
+    ensures { unwrap_or result Unread ≡ fresh_body s.now }
 {
-    let Some(today) = fields::read_field(s, 0, 8) else {
-        return Body::Unread;
-    };
-    let Some(tracking) = fields::read_field(s, 8, 9) else {
-        return Body::Unread;
-    };
-    let Some(confirmation) = fields::read_field(s, 17, 9) else {
-        return Body::Unread;
-    };
-    Body::Fresh(Start {
+    let today = fields::read_field(s, 0, 8)?;
+    let tracking = fields::read_field(s, 8, 9)?;
+    let confirmation = fields::read_field(s, 17, 9)?;
+    Some(Body::Fresh(Start {
         today: Date(today),
         tracking,
         confirmation,
-    })
+    }))
 }
 
 // The body of a request: code, account, key, B or P, Billing, From, consumption, Scheduled.
-fn request_body(s: &[u8]) -> Body
+fn request_body(s: &[u8]) -> Option<Body>
     requires { 56 ≤ length s.now }
-    ensures { result ≡ request_body s.now }
+    ensures { unwrap_or result Unread ≡ request_body s.now }
 {
-    let Some(identity) = read_identity(s, 5) else {
-        return Body::Unread;
-    };
-    let Some(billing) = fields::read_field(s, 22, 8) else {
-        return Body::Unread;
-    };
-    let Some(from) = fields::read_field(s, 30, 8) else {
-        return Body::Unread;
-    };
-    let Some(consumption) = fields::read_field(s, 38, 10) else {
-        return Body::Unread;
-    };
-    let Some(scheduled) = fields::read_field(s, 48, 8) else {
-        return Body::Unread;
-    };
-    Body::Request(Request {
+    let identity = read_identity(s, 5)?;
+    let billing = fields::read_field(s, 22, 8)?;
+    let from = fields::read_field(s, 30, 8)?;
+    let consumption = fields::read_field(s, 38, 10)?;
+    let scheduled = fields::read_field(s, 48, 8)?;
+    Some(Body::Request(Request {
         code: causes::code_field(s),
         identity,
         product: s[21],
@@ -101,49 +86,42 @@ fn request_body(s: &[u8]) -> Body
         from: Date(from),
         consumption: Ccf(consumption),
         scheduled: Date(scheduled),
-    })
+    }))
 }
 
 // The body of a cancel: account, key.
-fn cancel_body(s: &[u8]) -> Body
+fn cancel_body(s: &[u8]) -> Option<Body>
     requires { 16 ≤ length s.now }
-    ensures { result ≡ cancel_body s.now }
+    ensures { unwrap_or result Unread ≡ cancel_body s.now }
 {
-    let Some(identity) = read_identity(s, 0) else {
-        return Body::Unread;
-    };
-    Body::Cancel(identity)
+    let identity = read_identity(s, 0)?;
+    Some(Body::Cancel(identity))
 }
 
 // The body of a close: the new today.
-fn close_body(s: &[u8]) -> Body
+fn close_body(s: &[u8]) -> Option<Body>
     requires { 8 ≤ length s.now }
-    ensures { result ≡ close_body s.now }
+    ensures { unwrap_or result Unread ≡ close_body s.now }
 {
-    let Some(today) = fields::read_field(s, 0, 8) else {
-        return Body::Unread;
-    };
-    Body::Close(Date(today))
+    let today = fields::read_field(s, 0, 8)?;
+    Some(Body::Close(Date(today)))
 }
 
 // The body of a removal: account, date.
-fn removal_body(s: &[u8]) -> Body
+fn removal_body(s: &[u8]) -> Option<Body>
     requires { 20 ≤ length s.now }
-    ensures { result ≡ removal_body s.now }
+    ensures { unwrap_or result Unread ≡ removal_body s.now }
 {
-    let Some(account) = fields::read_field(s, 0, layout::ACCOUNT.width) else {
-        return Body::Unread;
-    };
-    let Some(date) = fields::read_field(s, layout::ACCOUNT.width, 8) else {
-        return Body::Unread;
-    };
-    Body::Removal(AccountRemoval {
+    let account = fields::read_field(s, 0, layout::ACCOUNT.width)?;
+    let date = fields::read_field(s, layout::ACCOUNT.width, 8)?;
+    Some(Body::Removal(AccountRemoval {
         account,
         date: Date(date),
-    })
+    }))
 }
 
 // Whether an entry with this tag may have this length.
+// A tag stays the document's number: a byte may be none of the six, and a line of `trace` names an entry by its byte where its body is not read.
 fn good_length(tag: u8, n: usize) -> bool
     ensures { result ≡ good_length tag n }
 {
@@ -182,21 +160,32 @@ fn fresh_head(b: Body, end: usize) -> Head
     }
 }
 
+// The body that these bytes hold under a tag.
+fn body_at(tag: u8, s: &[u8]) -> Option<Body>
+    requires { good_length tag (length s.now) ≡ true }
+    ensures { unwrap_or result Unread ≡ body_of tag s.now }
+{
+    match tag {
+        0 => fresh_body(s),
+        1 => request_body(s),
+        2 => Some(Body::File),
+        3 => cancel_body(s),
+        4 => close_body(s),
+        _ => removal_body(s),
+    }
+}
+
 // An entry with this tag and length whose bytes are all there.
 fn whole_at(s: &[u8], tag: u8, n: usize) -> Head
     requires { (good_length tag n ≡ true) × (n + 3 ≤ length s.now) }
     ensures { result ≡ whole_of tag (body_of tag (part s.now 3 n)) (n + 3) }
 {
     let end = n + 3;
-    let body = &s[3..end];
-    match tag {
-        0 => fresh_head(fresh_body(body), end),
-        1 => Head::Whole(request_body(body), end),
-        2 => Head::Whole(Body::File, end),
-        3 => Head::Whole(cancel_body(body), end),
-        4 => Head::Whole(close_body(body), end),
-        _ => Head::Whole(removal_body(body), end),
+    let body = body_at(tag, &s[3..end]).unwrap_or(Body::Unread);
+    if tag == 0 {
+        return fresh_head(body, end);
     }
+    Head::Whole(body, end)
 }
 
 // An entry with this tag and length, after so many entries.
@@ -214,19 +203,13 @@ fn head_by(s: &[u8], seen: u64, tag: u8, n: usize) -> Head
     whole_at(s, tag, n)
 }
 
-fn wide(x: u8) -> usize
-    ensures { (result ≡ x) × (result < 256) }
-{
-    x as usize
-}
-
 // The length that the entry at the start of s says its body has.
 fn length_at(s: &[u8]) -> usize
     requires { 3 ≤ length s.now }
     ensures { (result ≡ get_or s.now 1 0 * 256 + get_or s.now 2 0) × (result < 65536) }
 {
-    let high = wide(s[1]);
-    let low = wide(s[2]);
+    let high = usize::from(s[1]);
+    let low = usize::from(s[2]);
     high * 256 + low
 }
 
@@ -241,18 +224,19 @@ pub fn head_at(s: &[u8], seen: u64) -> Head
 }
 
 // What stands at the start of s by its tag and length alone: whoever only looks for the entries reads no digits.
-pub fn frame_at(s: &[u8]) -> Frame
+pub fn frame_at(s: &[u8]) -> Option<Frame>
     ensures { result ≡ frame_of s.now }
 {
     if s.len() < 3 {
-        return Frame::Nothing;
+        return None;
     }
-    let n = length_at(s);
-    let whole = good_length(s[0], n) & (n + 3 <= s.len());
+    let tag = s[0];
+    let length = length_at(s);
+    let whole = good_length(tag, length) & (length + 3 <= s.len());
     if !whole {
-        return Frame::Nothing;
+        return None;
     }
-    Frame::Sized(s[0], n)
+    Some(Frame { tag, length })
 }
 
 // Moves the bytes from index `from` up to n to the start, and answers how many there are.

@@ -16,52 +16,50 @@ use Rattle.words.specs.Layout as layout
 use Rattle.journal.specs.Journal.{Parsed, parse, first_book, ends_bad, is_bad}
 use Rattle.journal.specs.EntryCalls.{notices_of, brn_of}
 use Rattle.entries.specs.declared.run.Ran.{Ran}
-use Rattle.entries.specs.parts.Running.{RanIn}
+use Rattle.entries.specs.parts.Running.{met_bad, had_no_room, RanIn}
 use Rattle.entries.proofs.RanLaws.{ran-split, ran-within, all-notices, all-stopped, all_rest, all-count, journal-notices, journal-written, journal-bad}
-use Rattle.report.specs.declared.brn_file.Fit.{Fit}
-use Rattle.report.specs.declared.brn_file.Fit.TheVariants.{Fits, Short}
+use Rattle.report.specs.declared.Reported.{Reported}
 use Rattle.report.specs.NoticesOf.{notices_report, notices_written, ReportsNotices}
-use Rattle.report.specs.parts.Fits.{fit_of}
+use Rattle.report.specs.parts.Fits.{refusal_of}
 use Rattle.room.specs.Room.{most_in}
 use Rattle.room.proofs.RoomLaws.{brn-within}
-use Rattle.std.specs.Prelude.{Ok, Err}
+use Rattle.std.specs.Prelude.{Option, Some, None, Ok, Err}
 use Rattle.rules.specs.declared.Cause.TheVariants.{OutputTooSmall}
 
 -- ---- whether they have room
 module _ (s : List ℕ) (room : ℕ) where
-  pub fits-any : leb (most_in s) room ≡ true → Fits ≡ fit_of room s
-  unfolding fit_of
+  pub fits-any : leb (most_in s) room ≡ true → None ≡ refusal_of room s
+  unfolding refusal_of
   fits-any h = rw (le-ltb room (length (brn_of s)) (omega (arith, brn-within s, leb-true (most_in s) room h)))
 
   -- by the length measured
   module _ (n : ℕ) (all : n ≡ length (brn_of s)) where
-    pub fits-measured : n ≤ room → Fits ≡ fit_of room s
-    unfolding fit_of
+    pub fits-measured : n ≤ room → None ≡ refusal_of room s
+    unfolding refusal_of
     fits-measured h = rw (le-ltb room (length (brn_of s)) (omega (arith, all)))
 
-    pub short-measured : (bad : Bool) → bad ≡ is_bad s → room < n → Short bad ≡ fit_of room s
-    unfolding fit_of
+    pub short-measured : (bad : Bool) → bad ≡ is_bad s → room < n → Some (record { report = Err OutputTooSmall; stopped = bad }) ≡ refusal_of room s
+    unfolding refusal_of
     short-measured bad b h = rw (lt-ltb room (length (brn_of s)) (omega (arith, all)), b)
 
-  fits_by : (t bad : Bool) → Fits ≡ cond t (Short bad) Fits → t ≡ false
-  fits_by true bad e = let z : ◌≡◌ {A = ℕ} 0 1 = cc in absurd (omega arith)
-  fits_by false bad e = refl
+  fits_by : (t : Bool) (r : Reported) → None ≡ cond t (Some r) None → t ≡ false
+  fits_by true r e = let z : ◌≡◌ {A = ℕ} 0 1 = cc in absurd (omega arith)
+  fits_by false r e = refl
 
-  short-by : (t bad b : Bool) → Short b ≡ cond t (Short bad) Fits → (t ≡ true) × (b ≡ bad)
-  short-by true bad b e = (refl, cc)
-  short-by false bad b e = let z : ◌≡◌ {A = ℕ} 0 1 = cc in absurd (omega arith)
+  short-by : (t : Bool) (g r : Reported) → Some r ≡ cond t (Some g) None → (t ≡ true) × (g ≡ r)
+  short-by true g r e = (refl, cc)
+  short-by false g r e = let z : ◌≡◌ {A = ℕ} 0 1 = cc in absurd (omega arith)
 
-  pub fits-within : (f : Fit) → f ≡ fit_of room s → f ≡ Fits → length (brn_of s) ≤ room
-  unfolding fit_of
-  fits-within f e h = ltb-false room (length (brn_of s)) (fits_by (ltb room (length (brn_of s))) (is_bad s) (sym h ∙ e))
+  pub fits-within : (f : Option Reported) → f ≡ refusal_of room s → f ≡ None → length (brn_of s) ≤ room
+  unfolding refusal_of
+  fits-within f e h = ltb-false room (length (brn_of s)) (fits_by (ltb room (length (brn_of s))) _ (sym h ∙ e))
 
 -- ---- the answer
-pub too_small : (s out : List ℕ) (f : Fit) (bad : Bool) → f ≡ fit_of (length out) s → f ≡ Short bad
-    → ReportsNotices s out out (record { report = Err OutputTooSmall; stopped = bad })
-unfolding fit_of notices_report notices_written
-too_small s out f bad e h =
-    let x = short-by s (length out) (ltb (length out) (length (brn_of s))) (is_bad s) bad (sym h ∙ e) in
-    record { answer = rw x.0; stopped = x.1; bytes = rw x.0 (put-nil out 0) }
+pub too_small : (s out : List ℕ) (f : Option Reported) (r : Reported) → f ≡ refusal_of (length out) s → f ≡ Some r → ReportsNotices s out out r
+unfolding refusal_of notices_report notices_written
+too_small s out f r e h =
+    let x = short-by s (length out) (ltb (length out) (length (brn_of s))) _ r (sym h ∙ e) in
+    subst (ReportsNotices s out out) x.1 (record { answer = rw x.0; stopped = refl; bytes = rw x.0 (put-nil out 0) })
 
 given : (s out₀ out : List ℕ) (n : ℕ) (bad : Bool) → n ≡ length (brn_of s) → bad ≡ is_bad s → length (brn_of s) ≤ length out₀ → out ≡ put out₀ 0 (brn_of s)
     → ReportsNotices s out₀ out (record { report = Ok n; stopped = bad })
@@ -77,21 +75,21 @@ pub record LastRun (s out₀ out last : List ℕ) (r q : Ran) : Type 0 where
   pub room : r.written + length (take q.written last) ≤ length out
   pub used : q.used ≤ length s - r.used
   pub given : (now : List ℕ) (bad : Bool) → now ≡ put out r.written (take q.written last)
-      → bad ≡ ends_bad q.stopped (length s - r.used - q.used) q.seen
+      → bad ≡ ends_bad (met_bad q.end) (length s - r.used - q.used) q.seen
       → ReportsNotices s out₀ now (record { report = Ok (r.written + q.written); stopped = bad })
 
 -- ---- one run into the output
 module _ (s ws₀ out₀ ws out : List ℕ) (r : Ran) (w : RanIn 0 true s ws₀ out₀ ws out r) (z : book (layout.ledger_of ws₀) ≡ first_book)
     (fits : length (brn_of s) ≤ length out₀) where
   -- a run that was not held up wrote them all
-  pub all-given : r.full ≡ false → (bad : Bool) → bad ≡ ends_bad r.stopped (length s - r.used) r.seen
+  pub all-given : had_no_room r.end ≡ false → (bad : Bool) → bad ≡ ends_bad (met_bad r.end) (length s - r.used) r.seen
       → ReportsNotices s out₀ out (record { report = Ok r.written; stopped = bad })
   all-given e bad b =
       given s out₀ out r.written bad (journal-written true s ws₀ out₀ ws out r w z e) (b ∙ journal-bad true s ws₀ out₀ ws out r w z e) fits
       (w.bytes ∙ ap (put out₀ 0) (journal-notices true s ws₀ out₀ ws out r w z e))
 
   -- one that was: the last notices
-  module _ (full : r.full ≡ true) where
+  module _ (full : had_no_room r.end ≡ true) where
     abbrev k : Book
     k = book (layout.ledger_of ws)
 
@@ -122,7 +120,7 @@ module _ (s ws₀ out₀ ws out : List ℕ) (r : Ran) (w : RanIn 0 true s ws₀ 
           subst (λ (t : List ℕ). RanIn r.seen true t ws last₀ vs last q)
           (take_all (length s - r.used) tail (omega (arith, length-drop r.used s))) lent
 
-      not_full : q.full ≡ false
+      not_full : had_no_room q.end ≡ false
       not_full =
           x.full
           ∙ le-ltb (length last₀ - q.written) 64200
@@ -149,11 +147,11 @@ module _ (s ws₀ out₀ ws out : List ℕ) (r : Ran) (w : RanIn 0 true s ws₀ 
           ∙ ap (put out₀ 0) (sym all_of)
 
       -- the second run came to the journal's end
-      ends : ends_bad q.stopped (length s - r.used - q.used) q.seen ≡ is_bad s
+      ends : ends_bad (met_bad q.end) (length s - r.used - q.used) q.seen ≡ is_bad s
       unfolding is_bad
       ends =
           let p = parse r.seen tail in
-          let a : q.stopped ≡ (parse 0 s).stopped =
+          let a : met_bad q.end ≡ (parse 0 s).stopped =
           all-stopped r.seen true tail ws last₀ vs last q x not_full ∙ sym (ap (λ (y : Parsed). y.stopped) w.made.parsed)
           in
           let b : length s - r.used - q.used ≡ length (parse 0 s).rest =

@@ -2,7 +2,7 @@
 ghost use Rattle.std.specs.Prelude.{◌≡◌, ◌≤◌, length};
 ghost use Rattle.journal.specs.EntryCalls.{brn_of};
 ghost use Rattle.report.specs.NoticesOf.{ReportsNotices};
-ghost use Rattle.report.specs.parts.Fits.{fit_of};
+ghost use Rattle.report.specs.parts.Fits.{refusal_of};
 
 use crate::Reported;
 use entries::run;
@@ -11,28 +11,24 @@ use rules::Cause;
 // Twice what one entry may write: room for the last notices of a journal.
 const LAST_ROOM: usize = 2 * records::FILE_SIZE;
 
-// Whether the notices of a journal have room in an output; where they have none, whether the journal ended bad.
-#[derive(Clone, Copy)]
-enum Fit {
-    Fits,
-    Short(bool),
-}
-
-// Whether the notices of a journal have room in so many bytes: a run only measures them where the entries' tags and lengths do not show it.
-fn fit_in(src: &[u8], room: usize) -> Fit
-    ensures { result ≡ fit_of room src.now }
+// What is answered where the notices of a journal have no room in so many bytes. A run only measures them where the entries' tags and lengths do not show it.
+fn refusal(src: &[u8], room: usize) -> Option<Reported>
+    ensures { result ≡ refusal_of room src.now }
 {
     if room::has_room_for_any(src, room) {
-        return Fit::Fits;
+        return None;
     }
     let mut ws = [0u64; words::LEDGER_SIZE];
     let mut none = [0u8; 1];
     run::start(&mut ws);
     let r = run::run(&mut ws, &mut none, false, src, 0);
-    if room < r.written {
-        return Fit::Short(journal::ends_bad(r.stopped, src.len() - r.used, r.seen));
+    if r.written <= room {
+        return None;
     }
-    Fit::Fits
+    Some(Reported {
+        report: Err(Cause::OutputTooSmall),
+        stopped: journal::ends_bad(r.end.is_bad(), src.len() - r.used, r.seen),
+    })
 }
 
 // Writes the notices of a journal into an output that has room for them. A run stops where fewer bytes are left than one entry may write, so the last
@@ -45,11 +41,11 @@ fn write_notices(src: &[u8], out: &mut [u8]) -> Reported
     run::start(&mut ws);
     let r = run::run(&mut ws, out, true, src, 0);
     let left = src.len() - r.used;
-    let full = r.full;
+    let full = r.end.is_full();
     if !full {
         return Reported {
             report: Ok(r.written),
-            stopped: journal::ends_bad(r.stopped, left, r.seen),
+            stopped: journal::ends_bad(r.end.is_bad(), left, r.seen),
         };
     }
     let mut last = [0u8; LAST_ROOM];
@@ -59,7 +55,7 @@ fn write_notices(src: &[u8], out: &mut [u8]) -> Reported
     fields::put_bytes(out, r.written, &last[..size]);
     Reported {
         report: Ok(r.written + size),
-        stopped: journal::ends_bad(q.stopped, left - q.used, q.seen),
+        stopped: journal::ends_bad(q.end.is_bad(), left - q.used, q.seen),
     }
 }
 
@@ -67,12 +63,8 @@ fn write_notices(src: &[u8], out: &mut [u8]) -> Reported
 pub fn post_notices(src: &[u8], out: &mut [u8]) -> Reported
     ensures { ReportsNotices src.now out.old out.new result }
 {
-    let f = fit_in(src, out.len());
-    match f {
-        Fit::Short(stopped) => Reported {
-            report: Err(Cause::OutputTooSmall),
-            stopped,
-        },
-        Fit::Fits => write_notices(src, out),
+    match refusal(src, out.len()) {
+        Some(refused) => refused,
+        None => write_notices(src, out),
     }
 }

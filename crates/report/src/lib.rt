@@ -10,7 +10,7 @@ use entries::run;
 use rules::Cause;
 
 // What came of writing a journal's table or its notices: how many bytes were written, or that the output lent is too small, for a table one under
-// 10,970 bytes, which the longest table has; and whether the journal ended bad (the table's `stopped,13`).
+// 10,970 bytes, which the longest table has; and whether the journal ended bad (the table's `stopped,13`). The flag is a field of its own, since either report goes with either end.
 #[derive(Clone, Copy)]
 pub struct Reported {
     pub report: Result<usize, Cause>,
@@ -25,7 +25,7 @@ pub fn post_table(src: &[u8], out: &mut [u8]) -> Reported
     let mut none = [0u8; 1];
     run::start(&mut ws);
     let r = run::run(&mut ws, &mut none, false, src, 0);
-    let stopped = journal::ends_bad(r.stopped, src.len() - r.used, r.seen);
+    let stopped = journal::ends_bad(r.end.is_bad(), src.len() - r.used, r.seen);
     if out.len() < table::TABLE_ROOM {
         return Reported {
             report: Err(Cause::OutputTooSmall),

@@ -1,6 +1,6 @@
 -- No journal has more notices than its tags and lengths allow; the walk that adds these up. Assumes nothing.
 use Prim.Native.Nat.{ℕ, zero, suc, ◌+◌, ◌-◌, ◌≤◌, ◌<◌}
-use mathlib.Core.Path.{◌≡◌, refl, sym}
+use mathlib.Core.Path.{◌≡◌, refl, sym, ap}
 use mathlib.Core.Bool.{Bool, true, false, cond, ◌&&◌}
 use mathlib.Core.List.{List, [], ◌∷◌, ◌++◌}
 use native.Mathlib.Omega.{arith}
@@ -26,13 +26,13 @@ use Rattle.journal.specs.declared.Body.{Body}
 use Rattle.journal.specs.declared.Body.TheVariants as body
 use Rattle.journal.specs.declared.Head.{Head}
 use Rattle.journal.specs.declared.Head.TheVariants.{Cut, Bad, Whole}
-use Rattle.journal.specs.declared.Frame.TheVariants.{Nothing, Sized}
+use Rattle.journal.specs.declared.Frame.{Frame}
 use Rattle.journal.specs.Entries.{digits_in, fresh_body, request_body, cancel_body, close_body, removal_body, body_of, good_length, head_of, frame_of}
 use Rattle.journal.specs.Journal.{call_of, after_entry, on_head, parse_up_to, parse, first_book}
 use Rattle.journal.specs.EntryCalls.{written_by, notices_of, brn_of}
 use Rattle.journal.proofs.HeadLaws.{tag_in, length_in, whole_is, whole-holds, whole-bytes}
 use Rattle.room.specs.Room.{most_of, most_on, most_up_to, most_in}
-use Rattle.std.specs.Prelude.{Result, Ok, Err, ⊤}
+use Rattle.std.specs.Prelude.{Some, None, Result, Ok, Err, ⊤}
 use Rattle.rules.specs.declared.Cause.{Cause}
 
 -- ---- what one entry writes
@@ -125,7 +125,7 @@ module _ (k : Book) where
 
 -- ---- what all of them write
 -- an entry that is after_entry has its frame
-frame-whole : (seen : ℕ) (s : List ℕ) (b : Body) (n : ℕ) → head_of seen s ≡ Whole b n → frame_of s ≡ Sized (tag_in s) (length_in s)
+frame-whole : (seen : ℕ) (s : List ℕ) (b : Body) (n : ℕ) → head_of seen s ≡ Whole b n → frame_of s ≡ Some (record { tag = tag_in s; length = length_in s })
 unfolding frame_of
 frame-whole seen s b n e =
     let w = whole_is seen s b n e in
@@ -160,19 +160,19 @@ unfolding brn_of parse most_in
 brn-within s = notices-most (length s) 0 first_book s
 
 -- ---- the walk
-frame-sized : (t : Bool) (a m tag n : ℕ) → cond t (Sized a m) Nothing ≡ Sized tag n → (t ≡ true) × (m ≡ n)
-frame-sized true a m tag n e = (refl, cc)
-frame-sized false a m tag n e = let z : ◌≡◌ {A = ℕ} 0 1 = cc in absurd (omega arith)
+frame-some : (t : Bool) (g f : Frame) → cond t (Some g) None ≡ Some f → (t ≡ true) × (g ≡ f)
+frame-some true g f e = (refl, cc)
+frame-some false g f e = let z : ◌≡◌ {A = ℕ} 0 1 = cc in absurd (omega arith)
 
-pub frame-fits : (s : List ℕ) (tag n : ℕ) → frame_of s ≡ Sized tag n → n + 3 ≤ length s
+pub frame-fits : (s : List ℕ) (f : Frame) → frame_of s ≡ Some f → f.length + 3 ≤ length s
 unfolding frame_of
-frame-fits s tag n e =
-    let x = frame-sized (good_length (tag_in s) (length_in s) && leb (length_in s + 3) (length s)) (tag_in s) (length_in s) tag n e in
-    omega (arith, x.1, leb-true (length_in s + 3) (length s) (and_both (good_length (tag_in s) (length_in s)) _ x.0).1)
+frame-fits s f e =
+    let x = frame-some (good_length (tag_in s) (length_in s) && leb (length_in s + 3) (length s)) _ f e in
+    omega (arith, ap (λ (g : Frame). g.length) x.1, leb-true (length_in s + 3) (length s) (and_both (good_length (tag_in s) (length_in s)) _ x.0).1)
 
 -- behind an entry there are fewer bytes
-pub shorter : (s : List ℕ) (tag n k : ℕ) → frame_of s ≡ Sized tag n → length (take k (drop (n + 3) s)) < length s
-shorter s tag n k e = omega (arith, frame-fits s tag n e, length-take k (drop (n + 3) s), length-drop (n + 3) s)
+pub shorter : (s : List ℕ) (f : Frame) (k : ℕ) → frame_of s ≡ Some f → length (take k (drop (f.length + 3) s)) < length s
+shorter s f k e = omega (arith, frame-fits s f e, length-take k (drop (f.length + 3) s), length-drop (f.length + 3) s)
 
 -- what holds before each entry: of the room, what the entries before it may take is gone
 pub record Walking (src : List ℕ) (room : ℕ) (rest : List ℕ) (left : ℕ) : Type 0 where
@@ -186,32 +186,35 @@ pub walking_start : (src : List ℕ) (room : ℕ) → Walking src room src room
 unfolding most_in
 walking_start src room = record { within = omega arith; fuel = length src; enough = omega arith; sum = omega arith }
 
-none_left : (fuel : ℕ) (s : List ℕ) → frame_of s ≡ Nothing → most_up_to fuel s ≡ 0
+none_left : (fuel : ℕ) (s : List ℕ) → frame_of s ≡ None → most_up_to fuel s ≡ 0
 unfolding most_up_to
 none_left zero s e = refl
 none_left (suc f) s e = rw e
 
 -- by the frame that is read
 module _ (src : List ℕ) (room : ℕ) (rest : List ℕ) (left : ℕ) (w : Walking src room rest left) where
-  pub has_room : frame_of rest ≡ Nothing → true ≡ leb (most_in src) room
+  pub has_room : frame_of rest ≡ None → true ≡ leb (most_in src) room
   has_room e = sym (le-leb (most_in src) room (omega (arith, w.sum, none_left w.fuel rest e)))
 
-  module _ (tag n : ℕ) (e : frame_of rest ≡ Sized tag n) where
+  module _ (f : Frame) (e : frame_of rest ≡ Some f) where
+    abbrev n : ℕ
+    n = f.length
+
     -- one of the entries that may come is this one
     abbrev Next : ℕ → Type 0
-    Next fuel = (m : ℕ) × (fuel ≡ suc m) × (most_up_to fuel rest ≡ most_of tag n + most_up_to m (drop (n + 3) rest))
+    Next fuel = (m : ℕ) × (fuel ≡ suc m) × (most_up_to fuel rest ≡ most_of f.tag n + most_up_to m (drop (n + 3) rest))
 
     next : (fuel : ℕ) → length rest ≤ fuel → Next fuel
     unfolding most_up_to
-    next zero h = absurd (omega (arith, frame-fits rest tag n e))
+    next zero h = absurd (omega (arith, frame-fits rest f e))
     next (suc m) h = (m, refl, rw e)
 
-    pub no_room : left < most_of tag n → false ≡ leb (most_in src) room
+    pub no_room : left < most_of f.tag n → false ≡ leb (most_in src) room
     no_room h = sym (lt-leb (most_in src) room (omega (arith, w.sum, (next w.fuel w.enough).2)))
 
     -- the bytes behind it, of which the code takes as many as there are
-    pub walking_on : most_of tag n ≤ left → (k : ℕ) → length rest ≤ k + (n + 3)
-        → Walking src room (take k (drop (n + 3) rest)) (left - most_of tag n)
+    pub walking_on : most_of f.tag n ≤ left → (k : ℕ) → length rest ≤ k + (n + 3)
+        → Walking src room (take k (drop (n + 3) rest)) (left - most_of f.tag n)
     walking_on h k all =
         let x = next w.fuel w.enough in
         rw (take_all k (drop (n + 3) rest) (omega (arith, length-drop (n + 3) rest)))

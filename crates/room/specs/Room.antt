@@ -1,7 +1,6 @@
 -- How many bytes the notices of a journal have at most, by the tags and lengths of its entries alone. Only `room::has_room_for_any` cites it. Assumes nothing.
-use Rattle.std.specs.Prelude.{ℕ, zero, suc, ◌+◌, cond, List, eqb, length, drop}
+use Rattle.std.specs.Prelude.{ℕ, zero, suc, ◌+◌, cond, List, Option, Some, None, eqb, length, drop}
 use Rattle.journal.specs.declared.Frame.{Frame}
-use Rattle.journal.specs.declared.Frame.TheVariants.{Nothing, Sized}
 use Rattle.journal.specs.Entries.{frame_of}
 use Rattle.records.specs.Limits.{notice_size}
 
@@ -10,9 +9,9 @@ unfoldable pub most_of : ℕ → ℕ → ℕ
 most_of tag n = cond (eqb tag 1) notice_size (cond (eqb tag 2) n (cond (eqb tag 3) notice_size 0))
 
 -- by what stands at the start of some bytes; next goes on after an entry of so many bytes
-abbrev pub most_on : Frame → (ℕ → ℕ) → ℕ
-most_on Nothing next = 0
-most_on (Sized tag n) next = most_of tag n + next (n + 3)
+abbrev pub most_on : Option Frame → (ℕ → ℕ) → ℕ
+most_on None next = 0
+most_on (Some f) next = most_of f.tag f.length + next (f.length + 3)
 
 -- of so many entries
 unfoldable pub most_up_to : ℕ → List ℕ → ℕ

@@ -6,13 +6,13 @@ ghost use Rattle.room.specs.Room.{most_of, most_in};
 
 use journal::Frame;
 
-// How many bytes an entry with this tag and a body of n bytes writes at most.
-fn most_of(tag: u8, n: usize) -> usize
-    ensures { result ≡ most_of tag n }
+// How many bytes an entry with this tag and this length of its body writes at most.
+fn most_of(frame: Frame) -> usize
+    ensures { result ≡ most_of frame.tag frame.length }
 {
-    match tag {
+    match frame.tag {
         1 | 3 => records::NOTICE_SIZE,
-        2 => n,
+        2 => frame.length,
         _ => 0,
     }
 }
@@ -23,13 +23,13 @@ pub fn has_room_for_any(src: &[u8], room: usize) -> bool
 {
     let mut rest = src;
     let mut left = room;
-    while let Frame::Sized(tag, n) = journal::frame_at(rest) {
-        let most = most_of(tag, n);
+    while let Some(frame) = journal::frame_at(rest) {
+        let most = most_of(frame);
         if left < most {
             return false;
         }
         left -= most;
-        rest = &rest[n + 3..];
+        rest = &rest[frame.length + 3..];
     }
     true
 }

@@ -11,7 +11,7 @@ use borrow.Author.Tests.{ne_eqb}
 use Rattle.fields.specs.Text.{text}
 use Rattle.fields.specs.Digits.{digits}
 use Rattle.fields.specs.Put.{part, put}
-use Rattle.fields.proofs.PutLaws.{length_part, part-part, part_left, part_right, part_at, part-whole}
+use Rattle.fields.proofs.PutLaws.{length_part, part-part, part_left, part_right, part-whole}
 use Rattle.ledger.specs.declared.Posted.{Posted}
 use Rattle.ledger.specs.Books.{Book, View, view}
 use Rattle.records.specs.Layout.{record_at, records_from, confirmation_in, error_code_in, is_sup}

@@ -1,5 +1,4 @@
 -- Laws that the functions' proofs share.
-pub mod SizeLaws
 pub mod LineLaws
 pub mod GroupLineLaws
 pub mod LinesWalk

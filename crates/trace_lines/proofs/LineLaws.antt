@@ -42,11 +42,6 @@ length-sign (pos n) = refl
 length-sign (negsuc n) = refl
 
 -- ---- the name of a call
--- a name was put with its comma, in n bytes
-pub name-put : (xs out : List ℕ) (at tag n : ℕ) (name : List ℕ) → call_name tag ≡ name → length (cell name) ≡ n → out ≡ put xs at (cell name)
-    → (out ≡ put xs at (cell (call_name tag))) × (at + n ≡ at + length (cell (call_name tag)))
-name-put xs out at tag n name e l o = (o ∙ ap (λ (z : List ℕ). put xs at (cell z)) (sym e), ap (λ (k : ℕ). at + k) (sym (ap (λ (z : List ℕ). length (cell z)) e ∙ l)))
-
 module _ (tag : ℕ) where
   pub name-fresh : tag ≡ 0 → call_name tag ≡ text "fresh"
   unfolding call_name

@@ -16,8 +16,8 @@ const FIRST_ERROR_CODE: usize = RECORD_SIZE + layout::ERROR_CODE.at;
 
 // Writes n bytes of src from index `from` on and a comma.
 fn put_field(out: &mut [u8], at: usize, src: &[u8], from: usize, n: usize)
-    requires n_in_bounds { at + n + 1 ≤ length out.old }
-    requires n_in_bounds_2 { from + n ≤ length src.now }
+    requires has_room { at + n + 1 ≤ length out.old }
+    requires whole { from + n ≤ length src.now }
     ensures { out.new ≡ put out.old at (cell (part src.now from n)) }
 {
     fields::put_part(out, at, src, from, n);
@@ -26,8 +26,8 @@ fn put_field(out: &mut [u8], at: usize, src: &[u8], from: usize, n: usize)
 
 // Writes the n bytes of record i that begin at its index `field`, and a comma.
 fn put_in_record(out: &mut [u8], at: usize, s: &[u8], i: usize, field: usize, n: usize)
-    requires n_in_bounds { at + n + 1 ≤ length out.old }
-    requires n_in_bounds_2 { i * record_size + field + n ≤ length s.now }
+    requires has_room { at + n + 1 ≤ length out.old }
+    requires whole { i * record_size + field + n ≤ length s.now }
     ensures { out.new ≡ put out.old at (cell (part s.now (i * record_size + field) n)) }
 {
     put_field(out, at, s, i * RECORD_SIZE + field, n);
@@ -35,8 +35,8 @@ fn put_in_record(out: &mut [u8], at: usize, s: &[u8], i: usize, field: usize, n:
 
 // Writes the Bill Key of a group of k details and a comma, 5 bytes.
 fn put_key(out: &mut [u8], at: usize, s: &[u8], i: usize, k: usize)
-    requires at_in_bounds { at + 5 ≤ length out.old }
-    requires record_size_in_bounds { (i + 1 + k) * record_size ≤ length s.now }
+    requires has_room { at + 5 ≤ length out.old }
+    requires whole { (i + 1 + k) * record_size ≤ length s.now }
     ensures { out.new ≡ put out.old at (cell (first_key (records_from s.now (i + 1) k))) }
 {
     if k == 0 {
@@ -48,8 +48,8 @@ fn put_key(out: &mut [u8], at: usize, s: &[u8], i: usize, k: usize)
 
 // Writes ACF or the error code, as the answer to a group of k details has it, and byte 10; answers where they end.
 fn put_verdict(out: &mut [u8], at: usize, sent: &[u8], from: usize, k: usize) -> usize
-    requires at_in_bounds { at + 5 ≤ length out.old }
-    requires record_size_in_bounds { from + (k + 1) * record_size ≤ length sent.now }
+    requires has_room { at + 5 ≤ length out.old }
+    requires whole { from + (k + 1) * record_size ≤ length sent.now }
     ensures { (out.new ≡ put out.old at (ended (read_verdict (drop from sent.now) k))) × (result ≡ at + length (ended (read_verdict (drop from sent.now) k))) }
 {
     if fields::is_text(sent, from + layout::NOTICE.at, b"ACF") {
@@ -91,8 +91,8 @@ struct Reached {
 
 // Writes the line of the group of record i with k details, whose answer stands at `r.from`, and answers where it ends: 42 bytes, or 43.
 fn put_group_line(r: Reached, out: &mut [u8], s: &[u8], i: usize, k: usize, sent: &[u8]) -> usize
-    requires end_in_bounds { r.end + 43 ≤ length out.old }
-    requires record_size_in_bounds { ((i + 1 + k) * record_size ≤ length s.now) × (r.from + (k + 1) * record_size ≤ length sent.now) }
+    requires has_room { r.end + 43 ≤ length out.old }
+    requires whole { ((i + 1 + k) * record_size ≤ length s.now) × (r.from + (k + 1) * record_size ≤ length sent.now) }
     ensures { (out.new ≡ put out.old r.end (read_line (drop r.from sent.now) (group_from s.now i k))) × (result ≡ r.end + length (read_line (drop r.from sent.now) (group_from s.now i k))) }
 {
     let at = r.end;
@@ -113,8 +113,8 @@ fn put_group_line(r: Reached, out: &mut [u8], s: &[u8], i: usize, k: usize, sent
 
 // The line of the group whose header is record i of n.
 fn group_turn(r: Reached, out: &mut [u8], s: &[u8], i: usize, n: usize, sent: &[u8]) -> Reached
-    requires i_lt_n { (i < n) × (n * record_size ≤ length s.now) × (n * record_size ≤ length sent.now) × (r.from ≤ i * record_size) }
-    requires end_in_bounds { r.end + 43 ≤ length out.old }
+    requires whole { (i < n) × (n * record_size ≤ length s.now) × (n * record_size ≤ length sent.now) × (r.from ≤ i * record_size) }
+    requires has_room { r.end + 43 ≤ length out.old }
     ensures { (out.new ≡ put out.old r.end (read_line (drop r.from sent.now) (group_at s.now i n))) × (result.end ≡ r.end + length (read_line (drop r.from sent.now) (group_at s.now i n))) × (result.from ≡ r.from + answer_long (drop r.from sent.now) (length (group_at s.now i n).details)) }
 {
     let from = r.from;
@@ -127,10 +127,10 @@ fn group_turn(r: Reached, out: &mut [u8], s: &[u8], i: usize, n: usize, sent: &[
 
 // Writes a line for each group of a file of n records, read off the file and its answers, and answers where they end: at most 43 bytes a group.
 pub fn put_group_lines(out: &mut [u8], at: usize, s: &[u8], n: usize, sent: &[u8]) -> usize
-    requires record_size_in_bounds { (n * record_size ≤ length s.now) × (n * record_size ≤ length sent.now) }
-    requires n_in_bounds { at + 43 * n ≤ length out.old }
+    requires whole { (n * record_size ≤ length s.now) × (n * record_size ≤ length sent.now) }
+    requires has_room { at + 43 * n ≤ length out.old }
     ensures lined { Lined (groups (records_from s.now 0 n)) sent.now out.old at out.new result }
-    ensures out_after { (out.new ≡ put out.old at (read_lines sent.now (groups (records_from s.now 0 n)))) × (result ≡ at + length (read_lines sent.now (groups (records_from s.now 0 n)))) × (result ≤ at + 43 * n) }
+    ensures written { (out.new ≡ put out.old at (read_lines sent.now (groups (records_from s.now 0 n)))) × (result ≡ at + length (read_lines sent.now (groups (records_from s.now 0 n)))) × (result ≤ at + 43 * n) }
 {
     let mut r = Reached { end: at, from: 0 };
     // By the number of a record, which the turn takes too: no slice holds what is walked over.

@@ -3,7 +3,7 @@
 
 pub mod group_lines;
 
-ghost use Rattle.std.specs.Prelude.{◌≡◌, ◌+◌, ◌≤◌, nat_abs, length};
+ghost use Rattle.std.specs.Prelude.{◌≡◌, ◌+◌, ◌≤◌, length};
 ghost use Rattle.fields.specs.Digits.{digits};
 ghost use Rattle.fields.specs.Put.{put};
 ghost use Rattle.table.specs.Table.{cell, ended};
@@ -11,18 +11,6 @@ ghost use Rattle.trace_lines.specs.Lines.{call_name, sign_of, change_text, figur
 
 use calls::Returned;
 use rules::Cause;
-
-// A number without its sign.
-fn size(x: i64) -> u64
-    ensures { result ≡ nat_abs x }
-{
-    if x < 0 {
-        let y = x + 1;
-        let z = 0 - y;
-        return (z as u64) + 1;
-    }
-    x as u64
-}
 
 // Writes 0 or -, 1 byte.
 fn put_sign(out: &mut [u8], at: usize, x: i64)
@@ -41,9 +29,8 @@ fn put_change(out: &mut [u8], at: usize, x: i64)
     requires { at + 18 ≤ length out.old }
     ensures { out.new ≡ put out.old at (cell (change_text x)) }
 {
-    let n = size(x);
     put_sign(out, at, x);
-    fields::put_digits(out, at + 1, 16, n);
+    fields::put_digits(out, at + 1, 16, x.unsigned_abs());
     fields::put_bytes(out, at + 17, b",");
 }
 
@@ -93,28 +80,16 @@ fn put_call(out: &mut [u8], at: usize, tag: u8) -> usize
     requires { at + 8 ≤ length out.old }
     ensures { (out.new ≡ put out.old at (cell (call_name tag))) × (result ≡ at + length (cell (call_name tag))) }
 {
-    if tag == 0 {
-        fields::put_bytes(out, at, b"fresh,");
-        return at + 6;
-    }
-    if tag == 1 {
-        fields::put_bytes(out, at, b"request,");
-        return at + 8;
-    }
-    if tag == 2 {
-        fields::put_bytes(out, at, b"file,");
-        return at + 5;
-    }
-    if tag == 3 {
-        fields::put_bytes(out, at, b"cancel,");
-        return at + 7;
-    }
-    if tag == 4 {
-        fields::put_bytes(out, at, b"close,");
-        return at + 6;
-    }
-    fields::put_bytes(out, at, b"removal,");
-    at + 8
+    let name: &[u8] = match tag {
+        0 => b"fresh,",
+        1 => b"request,",
+        2 => b"file,",
+        3 => b"cancel,",
+        4 => b"close,",
+        _ => b"removal,",
+    };
+    fields::put_bytes(out, at, name);
+    at + name.len()
 }
 
 // Writes the line of an entry with this number and tag, at most 52 bytes, and answers where it ends.

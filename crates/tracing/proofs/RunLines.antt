@@ -1,7 +1,7 @@
 -- The loop over the entries at the start of some bytes that writes their lines. Assumes nothing.
 use Prim.Native.Nat.{ℕ, suc, ◌+◌, ◌-◌, ◌≤◌, ◌<◌}
 use mathlib.Core.Path.{◌≡◌, refl, sym, ap, ap₂, ◌∙◌, subst}
-use mathlib.Core.Bool.{Bool, true, false}
+use mathlib.Core.Bool.{true, false}
 use mathlib.Core.List.{List, [], ◌∷◌, ◌++◌, append_assoc, append-nil}
 use native.Mathlib.Omega.{arith}
 use native.Mathlib.Nat.{add-zero, zero-add}
@@ -16,16 +16,17 @@ use Rattle.words.proofs.WordPlaceLaws.{rest}
 use Rattle.journal.specs.Journal.{Entry, parse, after_entry, after_entries}
 use Rattle.journal.specs.EntryCalls.{entry_written}
 use Rattle.journal.proofs.HeadLaws.{whole-small}
-use Rattle.entries.specs.declared.entry.Stepped.{Stepped}
-use Rattle.entries.specs.declared.entry.Stepped.TheVariants as step
+use Rattle.entries.specs.declared.entry.Made.{Made}
+use Rattle.entries.specs.declared.entry.Ended.{Ended}
+use Rattle.entries.specs.declared.entry.Ended.TheVariants.{Full}
 use Rattle.entries.specs.parts.Stepping.{SteppedIn}
-use Rattle.entries.specs.parts.Running.{entry_at, ran_to}
+use Rattle.entries.specs.parts.Running.{entry_at, met_bad, had_no_room, ran_to}
 use Rattle.entries.proofs.StoodLaws.{Stood, stood-whole, stood-left}
 use Rattle.entries.proofs.FirstMadeLaws.{first-none, left-full, left-none, next_fits, first_more}
 use Rattle.trace_lines.specs.Trace.{entry_lines, trace_lines}
 use Rattle.trace_lines.proofs.TraceLaws.{put-begins}
 use Rattle.tracing.specs.parts.Tracing.{LinesOf, Traces, TracesIn}
-use Rattle.std.specs.Prelude.{Result}
+use Rattle.std.specs.Prelude.{Result, Ok, Err}
 use Rattle.rules.specs.declared.Cause.{Cause}
 use Rattle.calls.specs.declared.Returned.{Returned}
 
@@ -52,23 +53,29 @@ traces-start seen src ws out h =
 
 -- ---- one entry more
 module _ (seen : ℕ) (src ws₀ out₀ ws out : List ℕ) (at k n : ℕ) (w : Traces seen src ws₀ out₀ ws out at k n) where
-  pub traces-full : length out - n < 8652 → TracesIn seen src ws₀ out₀ ws out (ran_to at k n true false)
+  pub traces-full : length out - n < 8652 → TracesIn seen src ws₀ out₀ ws out (ran_to at k n Full)
   traces-full f = record { traces = w; full = sym (lt-ltb (length out₀ - n) 8652 (omega (arith, w.kept))); rest = left-full src at k n }
 
-  ended : (bad : Bool) → 8652 ≤ length out - n → parse k (drop at src) ≡ record { entries = []; stopped = bad; rest = drop at src }
-      → TracesIn seen src ws₀ out₀ ws out (ran_to at k n false bad)
-  ended bad f e = record { traces = w; full = sym (le-ltb (length out₀ - n) 8652 (omega (arith, w.kept))); rest = left-none src at k n bad e }
+  ended : (end : Ended) → had_no_room end ≡ false → 8652 ≤ length out - n → parse k (drop at src) ≡ record { entries = []; stopped = met_bad end; rest = drop at src }
+      → TracesIn seen src ws₀ out₀ ws out (ran_to at k n end)
+  ended end z f e = record { traces = w; full = z ∙ sym (le-ltb (length out₀ - n) 8652 (omega (arith, w.kept))); rest = left-none src at k n end e }
 
-  module _ (sent ws' sent' : List ℕ) (r : Stepped) (y : SteppedIn true 0 k (take (length src - at) (drop at src)) ws sent ws' sent' r) where
+  module _ (sent ws' sent' : List ℕ) (r : Result Made Ended) (y : SteppedIn true 0 k (take (length src - at) (drop at src)) ws sent ws' sent' r) where
     turn : SteppedIn true 0 k (drop at src) ws sent ws' sent' r
     turn = subst (λ (s : List ℕ). SteppedIn true 0 k s ws sent ws' sent' r) (rest src at) y
 
-    pub traces-left : (bad : Bool) → r ≡ step.NoEntry bad → 8652 ≤ length out - n → TracesIn seen src ws₀ out₀ ws' out (ran_to at k n false bad)
-    traces-left bad q f = let x = stood-left true 0 k (drop at src) ws sent ws' sent' r turn bad q in rw x.1 (ended bad f x.0)
+    pub traces-left : (end : Ended) → r ≡ Err end → 8652 ≤ length out - n → TracesIn seen src ws₀ out₀ ws' out (ran_to at k n end)
+    traces-left end q f = let x = stood-left true 0 k (drop at src) ws sent ws' sent' r turn end q in rw x.1 (ended end x.3 f x.0)
 
-    module _ (m : ℕ) (a : Result Returned Cause) (q : r ≡ step.Made m a) where
+    module _ (made : Made) (q : r ≡ Ok made) where
+      abbrev m : ℕ
+      m = made.size
+
+      abbrev a : Result Returned Cause
+      a = made.answer
+
       abbrev was : Stood true 0 k (drop at src) ws sent ws' sent' r turn m a
-      was = stood-whole true 0 k (drop at src) ws sent ws' sent' r turn m a q
+      was = stood-whole true 0 k (drop at src) ws sent ws' sent' r turn made q
 
       abbrev one : Entry
       one = entry_at (drop at src) was.0 m

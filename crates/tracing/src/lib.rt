@@ -8,7 +8,7 @@ ghost use Rattle.tracing.specs.parts.Tracing.{is_done, LinesOf, TracesIn, entry_
 ghost use Rattle.records.specs.Limits.{file_size};
 
 use calls::Returned;
-use entries::entry::Stepped;
+use entries::entry::Ended;
 use entries::run::Ran;
 use rules::Cause;
 
@@ -35,8 +35,8 @@ fn put_lines(
     a: Result<Returned, Cause>,
     sent: &[u8],
 ) -> usize
-    requires le_n { (3 ≤ n) × (n ≤ length src.now) × (n ≤ file_size + 3) × (file_size ≤ length sent.now) }
-    requires entry_room_in_bounds { at + entry_room ≤ length out.old }
+    requires whole_entry { (3 ≤ n) × (n ≤ length src.now) × (n ≤ file_size + 3) × (file_size ≤ length sent.now) }
+    requires has_room { at + entry_room ≤ length out.old }
     ensures { LinesOf number src.now n a sent.now out.old at out.new result }
 {
     let tag = src[0];
@@ -62,15 +62,25 @@ pub fn run(ws: &mut [u64], sent: &mut [u8], out: &mut [u8], src: &[u8], seen: u6
         let rest = &src[used..];
         let r = entries::entry::step(ws, sent, rest, k, true);
         match r {
-            Stepped::NoEntry(bad) => {
-                return entries::run::ran_to(used, k, n, false, bad);
+            Err(end) => {
+                return Ran {
+                    used,
+                    seen: k,
+                    written: n,
+                    end,
+                };
             }
-            Stepped::Made(m, a) => {
-                n = put_lines(out, n, rest, m, k + 1, a, sent);
-                used += m;
+            Ok(made) => {
+                n = put_lines(out, n, rest, made.size, k + 1, made.answer, sent);
+                used += made.size;
                 k += 1;
             }
         }
     }
-    entries::run::ran_to(used, k, n, true, false)
+    Ran {
+        used,
+        seen: k,
+        written: n,
+        end: Ended::Full,
+    }
 }

@@ -1,6 +1,6 @@
 -- `journal::fresh_body` meets its contract: each field is digits or the body is not read.
 use Prim.Native.Nat.{ℕ}
-use mathlib.Core.Path.{◌≡◌}
+use mathlib.Core.Path.{◌≡◌, sym, ◌∙◌}
 use mathlib.Core.Bool.{and-false}
 use mathlib.Core.List.{List}
 use Rattle.fields.specs.Put.{part}
@@ -12,6 +12,7 @@ use Rattle.journal.specs.Entries.{fresh_body}
 use Rattle.journal.proofs.BodyLaws.{field-refused}
 use Rattle.journal.proofs.fresh_body.Goals as goal
 use Rattle.std.specs.Prelude.{Some}
+use Rattle.std.proofs.Common.{rules}
 
 -- the body where its fields hold numbers
 fresh-of : (s : List ℕ) (r : Start)
@@ -24,17 +25,17 @@ fresh-of s r today tracking confirmation =
     let c = field_is _ _ confirmation in
     rw (a.0, ← a.1, b.0, ← b.1, c.0, ← c.1)
 
-pub returns-in_default : goal.returns-in_default
+pub returns-in_err-today : goal.returns-in_err-today
 unfolding fresh_body
-returns-in_default c = rw (field-refused _ c.read_field.ensures c.in_default.is)
+returns-in_err-today c = rw (field-refused _ c.read_field.ensures c.in_err-today.was) (search rules)
 
-pub returns-in_default-read_field : goal.returns-in_default-read_field
+pub returns-in_err-tracking : goal.returns-in_err-tracking
 unfolding fresh_body
-returns-in_default-read_field c = rw (field-refused _ c.read_field-2.ensures c.in_default-read_field.is, and-false)
+returns-in_err-tracking c = rw (field-refused _ c.read_field-2.ensures c.in_err-tracking.was, and-false) (search rules)
 
-pub returns-in_default-read_field-2 : goal.returns-in_default-read_field-2
+pub returns-in_err-confirmation : goal.returns-in_err-confirmation
 unfolding fresh_body
-returns-in_default-read_field-2 c = rw (field-refused _ c.read_field-3.ensures c.in_default-read_field-2.is, and-false)
+returns-in_err-confirmation c = rw (field-refused _ c.read_field-3.ensures c.in_err-confirmation.was, and-false) (search rules)
 
 pub returns : goal.returns
-returns c = fresh-of _ _ (cc) (cc) (cc)
+returns c = fresh-of _ _ (sym c.read_field.ensures ∙ c.in_ok-today.was) (sym c.read_field-2.ensures ∙ c.in_ok-tracking.was) (sym c.read_field-3.ensures ∙ c.in_ok-confirmation.was)

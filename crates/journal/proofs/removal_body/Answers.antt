@@ -1,6 +1,6 @@
 -- `journal::removal_body` meets its contract: each field is digits or the body is not read.
 use Prim.Native.Nat.{ℕ}
-use mathlib.Core.Path.{◌≡◌}
+use mathlib.Core.Path.{◌≡◌, sym, ◌∙◌}
 use mathlib.Core.Bool.{and-false}
 use mathlib.Core.List.{List}
 use Rattle.fields.specs.Put.{part}
@@ -12,6 +12,7 @@ use Rattle.journal.specs.Entries.{removal_body}
 use Rattle.journal.proofs.BodyLaws.{field-refused}
 use Rattle.journal.proofs.removal_body.Goals as goal
 use Rattle.std.specs.Prelude.{Some}
+use Rattle.std.proofs.Common.{rules}
 
 -- the body where its fields hold numbers
 removal-of : (s : List ℕ) (a : AccountRemoval) → field_of (part s 0 12) ≡ Some a.account → field_of (part s 12 8) ≡ Some a.date.0
@@ -22,13 +23,13 @@ removal-of s a account date =
     let y = field_is _ _ date in
     rw (x.0, ← x.1, y.0, ← y.1)
 
-pub returns-in_default : goal.returns-in_default
+pub returns-in_err-account : goal.returns-in_err-account
 unfolding removal_body
-returns-in_default c = rw (field-refused _ c.read_field.ensures c.in_default.is)
+returns-in_err-account c = rw (field-refused _ c.read_field.ensures c.in_err-account.was) (search rules)
 
-pub returns-in_default-read_field : goal.returns-in_default-read_field
+pub returns-in_err-date : goal.returns-in_err-date
 unfolding removal_body
-returns-in_default-read_field c = rw (field-refused _ c.read_field-2.ensures c.in_default-read_field.is, and-false)
+returns-in_err-date c = rw (field-refused _ c.read_field-2.ensures c.in_err-date.was, and-false) (search rules)
 
 pub returns : goal.returns
-returns c = removal-of _ _ (cc) (cc)
+returns c = removal-of _ _ (sym c.read_field.ensures ∙ c.in_ok-account.was) (sym c.read_field-2.ensures ∙ c.in_ok-date.was)

@@ -9,7 +9,7 @@ use Rattle.report.proofs.post_table.Goals as goal
 
 pub returns-then-out-lt-TABLE_ROOM : goal.returns-then-out-lt-TABLE_ROOM
 returns-then-out-lt-TABLE_ROOM c =
-    refused _ _ _ (c.ends_bad-stopped.ensures ∙ (journal-bad false _ _ _ _ _ _ c.run-r.ensures c.start.ensures.2 c.run-r.ensures.full)) c.if-out-lt-TABLE_ROOM.true
+    refused _ _ _ (rw c.is_bad.ensures at c.ends_bad-stopped.ensures ∙ (journal-bad false _ _ _ _ _ _ c.run-r.ensures c.start.ensures.2 c.run-r.ensures.full)) c.if-out-lt-TABLE_ROOM.true
 
 pub write-n-requires : goal.write-n-requires
 write-n-requires c =
@@ -18,4 +18,4 @@ write-n-requires c =
 
 pub returns : goal.returns
 returns c =
-    posted _ _ _ (c.ends_bad-stopped.ensures ∙ (journal-bad false _ _ _ _ _ _ c.run-r.ensures c.start.ensures.2 c.run-r.ensures.full)) _ _ _ c.if-out-lt-TABLE_ROOM.false (table_is _ _ _ (journal-books false _ _ _ _ _ _ c.run-r.ensures c.start.ensures.2 c.run-r.ensures.full) (c.ends_bad-stopped.ensures ∙ (journal-bad false _ _ _ _ _ _ c.run-r.ensures c.start.ensures.2 c.run-r.ensures.full))) c.write-n.ensures.answer c.write-n.ensures.written c.write-n.ensures.at_most
+    posted _ _ _ (rw c.is_bad.ensures at c.ends_bad-stopped.ensures ∙ (journal-bad false _ _ _ _ _ _ c.run-r.ensures c.start.ensures.2 c.run-r.ensures.full)) _ _ _ c.if-out-lt-TABLE_ROOM.false (table_is _ _ _ (journal-books false _ _ _ _ _ _ c.run-r.ensures c.start.ensures.2 c.run-r.ensures.full) (rw c.is_bad.ensures at c.ends_bad-stopped.ensures ∙ (journal-bad false _ _ _ _ _ _ c.run-r.ensures c.start.ensures.2 c.run-r.ensures.full))) c.write-n.ensures.answer c.write-n.ensures.written c.write-n.ensures.at_most

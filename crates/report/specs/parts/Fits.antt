@@ -1,10 +1,10 @@
 -- Whether an output has room for a journal's notices. Assumes nothing.
-use Rattle.std.specs.Prelude.{ℕ, cond, List, ltb, length}
+use Rattle.std.specs.Prelude.{ℕ, cond, List, ltb, length, Option, Some, None, Err}
 use Rattle.journal.specs.Journal.{is_bad}
 use Rattle.journal.specs.EntryCalls.{brn_of}
-use Rattle.report.specs.declared.brn_file.Fit.{Fit}
-use Rattle.report.specs.declared.brn_file.Fit.TheVariants.{Fits, Short}
+use Rattle.report.specs.declared.Reported.{Reported}
+use Rattle.rules.specs.declared.Cause.TheVariants.{OutputTooSmall}
 
--- whether an output of so many bytes has room for them, and where it has none, whether the journal ends bad: what `fit_in` answers inside the crate
-unfoldable pub fit_of : ℕ → List ℕ → Fit
-fit_of room s = cond (ltb room (length (brn_of s))) (Short (is_bad s)) Fits
+-- what is answered where an output of so many bytes has no room for them: what `refusal` answers inside the crate
+unfoldable pub refusal_of : ℕ → List ℕ → Option Reported
+refusal_of room s = cond (ltb room (length (brn_of s))) (Some (record { report = Err OutputTooSmall; stopped = is_bad s })) None

@@ -8,4 +8,4 @@ use Rattle.trace_lines.proofs.put_change.Goals as goal
 pub returns : goal.returns
 returns c =
     let a = c.args in
-    change-put _ _ _ _ a.at _ _ a.x (to_z-of_z w64 a.x c.ranges.x) (omega (arith, c.requires)) c.put_sign.ensures c.put_digits.ensures c.size-n.ensures c.put_bytes.ensures
+    change-put _ _ _ _ a.at _ _ a.x (to_z-of_z w64 a.x c.ranges.x) (omega (arith, c.requires)) c.put_sign.ensures c.put_digits.ensures c.unsigned_abs.ensures.value c.put_bytes.ensures

@@ -11,7 +11,7 @@ use Rattle.journal.specs.Entries.{head_of}
 use Rattle.journal.specs.Journal.{Entry}
 use Rattle.journal.specs.EntryCalls.{entry_called, entry_written}
 use Rattle.entries.specs.declared.run.Ran.{Ran}
-use Rattle.entries.specs.parts.Running.{entry_at, FirstMade, NoneLeft}
+use Rattle.entries.specs.parts.Running.{entry_at, had_no_room, FirstMade, NoneLeft}
 use Rattle.trace_lines.specs.Trace.{entry_lines, trace_lines}
 use Rattle.records.specs.Limits.{file_size}
 use Rattle.rules.specs.declared.Cause.{Cause}
@@ -48,5 +48,5 @@ pub record Traces (seen : ℕ) (src ws₀ out₀ ws out : List ℕ) (at k n : �
 -- and none is left unless the output has no room for another entry's lines
 pub record TracesIn (seen : ℕ) (src ws₀ out₀ ws out : List ℕ) (r : Ran) : Type 0 where
   pub traces : Traces seen src ws₀ out₀ ws out r.used r.seen r.written
-  pub full : r.full ≡ ltb (length out₀ - r.written) entry_room
+  pub full : had_no_room r.end ≡ ltb (length out₀ - r.written) entry_room
   pub rest : NoneLeft src r

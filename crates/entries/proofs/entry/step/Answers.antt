@@ -15,8 +15,8 @@ slice_bounds-entry-start c = omega (arith, whole-fits _ _ _ _ (sym c.head_at-h.e
 pub slice_bounds-entry-end : goal.slice_bounds-entry-end
 slice_bounds-entry-end c = omega (arith, whole-fits _ _ _ _ (sym c.head_at-h.ensures ∙ c.in-Whole.is))
 
-pub entry-a-requires : goal.entry-a-requires
-entry-a-requires c = record { ws_value = (c.requires.ws_value, whole-taken _ _ _ _ (sym c.head_at-h.ensures ∙ c.in-Whole.is)); room_in_bounds = c.requires.file_size_in_bounds }
+pub entry-answer-requires : goal.entry-answer-requires
+entry-answer-requires c = record { is_sound = (c.requires.is_sound, whole-taken _ _ _ _ (sym c.head_at-h.ensures ∙ c.in-Whole.is)); has_room = c.requires.has_room }
 
 pub returns-in-Cut : goal.returns-in-Cut
 returns-in-Cut c = step_cut c.args.writes c.args.seen c.args.src.now _ _ (sym c.head_at-h.ensures ∙ c.in-Cut.is)
@@ -26,4 +26,4 @@ returns-in-Bad c = step-bad c.args.writes c.args.seen c.args.src.now _ _ (sym c.
 
 pub returns-in-Whole : goal.returns-in-Whole
 returns-in-Whole c =
-    step-made c.args.writes c.args.seen c.args.src.now _ _ _ _ (sym c.head_at-h.ensures ∙ c.in-Whole.is) _ _ _ c.entry-a.ensures
+    step-made c.args.writes c.args.seen c.args.src.now _ _ _ _ (sym c.head_at-h.ensures ∙ c.in-Whole.is) _ _ _ c.entry-answer.ensures

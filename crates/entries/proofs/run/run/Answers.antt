@@ -11,7 +11,7 @@ use Rattle.words.proofs.WordPlaceLaws.{rest}
 use Rattle.entries.specs.parts.Stepping.{SteppedIn}
 use Rattle.entries.proofs.RunNotices.{next-in, running-start, running-room, ran-left, ran-full, ran-fits, ran_on}
 use Rattle.entries.proofs.run.run.Goals as goal
-use Rattle.entries.proofs.run.run.Goals.{After-step-r, In-Made}
+use Rattle.entries.proofs.run.run.Goals.{After-step-r, In-Ok}
 
 -- the output has room for another entry's notices
 not-full : (c : After-step-r) → (c.args.writes && ltb (length c.loop-to.out - c.loop-to.n) file_size) ≡ false
@@ -27,27 +27,27 @@ stepped c =
 pub loop-to-init : goal.loop-to-init
 loop-to-init c = running-start _ _ _ _ _ c.requires
 
-pub returns-in-NoEntry : goal.returns-in-NoEntry
-returns-in-NoEntry c =
-    let s = (goal.at.returns-in-NoEntry c).After-step-r in
-    rw c.ran_to.ensures (ran-left _ _ _ _ _ _ _ _ _ _ c.loop-to.invariant _ _ _ (stepped s) _ (not-full s) c.in-NoEntry.is)
+pub returns-in-Err : goal.returns-in-Err
+returns-in-Err c =
+    let s = (goal.at.returns-in-Err c).After-step-r in
+    ran-left _ _ _ _ _ _ _ _ _ _ c.loop-to.invariant _ _ _ (stepped s) _ (not-full s) c.in-Err.is
 
 pub overflow_add-at : goal.overflow_add-at
-overflow_add-at c = omega (arith, ran-fits _ _ _ _ _ _ _ _ _ _ c.loop-to.invariant _ _ _ (stepped (goal.at.overflow_add-at c).After-step-r) _ _ c.in-Made.is)
+overflow_add-at c = omega (arith, ran-fits _ _ _ _ _ _ _ _ _ _ c.loop-to.invariant _ _ _ (stepped (goal.at.overflow_add-at c).After-step-r) _ c.in-Ok.is)
 
 pub overflow_add-k : goal.overflow_add-k
-overflow_add-k c = omega (arith, ran-fits _ _ _ _ _ _ _ _ _ _ c.loop-to.invariant _ _ _ (stepped (goal.at.overflow_add-k c).After-step-r) _ _ c.in-Made.is)
+overflow_add-k c = omega (arith, ran-fits _ _ _ _ _ _ _ _ _ _ c.loop-to.invariant _ _ _ (stepped (goal.at.overflow_add-k c).After-step-r) _ c.in-Ok.is)
 
 pub overflow_add-n : goal.overflow_add-n
-overflow_add-n c = omega (arith, c.written-n.ensures, ran-fits _ _ _ _ _ _ _ _ _ _ c.loop-to.invariant _ _ _ (stepped (goal.at.overflow_add-n c).After-step-r) _ _ c.in-Made.is)
+overflow_add-n c = omega (arith, c.written-n.ensures, ran-fits _ _ _ _ _ _ _ _ _ _ c.loop-to.invariant _ _ _ (stepped (goal.at.overflow_add-n c).After-step-r) _ c.in-Ok.is)
 
 pub loop-to-smaller : goal.loop-to-smaller
-loop-to-smaller c = omega (arith, ran-fits _ _ _ _ _ _ _ _ _ _ c.loop-to.invariant _ _ _ (stepped (goal.at.loop-to-smaller c).After-step-r) _ _ c.in-Made.is)
+loop-to-smaller c = omega (arith, ran-fits _ _ _ _ _ _ _ _ _ _ c.loop-to.invariant _ _ _ (stepped (goal.at.loop-to-smaller c).After-step-r) _ c.in-Ok.is)
 
 pub loop-to-preserved : goal.loop-to-preserved
 loop-to-preserved c =
     let s = (goal.at.loop-to-preserved c).After-step-r in
-    rw c.written-n.ensures (ran_on _ _ _ _ _ _ _ _ _ _ c.loop-to.invariant _ _ _ (stepped s) _ _ c.in-Made.is (not-full s))
+    rw c.written-n.ensures (ran_on _ _ _ _ _ _ _ _ _ _ c.loop-to.invariant _ _ _ (stepped s) _ c.in-Ok.is (not-full s))
 
 pub returns : goal.returns
-returns c = rw c.ran_to-2.ensures (ran-full _ _ _ _ _ _ _ _ _ _ c.loop-to.invariant (sym c.is_full.ensures ∙ c.loop-to-test.false))
+returns c = ran-full _ _ _ _ _ _ _ _ _ _ c.loop-to.invariant (sym c.is_full.ensures ∙ c.loop-to-test.false)

@@ -8,13 +8,13 @@ pub put_group_line-requires : goal.put_group_line-requires
 put_group_line-requires c =
     let a = c.args in
     let w = leading-within a.s.now a.i a.n in
-    record { end_in_bounds = omega (arith, c.requires.end_in_bounds); record_size_in_bounds = (omega (arith, c.requires.i_lt_n, c.detail_count-k.ensures), omega (arith, c.requires.i_lt_n, c.detail_count-k.ensures)) }
+    record { has_room = omega (arith, c.requires.has_room); whole = (omega (arith, c.requires.whole, c.detail_count-k.ensures), omega (arith, c.requires.whole, c.detail_count-k.ensures)) }
 
 pub next_answer-requires : goal.next_answer-requires
 next_answer-requires c =
     let a = c.args in
     let w = leading-within a.s.now a.i a.n in
-    omega (arith, c.requires.i_lt_n, c.detail_count-k.ensures)
+    omega (arith, c.requires.whole, c.detail_count-k.ensures)
 
 pub returns : goal.returns
 returns c =

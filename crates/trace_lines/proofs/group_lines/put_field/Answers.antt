@@ -6,4 +6,4 @@ use Rattle.trace_lines.proofs.group_lines.put_field.Goals as goal
 pub returns : goal.returns
 returns c =
     let a = c.args in
-    field_put _ _ _ _ a.at a.from a.n (omega (arith, c.requires)) c.requires.n_in_bounds_2 c.put_part.ensures c.put_bytes.ensures
+    field_put _ _ _ _ a.at a.from a.n (omega (arith, c.requires)) c.requires.whole c.put_part.ensures c.put_bytes.ensures

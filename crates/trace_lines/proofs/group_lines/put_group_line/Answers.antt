@@ -8,9 +8,9 @@ overflow_add-at-5 c =
     omega (arith, c.requires, c.well_formed)
 
 pub put_verdict-requires : goal.put_verdict-requires
-put_verdict-requires c = record { at_in_bounds = omega (arith, c.requires); record_size_in_bounds = c.requires.record_size_in_bounds.1 }
+put_verdict-requires c = record { has_room = omega (arith, c.requires); whole = c.requires.whole.1 }
 
 pub returns : goal.returns
 returns c =
     let a = c.args in
-    group-put a.s.now a.sent.now a.i a.k a.r.from c.requires.record_size_in_bounds.0 c.requires.record_size_in_bounds.1 _ _ _ _ _ _ _ a.r.end _ (omega (arith, c.requires)) c.put_bytes.ensures c.put_field.ensures c.put_in_record.ensures c.put_key.ensures c.put_in_record-2.ensures c.put_verdict.ensures.0 c.put_verdict.ensures.1
+    group-put a.s.now a.sent.now a.i a.k a.r.from c.requires.whole.0 c.requires.whole.1 _ _ _ _ _ _ _ a.r.end _ (omega (arith, c.requires)) c.put_bytes.ensures c.put_field.ensures c.put_in_record.ensures c.put_key.ensures c.put_in_record-2.ensures c.put_verdict.ensures.0 c.put_verdict.ensures.1

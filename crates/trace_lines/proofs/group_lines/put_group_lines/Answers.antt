@@ -17,7 +17,7 @@ pub group_turn-r-requires : goal.group_turn-r-requires
 group_turn-r-requires c =
     let w = c.loop-i.invariant in
     let e = sym c.header_at.ensures ∙ c.if-header_at.true in
-    let r = leading-header c.args.s.now c.loop-i.i c.args.n (omega arith) e in record { i_lt_n = (omega arith, omega arith, omega arith, omega (arith, w.room)); end_in_bounds = omega (arith, w.few, w.long, w.within, c.requires.n_in_bounds) }
+    let r = leading-header c.args.s.now c.loop-i.i c.args.n (omega arith) e in record { whole = (omega arith, omega arith, omega arith, omega (arith, w.room)); has_room = omega (arith, w.few, w.long, w.within, c.requires.has_room) }
 
 pub loop-i-preserved : goal.loop-i-preserved
 loop-i-preserved c =
@@ -36,4 +36,4 @@ loop-i-preserved c =
 
 pub returns : goal.returns
 returns c =
-    let x = walk_end _ _ _ _ _ _ _ _ _ c.loop-i.invariant (omega arith) in record { lined = lined c.args.s.now _ _ c.args.n c.args.at _ _ (omega (arith, c.requires)) x.0 x.1; out_after = x }
+    let x = walk_end _ _ _ _ _ _ _ _ _ c.loop-i.invariant (omega arith) in record { lined = lined c.args.s.now _ _ c.args.n c.args.at _ _ (omega (arith, c.requires)) x.0 x.1; written = x }
