@@ -2,7 +2,7 @@
 ghost use Rattle.std.specs.Prelude.{◌≡◌, true, ◌+◌, ◌≤◌, length, take};
 ghost use Rattle.rules.specs.Lists.{count};
 ghost use Rattle.ledger.specs.Sound.{sound_ledger};
-ghost use Rattle.causes.specs.Causes.{request, calendar, cancel, close, removal, file};
+ghost use Rattle.causes.specs.Causes.{calendar, close, removal, file};
 ghost use Rattle.causes.specs.Requests.{closes};
 ghost use Rattle.causes.specs.parts.Decisions.{as_call};
 ghost use Rattle.calls.specs.Machine.{called};
@@ -14,7 +14,7 @@ use crate::file_groups;
 use calls::Returned;
 use causes::{AccountRemoval, BillCall, CalendarRequest, Request, Start, by_calendar, checks};
 use decisions::{notice, requests};
-use ledger::{Identity, LedgerHeader};
+use ledger::LedgerHeader;
 use places::holder::Holder;
 use places::{accounts, place};
 use rules::Cause;
@@ -44,20 +44,6 @@ pub fn bill_call_in<T: Holder>(
     calls::carried_out::noticed(change)
 }
 
-// The call request.
-pub fn request_in<T: Holder>(
-    lent: &mut [T],
-    out: &mut [u8],
-    writes: bool,
-    room: usize,
-    r: Request,
-) -> Result<Returned, Cause>
-    requires { (sound_ledger (T.held lent.old) ≡ true) × (writes ≡ true → room ≤ length out.old) }
-    ensures { CalledIn T.holds T.held writes (request r room) lent.old out.old lent.new out.new result }
-{
-    bill_call_in(lent, out, writes, room, BillCall::Request(r))
-}
-
 // The call request that leaves its Scheduled Date to the calendar: the request with the date worked out.
 pub fn calendar_in<T: Holder>(
     lent: &mut [T],
@@ -73,21 +59,7 @@ pub fn calendar_in<T: Holder>(
     let h = T::header(lent);
     let day = by_calendar::due_day(q, holidays, h.today)?;
     let r = by_calendar::on_date(q.request, day);
-    request_in(lent, out, writes, room, r)
-}
-
-// The call cancel.
-pub fn cancel_in<T: Holder>(
-    lent: &mut [T],
-    out: &mut [u8],
-    writes: bool,
-    room: usize,
-    id: Identity,
-) -> Result<Returned, Cause>
-    requires { (sound_ledger (T.held lent.old) ≡ true) × (writes ≡ true → room ≤ length out.old) }
-    ensures { CalledIn T.holds T.held writes (cancel id room) lent.old out.old lent.new out.new result }
-{
-    bill_call_in(lent, out, writes, room, BillCall::Cancel(id))
+    bill_call_in(lent, out, writes, room, BillCall::Request(r))
 }
 
 // The file call.

@@ -18,8 +18,8 @@ fn turn<T: Holder>(
     s: &[u8],
     g: GroupAt,
 ) -> Tally
-    requires header_lt_records { (g.header < g.records) × (g.records * record_size ≤ length s.now) × (g.records ≤ file_records) × (writes ≡ true → c.written + (g.records - g.header) * record_size ≤ length out.old) }
-    requires ws_value { (T.holds lent.old ≡ true) × FitForTurn (T.held lent.old) c }
+    requires in_file { (g.header < g.records) × (g.records * record_size ≤ length s.now) × (g.records ≤ file_records) × (writes ≡ true → c.written + (g.records - g.header) * record_size ≤ length out.old) }
+    requires holds { (T.holds lent.old ≡ true) × FitForTurn (T.held lent.old) c }
     ensures { (T.holds lent.new ≡ true) × TurnLeavesOn s.now g.header g.records g.duplicate (T.held lent.old) c writes out.old (T.held lent.new) out.new result }
 {
     let h = T::header(lent);
@@ -35,8 +35,8 @@ fn turn<T: Holder>(
 
 // The groups of the first n records, in order, each on the ledger that the one before left.
 pub fn take<T: Holder>(lent: &mut [T], out: &mut [u8], writes: bool, s: &[u8], n: usize) -> Tally
-    requires n_le_file_records { (n ≤ file_records) × (n * record_size ≤ length s.now) × (writes ≡ true → n * record_size ≤ length out.old) }
-    requires ws_value { (T.holds lent.old ≡ true) × Ready (T.held lent.old) }
+    requires file_fits { (n ≤ file_records) × (n * record_size ≤ length s.now) × (writes ≡ true → n * record_size ≤ length out.old) }
+    requires holds { (T.holds lent.old ≡ true) × Ready (T.held lent.old) }
     ensures { (T.holds lent.new ≡ true) × FileTaken (T.held lent.old) (groups (records_from s.now 0 n)) writes out.old (T.held lent.new) out.new result }
 {
     let marks = group::marks(s, n);

@@ -8,6 +8,7 @@ ghost use Rattle.entries.specs.parts.Running.{met_bad, had_no_room};
 ghost use Rattle.records.specs.Limits.{file_size};
 
 use calls::Returned;
+use causes::BillCall;
 use engine::call;
 use journal::{Body, Head};
 use rules::Cause;
@@ -57,9 +58,9 @@ pub fn entry(
     ensures { EntryCalledIn writes room 0 body s.now ws.old out.old ws.new out.new result }
 {
     match body {
-        Body::Request(r) => call::request_in(ws, out, writes, room, r),
+        Body::Request(r) => call::bill_call_in(ws, out, writes, room, BillCall::Request(r)),
         Body::File => call::file_in(ws, out, writes, room, s),
-        Body::Cancel(id) => call::cancel_in(ws, out, writes, room, id),
+        Body::Cancel(id) => call::bill_call_in(ws, out, writes, room, BillCall::Cancel(id)),
         Body::Close(d) => call::close_in(ws, d),
         Body::Removal(a) => call::removal_in(ws, a),
         Body::Fresh(x) => call::fresh_in(ws, x),

@@ -75,9 +75,9 @@ pub fn lend(l: Ledger) -> [Ledger; 1]
 }
 
 // The ledger that the call left.
-pub fn taken_back(lent: &[Ledger; 1]) -> Ledger
-    requires { holds_one lent.now ≡ true }
-    ensures { result ≡ one_ledger lent.now }
+pub fn taken_back(left: &[Ledger; 1]) -> Ledger
+    requires { holds_one left.now ≡ true }
+    ensures { result ≡ one_ledger left.now }
 {
-    lent[0]
+    left[0]
 }

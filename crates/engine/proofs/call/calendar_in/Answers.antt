@@ -11,7 +11,7 @@ pub returns : goal.returns
 returns g c =
     let a = c.args in
     called-in-on g.T.Holder.holds g.T.Holder.held a.writes a.room a.q a.holidays.now a.lent.now a.out.now _ c.header-h.ensures _ c.due_day.ensures _
-    (c.in_ok-day.was) _ c.on_date-r.ensures _ _ _ c.request_in.ensures
+    (c.in_ok-day.was) _ c.on_date-r.ensures _ _ _ c.bill_call_in.ensures
 
 pub returns-in_err-day : goal.returns-in_err-day
 returns-in_err-day g c =

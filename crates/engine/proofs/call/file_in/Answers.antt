@@ -23,7 +23,7 @@ returns-in_err-file_check g c =
 
 pub take-c-requires : goal.take-c-requires
 take-c-requires g c =
-    let x = file-short (g.T.Holder.held c.args.lent.now) c.requires.0 c.args.s.now c.args.room _ (c.file_check.ensures ∙ ap (λ (t : LedgerHeader). first (file_causes c.args.s.now c.args.room t.tracking t.confirmation)) c.header-h.ensures) (c.in_ok-file_check.was) in record { n_le_file_records = (omega (arith, x.0), omega arith, λ w. omega (arith, x.1, c.requires.1 w)); ws_value = ((g.met.T.Holder.sound_holds _ c.requires.0), sound-ready _ c.requires.0) }
+    let x = file-short (g.T.Holder.held c.args.lent.now) c.requires.0 c.args.s.now c.args.room _ (c.file_check.ensures ∙ ap (λ (t : LedgerHeader). first (file_causes c.args.s.now c.args.room t.tracking t.confirmation)) c.header-h.ensures) (c.in_ok-file_check.was) in record { file_fits = (omega (arith, x.0), omega arith, λ w. omega (arith, x.1, c.requires.1 w)); holds = ((g.met.T.Holder.sound_holds _ c.requires.0), sound-ready _ c.requires.0) }
 
 pub cleared-requires : goal.cleared-requires
 cleared-requires g c = (omega (arith, c.take-c.ensures.1.came), omega (arith, c.take-c.ensures.1.went))

@@ -12,7 +12,7 @@ fresh_in-requires c = eq-eqb _ _ (words_long _ (sound-holds _ c.requires.is_soun
 
 pub returns-in-Request : goal.returns-in-Request
 returns-in-Request c =
-    rw c.in-Request.is (made_by c.args.writes c.args.room c.args.ws.now c.args.out.now c.requires.is_sound.0 c.args.s.now _ tt _ _ _ c.request_in.ensures.ledger c.request_in.ensures.answer c.request_in.ensures.bytes)
+    rw c.in-Request.is (made_by c.args.writes c.args.room c.args.ws.now c.args.out.now c.requires.is_sound.0 c.args.s.now _ tt _ _ _ c.bill_call_in.ensures.ledger c.bill_call_in.ensures.answer c.bill_call_in.ensures.bytes)
 
 pub returns-in-File : goal.returns-in-File
 returns-in-File c =
@@ -20,7 +20,7 @@ returns-in-File c =
 
 pub returns-in-Cancel : goal.returns-in-Cancel
 returns-in-Cancel c =
-    rw c.in-Cancel.is (made_by c.args.writes c.args.room c.args.ws.now c.args.out.now c.requires.is_sound.0 c.args.s.now _ tt _ _ _ c.cancel_in.ensures.ledger c.cancel_in.ensures.answer c.cancel_in.ensures.bytes)
+    rw c.in-Cancel.is (made_by c.args.writes c.args.room c.args.ws.now c.args.out.now c.requires.is_sound.0 c.args.s.now _ tt _ _ _ c.bill_call_in-in-Cancel.ensures.ledger c.bill_call_in-in-Cancel.ensures.answer c.bill_call_in-in-Cancel.ensures.bytes)
 
 pub returns-in-Close : goal.returns-in-Close
 returns-in-Close c =

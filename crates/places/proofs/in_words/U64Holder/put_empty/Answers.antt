@@ -7,4 +7,4 @@ use Rattle.places.proofs.in_words.U64Holder.put_empty.Goals as goal
 pub returns : goal.returns
 returns c =
     let w = c.write_empty.ensures in
-    (blank-holds (empty_ledger c.args.today c.args.tracking c.args.confirmation) refl _ w.words_after, w.words_after_2)
+    (blank-holds (empty_ledger c.args.today c.args.tracking c.args.confirmation) refl _ w.written, w.read_back)
