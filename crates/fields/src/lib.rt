@@ -48,7 +48,7 @@ pub fn put_fill(out: &mut [u8], at: usize, width: usize, b: u8)
 pub fn is_digit(x: u8) -> bool
     ensures { result ≡ is_digit x }
 {
-    (48 <= x) & (x <= 57)
+    x.is_ascii_digit()
 }
 
 // What a whole slice holds as a field: a number, where it holds digits only. Nineteen digits always fit a u64.
