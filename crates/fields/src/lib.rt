@@ -1,4 +1,5 @@
-// Fixed-width fields in lent bytes: digits for every width, parts of a slice, writes into a lent output.
+// Fixed-width fields in lent bytes: digits for every width, parts of a slice, writes into a lent output. An output and an index go together: a lent part,
+// `&mut out[at + 13..at + 13 + 4]` for `out, at + 13, 4`, would write the index twice, and each caller's contract would have to put the part back.
 #![tactic(auto)]
 
 ghost use Rattle.std.specs.Prelude.{◌≡◌, ◌+◌, ◌≤◌, length};

@@ -77,7 +77,8 @@ fn posted_in(kind: u64, charge: u64, applied: u64, owed: u64) -> Posted
     Posted::None
 }
 
-// What a bill has from its latest request, of a place's words.
+// What a bill has from its latest request, of a place's words. Two clauses stand at the three that read a place: a struct that holds the slice would hold the
+// same two as ghost fields, and have one maker, for one caller.
 fn latest_in(w: &[u64]) -> Latest
     requires { place_size ≤ length w.now }
     ensures { result ≡ latest_in w.now }
