@@ -1,4 +1,5 @@
-// Fixed-width fields in lent bytes: digits for every width, parts of a slice, writes into a lent output.
+// Fixed-width fields in lent bytes: digits for every width, parts of a slice, writes into a lent output. An output and an index go together: a lent part,
+// `&mut out[at + 13..at + 13 + 4]` for `out, at + 13, 4`, would write the index twice, and each caller's contract would have to put the part back.
 #![tactic(auto)]
 
 ghost use Rattle.std.specs.Prelude.{◌≡◌, ◌+◌, ◌≤◌, length};
@@ -48,7 +49,7 @@ pub fn put_fill(out: &mut [u8], at: usize, width: usize, b: u8)
 pub fn is_digit(x: u8) -> bool
     ensures { result ≡ is_digit x }
 {
-    (48 <= x) & (x <= 57)
+    x.is_ascii_digit()
 }
 
 // What a whole slice holds as a field: a number, where it holds digits only. Nineteen digits always fit a u64.

@@ -53,7 +53,8 @@ fn line_end(s: &[u8], at: usize) -> usize
     at + newline(rest).unwrap_or(rest.len())
 }
 
-// Puts the dates of the lines into `holidays`, as many as it has room for, and answers how many it put.
+// Puts the dates of the lines into `holidays`, as many as it has room for, and answers how many it put: memory is fixed by a rule of the project, and what
+// reads them takes a slice.
 fn read_holidays(s: &[u8], holidays: &mut [u64]) -> usize
     ensures answer { result ≡ length (take (length holidays.old) (holidays_of s.now)) }
     ensures dates { holidays.new ≡ put holidays.old 0 (take (length holidays.old) (holidays_of s.now)) }

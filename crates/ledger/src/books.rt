@@ -49,7 +49,7 @@ impl Ledger {
         requires { (self.count ≤ ledger_places) × (every small_charge (live self) ≡ true) }
         ensures { result.0 ≡ total_of (live self) }
     {
-        total_first(self.bills, self.count)
+        total(&self.bills[..self.count])
     }
 }
 
@@ -63,17 +63,18 @@ fn place_among(bills: &[Bill], id: Identity) -> Option<usize>
 fn within(i: usize) -> usize
     ensures { (result ≡ within i) × (result < ledger_places) }
 {
-    if i < crate::PLACES { i } else { 127 }
+    if i < crate::PLACES {
+        i
+    } else {
+        crate::PLACES - 1
+    }
 }
 
 // A place of the array: the one that was found, else the next free one, else the last.
 pub fn bill_place(f: Option<usize>, count: usize) -> usize
     ensures { (result ≡ place_for f count) × (result < ledger_places) }
 {
-    match f {
-        Some(p) => within(p),
-        None => within(count),
-    }
+    within(f.unwrap_or(count))
 }
 
 // A bill of a lent slice.
@@ -102,14 +103,6 @@ pub fn total(bills: &[Bill]) -> Cents
         sum = add_charge(sum, b);
     }
     sum
-}
-
-// The same of an array's first n bills, which it lends. It takes no slice, so callers need no walk by hand.
-fn total_first(bills: [Bill; crate::PLACES], n: usize) -> Cents
-    requires { (n ≤ ledger_places) × (every small_charge (take n bills) ≡ true) }
-    ensures { result.0 ≡ total_of (take n bills) }
-{
-    total(&bills[..n])
 }
 
 // The signed change of a total. By `as`, which is proved to keep both: `try_from` would want an answer for sums that no ledger has.

@@ -88,7 +88,8 @@ pub struct Bill {
     pub posted: Posted,
 }
 
-// The bills held are the first `count`, in order of first request; the others play no part.
+// The bills held are the first `count`, in order of first request; the others play no part. An array with its count beside it: memory is fixed by a rule of the
+// project, and a list that holds its own length (`arrayvec`) is not `Copy`, as a ledger by value is.
 #[derive(Clone, Copy)]
 pub struct Ledger {
     pub today: Date,

@@ -9,7 +9,7 @@ use units::{Cents, Date};
 fn is_letter(x: u8) -> bool
     ensures { result ≡ is_letter x }
 {
-    (65 <= x) & (x <= 90)
+    x.is_ascii_uppercase()
 }
 
 impl RateCode {

@@ -33,6 +33,7 @@ fn days_before_month(y: u64, m: u64) -> u64
     if crate::leap(y) { days + 1 } else { days }
 }
 
+// Four ask for a date by a clause: a type of dates alone would have to ask it where a value is made, at the same calls, since a ledger holds any number.
 impl Date {
     // How many days it stands after 1 January 1900.
     pub fn number(self) -> u64

@@ -77,7 +77,8 @@ fn posted_in(kind: u64, charge: u64, applied: u64, owed: u64) -> Posted
     Posted::None
 }
 
-// What a bill has from its latest request, of a place's words.
+// What a bill has from its latest request, of a place's words. Two clauses stand at the three that read a place: a struct that holds the slice would hold the
+// same two as ghost fields, and have one maker, for one caller.
 fn latest_in(w: &[u64]) -> Latest
     requires { place_size ≤ length w.now }
     ensures { result ≡ latest_in w.now }
@@ -114,6 +115,7 @@ fn terms_in(w: &[u64]) -> Terms
     let code = code_in(w);
     let product = Product::from(w[6] as u8);
     let latest = latest_in(w);
+    // 0 is none
     let removal = w[19];
     Terms {
         identity: Identity {
@@ -126,7 +128,6 @@ fn terms_in(w: &[u64]) -> Terms
         requests: w[8],
         cancelled: w[9] == 1,
         latest,
-        // 0 is none
         removal: (removal != 0).then_some(Date(removal)),
     }
 }
@@ -176,7 +177,6 @@ fn latest_words(r: Latest) -> [u64; 5]
 fn terms_words(t: Terms) -> [u64; 10]
     ensures { result ≡ terms_words t }
 {
-    let p = t.product;
     [
         t.identity.account,
         t.identity.key,
@@ -184,7 +184,7 @@ fn terms_words(t: Terms) -> [u64; 10]
         u64::from(t.code.second),
         u64::from(t.code.tens),
         u64::from(t.code.ones),
-        u64::from(u8::from(p)),
+        u64::from(u8::from(t.product)),
         t.sequence,
         t.requests,
         u64::from(t.cancelled),
@@ -196,16 +196,11 @@ pub fn put_bill(words: &mut [u64], at: usize, b: Bill)
     requires { at + place_size ≤ length words.old }
     ensures { words.new ≡ put words.old at (bill_words b) }
 {
-    let t = b.terms;
-    let r = t.latest;
-    let p = b.posted;
-    let first = terms_words(t);
-    let second = latest_words(r);
-    let removal = t.removal;
-    let third = last_words(p, removal.map_or(0, |d| d.0));
-    words[at..at + 10].copy_from_slice(&first);
-    words[at + 10..at + 15].copy_from_slice(&second);
-    words[at + 15..at + PLACE_SIZE].copy_from_slice(&third);
+    // word 19 is 0 where there is no removal date
+    let removal = b.terms.removal.map_or(0, |d| d.0);
+    words[at..at + 10].copy_from_slice(&terms_words(b.terms));
+    words[at + 10..at + 15].copy_from_slice(&latest_words(b.terms.latest));
+    words[at + 15..at + PLACE_SIZE].copy_from_slice(&last_words(b.posted, removal));
 }
 
 // Writes the words of a ledger with no bills, which read back as that ledger; none is made.

@@ -13,8 +13,8 @@ use Rattle.words.proofs.put_bill.Goals as goal
 pub returns : goal.returns
 returns c =
     let b = c.args.b in
-    let removal : c.map_or.result ≡ removal_word b.terms.removal = search rules in
+    let removal : c.map_or-removal.result ≡ removal_word b.terms.removal = search rules in
     put-parts b c.args.at c.args.words.now _ _ _ (omega arith)
-    (put-mid _ _ _ _ (omega (arith, c.copy_from_slice.ensures.len)) ∙ ap (put _ _) (c.copy_from_slice.ensures.after ∙ c.terms_words-first.ensures))
-    (put-mid _ _ _ _ (omega (arith, c.copy_from_slice-2.ensures.len)) ∙ ap (put _ _) (c.copy_from_slice-2.ensures.after ∙ c.latest_words-second.ensures))
-    (put-mid _ _ _ _ (omega (arith, c.copy_from_slice-3.ensures.len)) ∙ ap (put _ _) (c.copy_from_slice-3.ensures.after ∙ c.last_words-third.ensures ∙ ap (λ (w : ℕ). posted_words b.posted ++ (w ∷ [])) removal))
+    (put-mid _ _ _ _ (omega (arith, c.copy_from_slice.ensures.len)) ∙ ap (put _ _) (c.copy_from_slice.ensures.after ∙ c.terms_words.ensures))
+    (put-mid _ _ _ _ (omega (arith, c.copy_from_slice-2.ensures.len)) ∙ ap (put _ _) (c.copy_from_slice-2.ensures.after ∙ c.latest_words.ensures))
+    (put-mid _ _ _ _ (omega (arith, c.copy_from_slice-3.ensures.len)) ∙ ap (put _ _) (c.copy_from_slice-3.ensures.after ∙ c.last_words.ensures ∙ ap (λ (w : ℕ). posted_words b.posted ++ (w ∷ [])) removal))
