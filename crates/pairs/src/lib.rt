@@ -41,10 +41,7 @@ fn group_number(s: &[u8], i: usize, n: usize) -> u64
     if code == 0 {
         return 0;
     }
-    let a = i * RECORD_SIZE;
-    let b = (i + 1) * RECORD_SIZE;
-    let e = b + RECORD_SIZE;
-    named(&s[a..b], &s[b..e], code)
+    named(records::record_at(s, i), records::record_at(s, i + 1), code)
 }
 
 // The number of record i, 0 where it is no header.
