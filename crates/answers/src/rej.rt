@@ -68,9 +68,13 @@ fn put_detail_at(out: &mut [u8], at: usize, s: &[u8], i: usize, j: usize, sup: b
     requires { (at + record_size + j * record_size + record_size ≤ length out.old) × ((i + 1 + j) * record_size + record_size ≤ length s.now) }
     ensures { out.new ≡ put out.old (at + record_size + j * record_size) (rej_detail sup (record_at s.now (i + 1 + j)) x) }
 {
-    let a = (i + 1 + j) * RECORD_SIZE;
-    let e = a + RECORD_SIZE;
-    put_detail(out, at + RECORD_SIZE + j * RECORD_SIZE, &s[a..e], sup, x);
+    put_detail(
+        out,
+        at + RECORD_SIZE + j * RECORD_SIZE,
+        records::record_at(s, i + 1 + j),
+        sup,
+        x,
+    );
 }
 
 // Writes the REJ for the group of the file s whose header is record i and which has k details: k + 1 records.
@@ -78,10 +82,9 @@ pub fn write(out: &mut [u8], at: usize, s: &[u8], i: usize, k: usize, x: Rej)
     requires { (at + (k + 1) * record_size ≤ length out.old) × ((i + 1 + k) * record_size ≤ length s.now) }
     ensures { out.new ≡ put out.old at (rej (record_at s.now i) (records_from s.now (i + 1) k) x) }
 {
-    let a = i * RECORD_SIZE;
-    let e = a + RECORD_SIZE;
-    let sup = is_sup(&s[a..e]);
-    put_header(out, at, &s[a..e], x);
+    let h = records::record_at(s, i);
+    let sup = is_sup(h);
+    put_header(out, at, h, x);
     for j in 0..k {
         put_detail_at(out, at, s, i, j, sup, x);
     }

@@ -73,7 +73,7 @@ pub fn code_field(s: &[u8]) -> CodeField
     }
 }
 
-// What a request takes: the rate code in five bytes, the product as B or P.
+// What a request takes: the rate code in five bytes, the product as B or P (a byte and no Product, since that it is one of the two is asked of the call by cause 2).
 #[derive(Clone, Copy)]
 pub struct Request {
     pub code: CodeField,

@@ -59,7 +59,7 @@ fn put_cxl(out: &mut [u8], h: LedgerHeader, b: Bill)
     );
 }
 
-// The notice of a request or a cancel: b stood at its place, and k does now.
+// The notice of a request or a cancel: b stood at its place, and k does now. (`writes` and no closure: one contract says what stands in the output either way.)
 pub fn put(
     out: &mut [u8],
     writes: bool,

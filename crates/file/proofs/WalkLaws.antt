@@ -2,29 +2,16 @@
 use mathlib.Core.Path.{◌≡◌, refl, sym, ap, ◌∙◌}
 use mathlib.Core.Bool.{Bool, true, false, cond, ◌||◌, or_assoc, or-true}
 use mathlib.Core.List.{List, [], ◌∷◌, ◌++◌, append-nil}
-use Prim.Native.Nat.{ℕ, zero, suc, ◌+◌, ◌-◌, ◌*◌, ◌≤◌, ◌<◌}
+use Prim.Native.Nat.{ℕ, zero, suc, ◌+◌, ◌-◌, ◌≤◌, ◌<◌}
 use native.Mathlib.Omega.{arith}
 use native.Mathlib.Numerals.{add-one}
 use native.Mathlib.Nat.{not-suc-le-zero}
 use native.Mathlib.Decide.{dec_le}
-use lib.ListN.{take, drop}
-use Rattle.fields.specs.Put.{part}
 use Rattle.rules.specs.Lists.{has}
 use Rattle.records.specs.Layout.{record_at, records_from}
-use Rattle.records.proofs.LayoutLaws.{lent-record}
 use Rattle.file.specs.File.{is_header, Group, groups}
 use Rattle.file.specs.parts.Walk.{group_at, before, later}
 use Rattle.file.proofs.FileLaws.{groups-header, groups-detail, groups-end}
-
--- the part that is lent for a header, and for the detail after it
-pub lent-head : (s : List ℕ) (i : ℕ) → take ((i + 1) * 321 - i * 321) (drop (i * 321) s) ≡ record_at s i
-unfolding part
-lent-head s i =
-    let e : (i + 1) * 321 - i * 321 ≡ 321 = omega arith in
-    ap (λ (k : ℕ). take k (drop (i * 321) s)) e
-
-pub lent-next : (s : List ℕ) (i : ℕ) → take ((i + 1) * 321 + 321 - (i + 1) * 321) (drop ((i + 1) * 321) s) ≡ record_at s (i + 1)
-lent-next s i = lent-record s (i + 1)
 
 -- one record more
 module _ (s : List ℕ) (n i : ℕ) where

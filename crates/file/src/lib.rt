@@ -45,9 +45,7 @@ pub fn header_at(s: &[u8], i: usize) -> bool
     requires { i * record_size + record_size ≤ length s.now }
     ensures { result ≡ is_header (record_at s.now i) }
 {
-    let a = i * RECORD_SIZE;
-    let e = a + RECORD_SIZE;
-    is_header(&s[a..e])
+    is_header(records::record_at(s, i))
 }
 
 // Whether record i has the Notification Code SUP.
@@ -55,9 +53,7 @@ pub fn sup_at(s: &[u8], i: usize) -> bool
     requires { i * record_size + record_size ≤ length s.now }
     ensures { result ≡ is_sup (record_at s.now i) }
 {
-    let a = i * RECORD_SIZE;
-    let e = a + RECORD_SIZE;
-    layout::NOTICE.holds(&s[a..e], b"SUP")
+    layout::NOTICE.holds(records::record_at(s, i), b"SUP")
 }
 
 // The check of a whole file: cause 11 where it is false.
@@ -155,8 +151,5 @@ pub fn form_at(s: &[u8], i: usize, n: usize) -> Result<Notification, ErrorCode>
     if k != 1 {
         return Err(ErrorCode::Br17);
     }
-    let a = i * RECORD_SIZE;
-    let b = (i + 1) * RECORD_SIZE;
-    let e = b + RECORD_SIZE;
-    pair_form(&s[a..b], &s[b..e])
+    pair_form(records::record_at(s, i), records::record_at(s, i + 1))
 }

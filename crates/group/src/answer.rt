@@ -33,12 +33,11 @@ fn write_acf(out: &mut [u8], at: usize, s: &[u8], i: usize, a: Acf)
     requires { (i * record_size + record_size ≤ length s.now) × (at + record_size ≤ length out.old) }
     ensures { out.new ≡ put out.old at (acf (record_at s.now i) a) }
 {
-    let b = i * RECORD_SIZE;
-    let e = b + RECORD_SIZE;
-    answers::acf::write(out, at, &s[b..e], a);
+    answers::acf::write(out, at, records::record_at(s, i), a);
 }
 
-// Writes the answer to the group g, where b is the bill at its place, if notices are written, and says how long it is.
+// Writes the answer to the group g, where b is the bill at its place, if notices are written, and says how long it is. (`writes` and no closure in its place: the
+// length is told where nothing is written too, and a closure's contract would have to say what it writes at each place, as this one does.)
 pub fn answer(
     out: &mut [u8],
     at: usize,

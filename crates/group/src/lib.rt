@@ -64,10 +64,7 @@ pub fn identity_at(s: &[u8], i: usize, n: usize) -> Identity
     if n <= j {
         return Identity { account: 0, key: 0 };
     }
-    let a = i * RECORD_SIZE;
-    let b = j * RECORD_SIZE;
-    let e = b + RECORD_SIZE;
-    identity_of(&s[a..b], &s[b..e])
+    identity_of(records::record_at(s, i), records::record_at(s, j))
 }
 
 // Lines 1 to 10 for the group whose header is record i; duplicate says what line 3 asks, b is the bill it names.
@@ -87,10 +84,9 @@ pub fn verdict_at(
     if duplicate {
         return Err(ErrorCode::Br14);
     }
-    let a = i * RECORD_SIZE;
-    let m = (i + 1) * RECORD_SIZE;
-    let e = m + RECORD_SIZE;
-    verdict::verdict_of(&s[a..m], &s[m..e], notification, b, today)
+    let h = records::record_at(s, i);
+    let d = records::record_at(s, i + 1);
+    verdict::verdict_of(h, d, notification, b, today)
 }
 
 // The headers of groups that get BR14. (Most entries of a journal are no file: they are not searched.)

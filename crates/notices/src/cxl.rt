@@ -8,7 +8,8 @@ use ledger::Terms;
 use records::layout;
 use units::Date;
 
-// What a CXL holds: the bill's terms, and the numbers that the cancel uses.
+// What a CXL holds: the bill's terms, and the numbers that the cancel uses. (No type with an ACF's fields for both: the type is what keeps one from being written as
+// the other.)
 #[derive(Clone, Copy)]
 pub struct Cxl {
     pub terms: Terms,

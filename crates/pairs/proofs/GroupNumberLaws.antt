@@ -21,10 +21,8 @@ use Rattle.file.specs.parts.Walk.{group_at}
 use Rattle.file.proofs.FileLaws.{header_is, only-detail}
 use Rattle.file.proofs.FormLaws.{one-detail, one-within, one-fit, fit-numeric}
 use Rattle.pairs.specs.parts.GroupNumbers.{code_number, named_by, group_number, number_at}
-use Rattle.records.specs.declared.Notification.{Notification}
 use Rattle.records.specs.declared.Notification.TheVariants.{Response, Supplement}
-use Rattle.rules.specs.declared.ErrorCode.{ErrorCode}
-use Rattle.std.specs.Prelude.{Result, Ok, Err}
+use Rattle.std.specs.Prelude.{Ok}
 
 -- ---- three numbers as one
 abbrev whole : ℕ → ℕ → ℕ → ℕ

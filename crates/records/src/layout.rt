@@ -1,4 +1,5 @@
 // Where each field of a record stands and how many bytes it has, in document 01's order; and what is read of a field and written to it, the same for each.
+// (The table's lines are alike, and each says another field.)
 ghost use Rattle.std.specs.Prelude.{◌≡◌, ◌+◌, ◌≤◌, length};
 ghost use Rattle.fields.specs.Digits.{digits, numeric};
 ghost use Rattle.fields.specs.Put.{put, part, filled, same_list};

@@ -3,9 +3,11 @@
 
 pub mod layout;
 
-ghost use Rattle.std.specs.Prelude.{◌≡◌, ◌+◌, ◌≤◌, ◌<◌, ◌^◌, length};
+ghost use Rattle.std.specs.Prelude.{◌≡◌, ◌+◌, ◌*◌, ◌≤◌, ◌<◌, ◌^◌, length};
 ghost use Rattle.fields.specs.Put.{part};
 ghost use Rattle.fields.specs.Field.{field_of};
+ghost use Rattle.records.specs.Limits.{record_size};
+ghost use Rattle.records.specs.Layout.{record_at};
 ghost use Rattle.records.specs.Tiers.{four_fields, tier_consumptions, tier_charges};
 
 use layout::Field;
@@ -18,6 +20,15 @@ pub const NOTICE_SIZE: usize = 642;
 pub const FILE_RECORDS: usize = 200;
 
 pub const FILE_SIZE: usize = 64200;
+
+// Record i of the file s.
+pub fn record_at<'a>(s: &'a [u8], i: usize) -> &'a [u8]
+    requires { i * record_size + record_size ≤ length s.now }
+    ensures { (result.now ≡ record_at s.now i) × (length result.now ≡ record_size) }
+{
+    let at = i * RECORD_SIZE;
+    &s[at..at + RECORD_SIZE]
+}
 
 // A field's number in each of the four tiers.
 #[derive(Clone, Copy)]

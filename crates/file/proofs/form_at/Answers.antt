@@ -1,20 +1,19 @@
--- `file::form_at` meets its contract: a group with one detail is judged by the two records lent.
+-- `file::form_at` meets its contract: a group with one detail is judged by its two records.
 use mathlib.Core.Path.{sym, ap₂, ◌∙◌}
 use native.Mathlib.Omega.{arith}
 use Rattle.file.specs.parts.Walk.{pair_form}
 use Rattle.file.proofs.FileLaws.{leading-within, form-many, form-one}
-use Rattle.file.proofs.WalkLaws.{lent-head, lent-next}
 use Rattle.file.proofs.form_at.Goals as goal
 
 pub returns-then-k-ne1 : goal.returns-then-k-ne1
 returns-then-k-ne1 c = form-many c.args.s.now c.args.i c.args.n (λ e. c.if-k-ne1.true (c.detail_count-k.ensures ∙ e))
 
-pub slice_bounds-pair_form-end-2 : goal.slice_bounds-pair_form-end-2
-slice_bounds-pair_form-end-2 c = omega (arith, leading-within c.args.s.now c.args.i c.args.n, c.detail_count-k.ensures)
+pub record_at-requires-2 : goal.record_at-requires-2
+record_at-requires-2 c = omega (arith, leading-within c.args.s.now c.args.i c.args.n, c.detail_count-k.ensures)
 
 pub returns : goal.returns
 returns c =
     let s = c.args.s.now in
     let i = c.args.i in
     let e = sym c.detail_count-k.ensures ∙ c.if-k-ne1.false in
-    c.pair_form.ensures ∙ ap₂ pair_form (lent-head s i) (lent-next s i) ∙ form-one s i c.args.n e
+    c.pair_form.ensures ∙ ap₂ pair_form c.record_at.ensures.0 c.record_at-2.ensures.0 ∙ form-one s i c.args.n e

@@ -1,6 +1,5 @@
 -- `group::identity_at` meets its contract.
 use borrow.Author.Tests.{le-leb, lt-leb}
-use Rattle.file.proofs.WalkLaws.{lent-head, lent-next}
 use Rattle.group.specs.parts.Turns.{identity_at}
 use Rattle.group.proofs.identity_at.Goals as goal
 
@@ -10,4 +9,4 @@ returns-then-n-j c = rw (le-leb _ _ c.if-n-j.true)
 
 pub returns : goal.returns
 unfolding identity_at
-returns c = rw (lt-leb _ _ c.if-n-j.false, ← lent-head c.args.s.now c.args.i, ← lent-next c.args.s.now c.args.i) c.identity_of.ensures
+returns c = rw (lt-leb _ _ c.if-n-j.false, ← c.record_at.ensures.0, ← c.record_at-2.ensures.0) c.identity_of.ensures

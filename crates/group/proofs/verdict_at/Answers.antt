@@ -1,14 +1,11 @@
 -- `group::verdict_at` meets its contract: each return is a line of the list.
-use Prim.Native.Nat.{◌+◌, ◌-◌, ◌*◌}
 use mathlib.Core.Path.{◌≡◌, sym, ◌∙◌}
 use mathlib.Core.Bool.{false}
 use native.Mathlib.Omega.{arith}
-use lib.ListN.{take, drop}
 use Rattle.file.specs.File.{Group, form_of, detail_of, line1, line2}
 use Rattle.records.specs.declared.Notification.{Notification}
 use Rattle.file.specs.parts.Walk.{group_at}
 use Rattle.file.proofs.FileLaws.{header_is, only-detail}
-use Rattle.file.proofs.WalkLaws.{lent-head, lent-next}
 use Rattle.file.proofs.FormLaws.{says, one-detail, one-within}
 use Rattle.verdict.specs.Lines.{verdict_of}
 use Rattle.group.specs.Groups.{notification_of}
@@ -32,8 +29,8 @@ returns-then-duplicate c =
     let q = passed _ _ (sym c.form_at.ensures ∙ c.in_ok-notification.was) in
     verdict-line3 _ _ _ _ q.0 q.1 c.if-duplicate.true
 
-pub slice_bounds-verdict_of-end-2 : goal.slice_bounds-verdict_of-end-2
-slice_bounds-verdict_of-end-2 c =
+pub record_at-d-requires : goal.record_at-d-requires
+record_at-d-requires c =
     let q = passed _ _ (sym c.form_at.ensures ∙ c.in_ok-notification.was) in
     omega (arith, one-within c.args.s.now c.args.i c.args.n q.0)
 
@@ -44,7 +41,7 @@ returns c =
     let n = c.args.n in
     let g = group_at s i n in
     let q = passed _ _ (sym c.form_at.ensures ∙ c.in_ok-notification.was) in
-    let e : verdict_of c.in_ok-notification.notification c.args.today (take ((i + 1) * 321 - i * 321) (drop (i * 321) s)) (take ((i + 1) * 321 + 321 - (i + 1) * 321) (drop ((i + 1) * 321) s)) c.args.b
+    let e : verdict_of c.in_ok-notification.notification c.args.today c.record_at-h.result.now c.record_at-d.result.now c.args.b
     ≡ verdict_of (notification_of g) c.args.today g.header (detail_of g) c.args.b =
-    rw (lent-head s i, lent-next s i, q.2, header_is s i n, only-detail s i n (one-detail s i n q.0)) in
+    rw (c.record_at-h.ensures.0, c.record_at-d.ensures.0, q.2, header_is s i n, only-detail s i n (one-detail s i n q.0)) in
     c.verdict_of.ensures ∙ e ∙ verdict-rest c.args.duplicate c.args.today c.args.b g q.0 q.1 c.if-duplicate.false

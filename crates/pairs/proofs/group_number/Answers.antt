@@ -1,13 +1,10 @@
 -- `pairs::group_number` meets its contract: the number is that of the two records lent.
-use Prim.Native.Nat.{◌+◌, ◌-◌, ◌*◌}
 use mathlib.Core.Path.{◌≡◌, sym, ap, ◌∙◌}
 use native.Mathlib.Omega.{arith}
 use borrow.Author.Tests.{ne_eqb}
-use lib.ListN.{take, drop}
 use Rattle.file.specs.File.{detail_of, form_of}
 use Rattle.file.specs.parts.Walk.{group_at}
 use Rattle.file.proofs.FileLaws.{header_is, only-detail}
-use Rattle.file.proofs.WalkLaws.{lent-head, lent-next}
 use Rattle.file.proofs.FormLaws.{one-detail, one-within}
 use Rattle.pairs.specs.parts.GroupNumbers.{code_number, named_by, group_number}
 use Rattle.pairs.proofs.GroupNumberLaws.{code-line1}
@@ -17,8 +14,8 @@ pub returns-then-code-eq0 : goal.returns-then-code-eq0
 unfolding group_number
 returns-then-code-eq0 c = rw (sym (c.code_number-code.ensures.0 ∙ ap code_number c.form_at-form.ensures) ∙ c.if-code-eq0.true)
 
-pub slice_bounds-named-end-2 : goal.slice_bounds-named-end-2
-slice_bounds-named-end-2 c =
+pub record_at-requires-2 : goal.record_at-requires-2
+record_at-requires-2 c =
     let a = c.args in
     let k = c.code_number-code.ensures.0 ∙ ap code_number c.form_at-form.ensures in
     omega (arith, one-within a.s.now a.i a.n (code-line1 (group_at a.s.now a.i a.n) (λ z. c.if-code-eq0.false (k ∙ z))))
@@ -31,7 +28,7 @@ returns c =
     let n = c.args.n in
     let k = c.code_number-code.ensures.0 ∙ ap code_number c.form_at-form.ensures in
     let l = code-line1 (group_at s i n) (λ z. c.if-code-eq0.false (k ∙ z)) in
-    let e : named_by (take ((i + 1) * 321 - i * 321) (drop (i * 321) s)) (take ((i + 1) * 321 + 321 - (i + 1) * 321) (drop ((i + 1) * 321) s)) c.code_number-code.result
+    let e : named_by c.record_at.result.now c.record_at-2.result.now c.code_number-code.result
     ≡ named_by (group_at s i n).header (detail_of (group_at s i n)) (code_number (form_of (group_at s i n))) =
-    rw (lent-head s i, lent-next s i, k, header_is s i n, only-detail s i n (one-detail s i n l)) in
+    rw (c.record_at.ensures.0, c.record_at-2.ensures.0, k, header_is s i n, only-detail s i n (one-detail s i n l)) in
     rw (ne_eqb (code_number (form_of (group_at s i n))) 0 (λ z. c.if-code-eq0.false (k ∙ z))) (c.named.ensures ∙ e)

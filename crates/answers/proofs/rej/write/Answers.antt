@@ -6,7 +6,7 @@ use Rattle.fields.proofs.PutLaws.{first, next, put-nil}
 use Rattle.records.specs.Layout.{record_at, is_sup}
 use Rattle.notices.specs.Answers.{rej_header, rej}
 use Rattle.notices.proofs.AnswerLaws.{length-rej-header}
-use Rattle.records.proofs.LayoutLaws.{lent-record, long-record}
+use Rattle.records.proofs.LayoutLaws.{long-record}
 use Rattle.notices.proofs.RecordLaws.{details-none, details-more, long-detail}
 use Rattle.answers.proofs.rej.write.Goals as goal
 
@@ -40,7 +40,7 @@ returns c =
     let a = c.args in
     let l = c.loop-j in
     let e : l.j ≡ a.k = omega arith in
-    let z = lent-record a.s.now a.i in
+    let z = c.record_at-h.ensures.0 in
     let h = first a.out.now a.at (rej_header (record_at a.s.now a.i) a.x) (omega (arith, c.requires)) (rw z at c.put_header.ensures)
     (length-rej-header (record_at a.s.now a.i) (omega (arith, long-record a.s.now a.i (omega (arith, c.requires)))) a.x) in
     let sup : c.is_sup-sup.result ≡ is_sup (record_at a.s.now a.i) = rw z at c.is_sup-sup.ensures in
