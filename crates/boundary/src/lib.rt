@@ -75,7 +75,7 @@ pub fn call(
     s: &[u8],
 ) -> u64
     ensures gives { Gives (entry_in (length out.old) ledger.old body s.now) ledger.old change.old counts.old ledger.new change.new counts.new result }
-    ensures out_after { out.new ≡ put out.old 0 (entry_written (length out.old) (ledger_of ledger.old) body s.now) }
+    ensures written { out.new ≡ put out.old 0 (entry_written (length out.old) (ledger_of ledger.old) body s.now) }
 {
     let a = make(ledger, out, body, s);
     give(change, counts, a)
@@ -91,7 +91,7 @@ pub fn call_by_calendar(
     holidays: &[u64],
 ) -> u64
     ensures gives { Gives (called (ledger_of ledger.old) (calendar q holidays.now (length out.old))) ledger.old change.old counts.old ledger.new change.new counts.new result }
-    ensures out_after { out.new ≡ put out.old 0 (step_in (ledger_of ledger.old) (calendar q holidays.now (length out.old))).written }
+    ensures written { out.new ≡ put out.old 0 (step_in (ledger_of ledger.old) (calendar q holidays.now (length out.old))).written }
 {
     let a = make_by_calendar(ledger, out, q, holidays);
     give(change, counts, a)
