@@ -56,6 +56,7 @@ fn give(change: &mut i64, counts: &mut [u64; 4], a: Result<Returned, Cause>) -> 
     match a {
         Err(cause) => cause.number(),
         Ok(r) => {
+            // Rust has no `From` of a usize for u64, here and in clearing_c: the cast loses nothing.
             let cents = r.change;
             *change = cents;
             let all = [r.written as u64, r.accepted, r.rejected, r.closed];
@@ -81,7 +82,7 @@ pub fn call(
     give(change, counts, a)
 }
 
-// The same of a request by calendar, with the holidays lent to it.
+// The same of a request by calendar, with the holidays lent to it. It is no case of `call`: a journal has no such entry, so no body says it; `give` is what both share.
 pub fn call_by_calendar(
     ledger: &mut [u64],
     out: &mut [u8],

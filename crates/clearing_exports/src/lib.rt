@@ -1,4 +1,5 @@
-// The static library for C and Rust programs: each function exports the one of crate clearing_c under the same name, with the same contract.
+// The static library for C and Rust programs: each function exports the one of crate clearing_c under the same name, with the same contract. A static library
+// exports no function of the crates below it, so the C interface needs each signature twice.
 // include/clearing.h is its header.
 #![tactic(auto)]
 

@@ -35,6 +35,7 @@ pub enum Wanted {
 }
 
 // The memory that a program reads with: the ledger in words, the bytes that came, and those that are to be written.
+// Arrays, and no lent slices: their lengths stand in the type, and slices would bring them back into the clauses of each function that reads.
 #[derive(Drop)]
 pub struct Buffers<const ROOM: usize> {
     pub ws: [u64; words::LEDGER_SIZE],
