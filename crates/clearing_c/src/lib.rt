@@ -1,6 +1,6 @@
 // The calls for C and Rust programs: numbers and lent slices only, the ledger lent as 2,564 words (crate words). include/clearing.h is the
 // header. Each answers 0 if it was carried out, else the number of its cause, and then every lent buffer holds what it held (but for what
-// clearing_entry found of the entry).
+// clearing_entry found of the entry). No struct crosses the C interface, so functions alike in what they take name each number again.
 #![tactic(auto)]
 
 pub mod days;
