@@ -2,13 +2,11 @@
 use Prim.Native.Nat.{ℕ, ◌-◌}
 use mathlib.Core.Path.{◌≡◌, refl, ◌∙◌, sym, ap}
 use mathlib.Core.Bool.{true, false}
-use mathlib.Core.Logic.{⊎_elim}
 use mathlib.Core.List.{List, [], ◌∷◌}
 use native.Mathlib.Omega.{arith}
 use lib.ListN.{length, take, drop}
 use lib.IntN.{ℤ}
 use borrow.Author.Tests.{ne_eqb}
-use denote.Enum.Declared.{tag_of}
 use Rattle.fields.specs.Put.{put, part}
 use Rattle.fields.proofs.PutLaws.{put-nil}
 use Rattle.ledger.specs.Sound.{sound_ledger}
@@ -31,7 +29,6 @@ use Rattle.journal.specs.declared.Head.{Head}
 use Rattle.journal.specs.declared.Head.TheVariants.{Cut, Bad, Whole}
 use Rattle.journal.specs.Entries.{head_of}
 use Rattle.journal.specs.EntryCalls.{entry_called, entry_written}
-use Rattle.journal.specs.contracts.Body as declared
 use Rattle.journal.proofs.MadeLaws.{Taken}
 use Rattle.engine.specs.parts.Calls.{CalledIn, FreshLeaves}
 use Rattle.entries.specs.parts.Stepping.{EntryCalledIn}

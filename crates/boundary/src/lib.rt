@@ -56,6 +56,7 @@ fn give(change: &mut i64, counts: &mut [u64; 4], a: Result<Returned, Cause>) -> 
     match a {
         Err(cause) => u64::from(cause),
         Ok(r) => {
+            // Rust has no `From` of a usize for u64, here and in clearing_c: the cast loses nothing.
             let cents = r.change;
             *change = cents;
             let all = [r.written as u64, r.accepted, r.rejected, r.closed];
@@ -75,13 +76,13 @@ pub fn call(
     s: &[u8],
 ) -> u64
     ensures gives { Gives (entry_in (length out.old) ledger.old body s.now) ledger.old change.old counts.old ledger.new change.new counts.new result }
-    ensures out_after { out.new ≡ put out.old 0 (entry_written (length out.old) (ledger_of ledger.old) body s.now) }
+    ensures written { out.new ≡ put out.old 0 (entry_written (length out.old) (ledger_of ledger.old) body s.now) }
 {
     let a = make(ledger, out, body, s);
     give(change, counts, a)
 }
 
-// The same of a request by calendar, with the holidays lent to it.
+// The same of a request by calendar, with the holidays lent to it. It is no case of `call`: a journal has no such entry, so no body says it; `give` is what both share.
 pub fn call_by_calendar(
     ledger: &mut [u64],
     out: &mut [u8],
@@ -91,7 +92,7 @@ pub fn call_by_calendar(
     holidays: &[u64],
 ) -> u64
     ensures gives { Gives (called (ledger_of ledger.old) (calendar q holidays.now (length out.old))) ledger.old change.old counts.old ledger.new change.new counts.new result }
-    ensures out_after { out.new ≡ put out.old 0 (step_in (ledger_of ledger.old) (calendar q holidays.now (length out.old))).written }
+    ensures written { out.new ≡ put out.old 0 (step_in (ledger_of ledger.old) (calendar q holidays.now (length out.old))).written }
 {
     let a = make_by_calendar(ledger, out, q, holidays);
     give(change, counts, a)

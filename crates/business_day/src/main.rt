@@ -7,7 +7,7 @@ ghost use Rattle.business_day.specs.Answering.{input_room, StopsAt, Took, Answer
 
 use std::io;
 use std::io::{Read, Write};
-use streams::output::{Failed, Output, Stream, Streams};
+use streams::output::{Failed, Output, Streams};
 use streams::{arguments, output};
 
 // One byte more than the longest input that is not refused.
@@ -60,26 +60,6 @@ fn line_of_input<R: Read, O, E: Write>(
     holidays::print_day(out, date, number, &buf[..length])
 }
 
-// Reads standard input; what is left to write, to standard output, is the line in `out`.
-fn answer_input<R: Read, O, E: Write>(
-    streams: &mut Streams<R, O, E>,
-    out: &mut [u8],
-    buf: &mut [u8],
-    date: &[u8],
-    number: &[u8],
-) -> Output
-    requires { (length buf.old ≡ input_room) × (day_room ≤ length out.old) }
-    ensures answer { (result.stream ≡ Stream.Stdout) × Answers date.now number.now buf.new out.new result.length }
-    ensures all { IfSome (R.remaining streams.old.input) (λ input. AnswersAll date.now number.now input out.new result.length) }
-    ensures output { streams.new.output ≡ streams.old.output }
-{
-    let length = line_of_input(streams, out, buf, date, number);
-    Output {
-        stream: Stream::Stdout,
-        length,
-    }
-}
-
 // Writes the answer to standard output; whether it could be written. What failed is told on standard error.
 fn answer<R: Read, O: Write, E: Write>(
     streams: &mut Streams<R, O, E>,
@@ -91,8 +71,8 @@ fn answer<R: Read, O: Write, E: Write>(
 {
     let mut buf = [0u8; INPUT_ROOM];
     let mut out = [0u8; holidays::DAY_ROOM];
-    let o = answer_input(streams, &mut out, &mut buf, date, number);
-    streams.send(o, &out)
+    let length = line_of_input(streams, &mut out, &mut buf, date, number);
+    streams.send(Output::printed(length), &out)
 }
 
 fn main(rt: HostRuntime) {

@@ -1,5 +1,5 @@
 -- Demand 3 through the boundary: a list of calls on a ledger in words, each on the words that the one before left. Assumes nothing.
-use Rattle.std.specs.Prelude.{ℕ, ◌≡◌, cond, List, [], ◌∷◌, ◌++◌, map, eqb, length, get_or, ℤ, pos, ◌+ℤ◌, Result, Ok, Err, ⊤}
+use Rattle.std.specs.Prelude.{ℕ, ◌≡◌, cond, List, [], ◌∷◌, ◌++◌, map, eqb, length, get_or, ℤ, pos, ◌+ℤ◌, Ok}
 use Rattle.fields.specs.Put.{part, put}
 use Rattle.ledger.specs.Books.{book}
 use Rattle.words.specs.Layout.{ledger_of, ledger_size}
@@ -11,7 +11,6 @@ use Rattle.history.specs.History.{begun, history_sum, h_after, h_causes}
 use Rattle.history.specs.Written.{assigned_in}
 use Rattle.history.specs.Claim.{NoneTwice, ByValue}
 use Rattle.boundary.specs.Boundary.{fresh_in, Gives, number_of}
-use Rattle.rules.specs.declared.Cause.{Cause}
 
 -- what a caller holds after a call: the number answered, and what stands in `change`, `counts` and the output
 pub record Held : Type 0 where

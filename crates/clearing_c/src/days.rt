@@ -8,17 +8,18 @@ use units::Date;
 
 // The weekday of a date, 1 Monday to 7 Sunday.
 pub fn clearing_weekday(date: u64, weekday: &mut u64) -> u64
-    ensures value { result ≡ number_of (weekday_of date) }
-    ensures weekday_after { weekday.new ≡ number_left weekday.old (weekday_of date) }
+    ensures answer { result ≡ number_of (weekday_of date) }
+    ensures stored { weekday.new ≡ number_left weekday.old (weekday_of date) }
 {
     let found = calendar::weekday_of(Date(date));
     crate::store_number(weekday, found)
 }
 
-// Stores a day that was found, and gives the number of the answer.
+// Stores a day that was found, and gives the number of the answer: one function of numbers and days would take a closure from each caller that says what number
+// a day is, and its contract would speak of that.
 fn store_day(day: &mut u64, found: Result<Date, Cause>) -> u64
-    ensures value { result ≡ number_of found }
-    ensures day_after { day.new ≡ date_left day.old found }
+    ensures answer { result ≡ number_of found }
+    ensures stored { day.new ≡ date_left day.old found }
 {
     match found {
         Ok(d) => {
@@ -31,8 +32,8 @@ fn store_day(day: &mut u64, found: Result<Date, Cause>) -> u64
 
 // The first business day after a date.
 pub fn clearing_next_business_day(date: u64, holidays: &[u64], day: &mut u64) -> u64
-    ensures value { result ≡ number_of (next_day holidays.now date) }
-    ensures day_after { day.new ≡ date_left day.old (next_day holidays.now date) }
+    ensures answer { result ≡ number_of (next_day holidays.now date) }
+    ensures stored { day.new ≡ date_left day.old (next_day holidays.now date) }
 {
     let found = calendar::next_business_day(Date(date), holidays);
     store_day(day, found)
@@ -40,8 +41,8 @@ pub fn clearing_next_business_day(date: u64, holidays: &[u64], day: &mut u64) ->
 
 // The business day so many further on from a date.
 pub fn clearing_business_day(date: u64, number: u64, holidays: &[u64], day: &mut u64) -> u64
-    ensures value { result ≡ number_of (further_day holidays.now date number) }
-    ensures day_after { day.new ≡ date_left day.old (further_day holidays.now date number) }
+    ensures answer { result ≡ number_of (further_day holidays.now date number) }
+    ensures stored { day.new ≡ date_left day.old (further_day holidays.now date number) }
 {
     let found = calendar::business_day(Date(date), number, holidays);
     store_day(day, found)

@@ -1,6 +1,6 @@
 // The calls for C and Rust programs: numbers and lent slices only, the ledger lent as 2,564 words (crate words). include/clearing.h is the
 // header. Each answers 0 if it was carried out, else the number of its cause, and then every lent buffer holds what it held (but for what
-// clearing_entry found of the entry).
+// clearing_entry found of the entry). No struct crosses the C interface, so functions alike in what they take name each number again.
 #![tactic(auto)]
 
 pub mod days;
@@ -24,8 +24,8 @@ use units::{Ccf, Date};
 
 // Stores a number that was found, and gives the number of the answer.
 fn store_number(place: &mut u64, found: Result<u64, Cause>) -> u64
-    ensures value { result ≡ number_of found }
-    ensures place_after { place.new ≡ number_left place.old found }
+    ensures answer { result ≡ number_of found }
+    ensures stored { place.new ≡ number_left place.old found }
 {
     match found {
         Ok(n) => {
@@ -134,7 +134,7 @@ pub fn clearing_request(
     counts: &mut [u64; 4],
 ) -> u64
     ensures gives { Gives (called (ledger_of ledger.old) (request (request_of code.now (identity_from account key) product billing from consumption scheduled) (length out.old))) ledger.old change.old counts.old ledger.new change.new counts.new result }
-    ensures out_after { out.new ≡ put out.old 0 (step_in (ledger_of ledger.old) (request (request_of code.now (identity_from account key) product billing from consumption scheduled) (length out.old))).written }
+    ensures written { out.new ≡ put out.old 0 (step_in (ledger_of ledger.old) (request (request_of code.now (identity_from account key) product billing from consumption scheduled) (length out.old))).written }
 {
     let r = request_of(
         code,
@@ -166,7 +166,7 @@ pub fn clearing_request_by_calendar(
     counts: &mut [u64; 4],
 ) -> u64
     ensures gives { Gives (called (ledger_of ledger.old) (calendar (calendar_of code.now (identity_from account key) product billing from consumption number) holidays.now (length out.old))) ledger.old change.old counts.old ledger.new change.new counts.new result }
-    ensures out_after { out.new ≡ put out.old 0 (step_in (ledger_of ledger.old) (calendar (calendar_of code.now (identity_from account key) product billing from consumption number) holidays.now (length out.old))).written }
+    ensures written { out.new ≡ put out.old 0 (step_in (ledger_of ledger.old) (calendar (calendar_of code.now (identity_from account key) product billing from consumption number) holidays.now (length out.old))).written }
 {
     let request = request_of(code, account, key, product, billing, from, consumption, 0);
     let q = CalendarRequest { request, number };
@@ -182,7 +182,7 @@ pub fn clearing_file(
     counts: &mut [u64; 4],
 ) -> u64
     ensures gives { Gives (called (ledger_of ledger.old) (file s.now (length out.old))) ledger.old change.old counts.old ledger.new change.new counts.new result }
-    ensures out_after { out.new ≡ put out.old 0 (step_in (ledger_of ledger.old) (file s.now (length out.old))).written }
+    ensures written { out.new ≡ put out.old 0 (step_in (ledger_of ledger.old) (file s.now (length out.old))).written }
 {
     boundary::call(ledger, out, change, counts, Body::File, s)
 }
@@ -197,7 +197,7 @@ pub fn clearing_cancel(
     counts: &mut [u64; 4],
 ) -> u64
     ensures gives { Gives (called (ledger_of ledger.old) (cancel (identity_from account key) (length out.old))) ledger.old change.old counts.old ledger.new change.new counts.new result }
-    ensures out_after { out.new ≡ put out.old 0 (step_in (ledger_of ledger.old) (cancel (identity_from account key) (length out.old))).written }
+    ensures written { out.new ≡ put out.old 0 (step_in (ledger_of ledger.old) (cancel (identity_from account key) (length out.old))).written }
 {
     let id = Identity { account, key };
     boundary::call(ledger, out, change, counts, Body::Cancel(id), b"")
@@ -205,8 +205,8 @@ pub fn clearing_cancel(
 
 // Lookup: the place of the open bill of an account that is due first; of equals it is the one first requested.
 pub fn clearing_open_bill(ledger: &[u64], account: u64, place: &mut u64) -> u64
-    ensures value { result ≡ number_of (open_in (ledger_of ledger.now) account) }
-    ensures place_after { place.new ≡ number_left place.old (open_in (ledger_of ledger.now) account) }
+    ensures answer { result ≡ number_of (open_in (ledger_of ledger.now) account) }
+    ensures stored { place.new ≡ number_left place.old (open_in (ledger_of ledger.now) account) }
 {
     let found = lookups::open_bill_of(ledger, account);
     match found {
@@ -220,8 +220,8 @@ pub fn clearing_open_bill(ledger: &[u64], account: u64, place: &mut u64) -> u64
 
 // Lookup: charge, applied and owed of one bill.
 pub fn clearing_amounts(ledger: &[u64], account: u64, key: u64, amounts: &mut [u64; 3]) -> u64
-    ensures value { result ≡ number_of (amounts_in (ledger_of ledger.now) (identity_from account key)) }
-    ensures amounts_after { amounts.new ≡ amounts_left amounts.old (amounts_in (ledger_of ledger.now) (identity_from account key)) }
+    ensures answer { result ≡ number_of (amounts_in (ledger_of ledger.now) (identity_from account key)) }
+    ensures stored { amounts.new ≡ amounts_left amounts.old (amounts_in (ledger_of ledger.now) (identity_from account key)) }
 {
     let found = lookups::amounts_of(ledger, Identity { account, key });
     match found {
@@ -260,8 +260,8 @@ pub fn clearing_entry(
     found: &mut [u64; 2],
 ) -> u64
     ensures gives { Gives (head_called (length out.old) ledger.old journal.now (head_of seen journal.now)) ledger.old change.old counts.old ledger.new change.new counts.new result }
-    ensures out_after { out.new ≡ put out.old 0 (head_written (length out.old) ledger.old journal.now (head_of seen journal.now)) }
-    ensures found_after { found.new ≡ head_found (head_of seen journal.now) }
+    ensures written { out.new ≡ put out.old 0 (head_written (length out.old) ledger.old journal.now (head_of seen journal.now)) }
+    ensures told { found.new ≡ head_found (head_of seen journal.now) }
 {
     let h = journal::head_at(journal, seen);
     match h {

@@ -1,4 +1,5 @@
-// The static library for C and Rust programs: each function exports the one of crate clearing_c under the same name, with the same contract.
+// The static library for C and Rust programs: each function exports the one of crate clearing_c under the same name, with the same contract. A static library
+// exports no function of the crates below it, so the C interface needs each signature twice.
 // include/clearing.h is its header.
 #![tactic(auto)]
 
@@ -74,7 +75,7 @@ pub extern "C" fn clearing_request(
     counts: &mut [u64; 4],
 ) -> u64
     ensures gives { Gives (called (ledger_of ledger.old) (request (request_of code.now (identity_from account key) product billing from consumption scheduled) (length out.old))) ledger.old change.old counts.old ledger.new change.new counts.new result }
-    ensures out_after { out.new ≡ put out.old 0 (step_in (ledger_of ledger.old) (request (request_of code.now (identity_from account key) product billing from consumption scheduled) (length out.old))).written }
+    ensures written { out.new ≡ put out.old 0 (step_in (ledger_of ledger.old) (request (request_of code.now (identity_from account key) product billing from consumption scheduled) (length out.old))).written }
 {
     clearing_c::clearing_request(
         ledger,
@@ -110,7 +111,7 @@ pub extern "C" fn clearing_request_by_calendar(
     counts: &mut [u64; 4],
 ) -> u64
     ensures gives { Gives (called (ledger_of ledger.old) (calendar (calendar_of code.now (identity_from account key) product billing from consumption number) holidays.now (length out.old))) ledger.old change.old counts.old ledger.new change.new counts.new result }
-    ensures out_after { out.new ≡ put out.old 0 (step_in (ledger_of ledger.old) (calendar (calendar_of code.now (identity_from account key) product billing from consumption number) holidays.now (length out.old))).written }
+    ensures written { out.new ≡ put out.old 0 (step_in (ledger_of ledger.old) (calendar (calendar_of code.now (identity_from account key) product billing from consumption number) holidays.now (length out.old))).written }
 {
     clearing_c::clearing_request_by_calendar(
         ledger,
@@ -139,7 +140,7 @@ pub extern "C" fn clearing_file(
     counts: &mut [u64; 4],
 ) -> u64
     ensures gives { Gives (called (ledger_of ledger.old) (file s.now (length out.old))) ledger.old change.old counts.old ledger.new change.new counts.new result }
-    ensures out_after { out.new ≡ put out.old 0 (step_in (ledger_of ledger.old) (file s.now (length out.old))).written }
+    ensures written { out.new ≡ put out.old 0 (step_in (ledger_of ledger.old) (file s.now (length out.old))).written }
 {
     clearing_c::clearing_file(ledger, s, out, change, counts)
 }
@@ -155,7 +156,7 @@ pub extern "C" fn clearing_cancel(
     counts: &mut [u64; 4],
 ) -> u64
     ensures gives { Gives (called (ledger_of ledger.old) (cancel (identity_from account key) (length out.old))) ledger.old change.old counts.old ledger.new change.new counts.new result }
-    ensures out_after { out.new ≡ put out.old 0 (step_in (ledger_of ledger.old) (cancel (identity_from account key) (length out.old))).written }
+    ensures written { out.new ≡ put out.old 0 (step_in (ledger_of ledger.old) (cancel (identity_from account key) (length out.old))).written }
 {
     clearing_c::clearing_cancel(ledger, account, key, out, change, counts)
 }
@@ -163,8 +164,8 @@ pub extern "C" fn clearing_cancel(
 // Lookup: the place of the open bill of an account that is due first; of equals it is the one first requested.
 #[unsafe(no_mangle)]
 pub extern "C" fn clearing_open_bill(ledger: &[u64], account: u64, place: &mut u64) -> u64
-    ensures value { result ≡ number_of (open_in (ledger_of ledger.now) account) }
-    ensures place_after { place.new ≡ number_left place.old (open_in (ledger_of ledger.now) account) }
+    ensures answer { result ≡ number_of (open_in (ledger_of ledger.now) account) }
+    ensures stored { place.new ≡ number_left place.old (open_in (ledger_of ledger.now) account) }
 {
     clearing_c::clearing_open_bill(ledger, account, place)
 }
@@ -177,8 +178,8 @@ pub extern "C" fn clearing_amounts(
     key: u64,
     amounts: &mut [u64; 3],
 ) -> u64
-    ensures value { result ≡ number_of (amounts_in (ledger_of ledger.now) (identity_from account key)) }
-    ensures amounts_after { amounts.new ≡ amounts_left amounts.old (amounts_in (ledger_of ledger.now) (identity_from account key)) }
+    ensures answer { result ≡ number_of (amounts_in (ledger_of ledger.now) (identity_from account key)) }
+    ensures stored { amounts.new ≡ amounts_left amounts.old (amounts_in (ledger_of ledger.now) (identity_from account key)) }
 {
     clearing_c::clearing_amounts(ledger, account, key, amounts)
 }
@@ -204,8 +205,8 @@ pub extern "C" fn clearing_entry(
     found: &mut [u64; 2],
 ) -> u64
     ensures gives { Gives (head_called (length out.old) ledger.old journal.now (head_of seen journal.now)) ledger.old change.old counts.old ledger.new change.new counts.new result }
-    ensures out_after { out.new ≡ put out.old 0 (head_written (length out.old) ledger.old journal.now (head_of seen journal.now)) }
-    ensures found_after { found.new ≡ head_found (head_of seen journal.now) }
+    ensures written { out.new ≡ put out.old 0 (head_written (length out.old) ledger.old journal.now (head_of seen journal.now)) }
+    ensures told { found.new ≡ head_found (head_of seen journal.now) }
 {
     clearing_c::clearing_entry(ledger, journal, seen, out, change, counts, found)
 }

@@ -51,7 +51,8 @@ fn place_for(writes: bool, n: usize) -> usize
 }
 
 // Makes the entries at the start of src, after so many entries, as long as the output has room for another entry's notices. Where notices are not
-// written they are measured, and every whole entry is made.
+// written they are measured, and every whole entry is made. `writes` stays beside `out`, as engine's calls take both: an Option of the output would be taken
+// apart before each, and so would a struct of words, output and flag, whose parts are lent from another index each turn.
 pub fn run(ws: &mut [u64], out: &mut [u8], writes: bool, src: &[u8], seen: u64) -> Ran
     requires { sound_ledger (ledger_of ws.old) ≡ true }
     ensures { RanIn seen writes src.now ws.old out.old ws.new out.new result }

@@ -20,11 +20,12 @@ use Rattle.replay.specs.declared.Wanted.TheVariants.{Nothing}
 use Rattle.replay.specs.Reading.{Reads, ReadsFrom}
 use Rattle.replay.proofs.WholeLaws.{all-read}
 use Rattle.std.proofs.Common.{IfSome, IfOk, Option, Some, None, Result, Ok, Err}
-use Rattle.posted.specs.Posting.{to_print, table_by, TableWritten, Posts, PostsAll}
+use Rattle.streams.specs.Ends.{printed}
+use Rattle.posted.specs.Posting.{table_by, TableWritten, Posts, PostsAll}
 
 -- ---- what is written
 module _ (e : Result End Failed) (ws before : List ℕ) where
-  by-table : (t after : List ℕ) (n : ℕ) (o : Output) → t ≡ table_by e ws → n ≡ length t → after ≡ put before 0 t → o ≡ to_print n
+  by-table : (t after : List ℕ) (n : ℕ) (o : Output) → t ≡ table_by e ws → n ≡ length t → after ≡ put before 0 t → o ≡ printed n
       → TableWritten e ws before after o
   by-table t after n o p s q w =
       record {
@@ -34,11 +35,11 @@ module _ (e : Result End Failed) (ws before : List ℕ) where
         within = omega (arith, ap (λ (k : Output). k.length) w, s, ap length q, put-longer before t);
       }
 
-  pub tables-none : (f : Failed) (o : Output) → e ≡ Err f → o ≡ to_print 0 → TableWritten e ws before before o
+  pub tables-none : (f : Failed) (o : Output) → e ≡ Err f → o ≡ printed 0 → TableWritten e ws before before o
   tables-none f o q w = by-table [] before 0 o (sym (ap (λ (r : Result End Failed). table_by r ws) q)) refl (put-nil before 0) w
 
   pub tables : (k : End) (bad : Bool) (after : List ℕ) (n : ℕ) (o : Output) → e ≡ Ok k → bad ≡ ends_bad k.stopped k.left k.seen
-      → n ≡ length (table_of (book (ledger_of ws)) bad) → after ≡ put before 0 (table_of (book (ledger_of ws)) bad) → o ≡ to_print n
+      → n ≡ length (table_of (book (ledger_of ws)) bad) → after ≡ put before 0 (table_of (book (ledger_of ws)) bad) → o ≡ printed n
       → TableWritten e ws before after o
   tables k bad after n o r b s q w =
       let t : Bool → List ℕ = λ k. table_of (book (ledger_of ws)) k in
@@ -56,8 +57,8 @@ unfolding posted_of journal_ledger
 posted-all input bytes e = sym (ap₂ table_of (ap (after_entries first_book) e.0) e.1)
 
 module _ (ws buf out₀ out : List ℕ) (o : Output) where
-  printed : (e : Result End Failed) → TableWritten e ws out₀ out o → take o.length out ≡ table_by e ws
-  printed e w = ap (take o.length) w.bytes ∙ front-put out₀ (table_by e ws) o.length w.size
+  table-stands : (e : Result End Failed) → TableWritten e ws out₀ out o → take o.length out ≡ table_by e ws
+  table-stands e w = ap (take o.length) w.bytes ∙ front-put out₀ (table_by e ws) o.length w.size
 
   pub posts : (e : Result End Failed) → IfOk e (λ k. Reads Nothing ws buf k) → TableWritten e ws out₀ out o → Posts out o
   posts (Err f) x w =
@@ -65,7 +66,7 @@ module _ (ws buf out₀ out : List ℕ) (o : Output) where
         failed = true;
         bytes = [];
         stream = w.stream;
-        table = printed (Err f) w;
+        table = table-stands (Err f) w;
         size = w.size;
         within = w.within;
         claimed = claimed [];
@@ -75,7 +76,7 @@ module _ (ws buf out₀ out : List ℕ) (o : Output) where
         failed = false;
         bytes = x.bytes;
         stream = w.stream;
-        table = printed (Ok k) w ∙ posted-is ws buf k x;
+        table = table-stands (Ok k) w ∙ posted-is ws buf k x;
         size = w.size ∙ ap length (posted-is ws buf k x);
         within = w.within;
         claimed = claimed x.bytes;
@@ -84,11 +85,11 @@ module _ (ws buf out₀ out : List ℕ) (o : Output) where
   pub posts-all : (known left held holds : Option (List ℕ)) (e : Result End Failed) → IfOk e (λ k. ReadsFrom Nothing known left held holds ws buf k)
       → TableWritten e ws out₀ out o → IfSome known (λ input. PostsAll input out o)
   posts-all None left held holds e x w = tt
-  posts-all (Some input) left held holds (Err f) x w = record { failed = true; table = printed (Err f) w; claimed = claimed input }
+  posts-all (Some input) left held holds (Err f) x w = record { failed = true; table = table-stands (Err f) w; claimed = claimed input }
   posts-all (Some input) left held holds (Ok k) x w =
       let same = all-read input x.reads.bytes left x.came (λ z. x.ended (x.reads.stopped ∙ z)) in
       record {
         failed = false;
-        table = printed (Ok k) w ∙ posted-is ws buf k x.reads ∙ posted-all input x.reads.bytes same;
+        table = table-stands (Ok k) w ∙ posted-is ws buf k x.reads ∙ posted-all input x.reads.bytes same;
         claimed = claimed input;
       }

@@ -12,10 +12,6 @@ use Rattle.streams.specs.declared.output.Failed.{Failed}
 use Rattle.streams.specs.declared.output.Output.{Output}
 use Rattle.streams.specs.declared.output.Stream.TheVariants.{Stdout}
 
--- so many bytes for standard output
-abbrev pub to_print : ℕ → Output
-to_print n = record { stream = Stdout; length = n }
-
 -- the table of the ledger in words, or nothing where a read failed
 abbrev pub table_by : Result End Failed → List ℕ → List ℕ
 table_by (Ok e) ws = table_of (book (ledger_of ws)) (ends_bad e.stopped e.left e.seen)

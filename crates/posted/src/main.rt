@@ -5,24 +5,14 @@ ghost use Rattle.std.specs.Prelude.{◌≡◌, true, length, IfSome, OnOk};
 ghost use Rattle.ledger.specs.Sound.{sound_ledger};
 ghost use Rattle.words.specs.Layout.{ledger_of};
 ghost use Rattle.table.specs.Table.{table_room};
-ghost use Rattle.posted.specs.Posting.{to_print, TableWritten, Posts, PostsAll};
+ghost use Rattle.posted.specs.Posting.{TableWritten, Posts, PostsAll};
 
 use entries::run;
 use replay::{Buffers, Wanted};
 use std::io::{Read, Write};
-use streams::output::{Failed, Output, Stream, Streams};
+use streams::output::{Failed, Output, Streams};
 use streams::pieces::End;
 use streams::{arguments, output};
-
-// So many bytes of the output go to standard output.
-fn printed(length: usize) -> Output
-    ensures { result ≡ to_print length }
-{
-    Output {
-        stream: Stream::Stdout,
-        length,
-    }
-}
 
 // What is written at the end: to standard output, the table of the ledger in words, in `out`; nothing where a read failed.
 fn table_of(ws: &[u64], out: &mut [u8], e: Result<End, Failed>) -> Output
@@ -30,11 +20,11 @@ fn table_of(ws: &[u64], out: &mut [u8], e: Result<End, Failed>) -> Output
     ensures { TableWritten e ws.now out.old out.new result }
 {
     let Ok(e) = e else {
-        return printed(0);
+        return Output::printed(0);
     };
     let bad = journal::ends_bad(e.stopped, e.left, e.seen);
     let length = table::write(out, ws, bad);
-    printed(length)
+    Output::printed(length)
 }
 
 // Reads standard input; what is left to write is its posted table in `out`.

@@ -54,7 +54,7 @@ module _ (seen : ℕ) (t : Wanted) (n : ℕ) (ws₀ buf₀ out₀ ws out : List 
   used-within = omega (arith, x.made.used, length-take-le n buf₀ fits)
 
   pub made : (buf : List ℕ) (left : ℕ) → left ≡ n - r.used → buf ≡ put buf₀ 0 (part buf₀ r.used (n - r.used)) → length buf ≡ length buf₀
-      → PieceLeaves seen t n ws₀ buf₀ out₀ ws buf out (record { seen = r.seen; left = left; written = r.written; full = r.full; stopped = r.stopped })
+      → PieceLeaves seen t n ws₀ buf₀ out₀ ws buf out (record { seen = r.seen; left = left; written = r.written; end = r.end })
   made buf left e q k =
       let rest = kept-front buf₀ r.used n used-within fits buf left e q in
       record {
@@ -69,5 +69,4 @@ module _ (seen : ℕ) (t : Wanted) (n : ℕ) (ws₀ buf₀ out₀ ws out : List 
         written = x.written;
         room = omega (arith, x.within, x.kept);
         waits = λ z. rw rest (x.rest.left z);
-        goes = x.rest.goes;
       }

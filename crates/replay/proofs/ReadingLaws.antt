@@ -1,7 +1,7 @@
 -- A journal that comes in pieces is read whole. Assumes nothing.
 use Prim.Native.Nat.{ℕ, ◌+◌, ◌-◌, ◌≤◌, ◌<◌}
 use mathlib.Core.Path.{◌≡◌, refl, sym, ap, ap₂, subst, ◌∙◌}
-use mathlib.Core.Bool.{Bool, true, false, ◌||◌, true≢false}
+use mathlib.Core.Bool.{Bool, true, false, ◌||◌, true≢false, false≢true}
 use mathlib.Core.List.{List, [], ◌++◌, append_assoc, append-nil}
 use native.Mathlib.Omega.{arith}
 use lib.ListN.{length, take, drop, length-append}
@@ -12,7 +12,6 @@ use Rattle.std.proofs.lemmas.List.{drop-take, take-append-le}
 use Rattle.std.proofs.Math.Seq.{take-append-add}
 use Rattle.std.specs.Io.KnownBytes.{Keeps, Consumes, Appends, IsAtEnd, append_known}
 use Rattle.fields.proofs.PutLaws.{front-put}
-use Rattle.fields.proofs.BoolLaws.{cases}
 use Rattle.ledger.specs.declared.Ledger.{Ledger}
 use Rattle.ledger.specs.Books.{Book, book}
 use Rattle.ledger.specs.Sound.{sound_ledger}
@@ -24,7 +23,7 @@ use Rattle.journal.specs.Journal.{Entry, Parsed, parse, parse_up_to, after_entri
 use Rattle.journal.specs.EntryCalls.{ledger_after_entries, notices_of, first_ledger}
 use Rattle.journal.proofs.JournalLaws.{fed, parse-fed}
 use Rattle.journal.proofs.BeginLaws.{makes-append}
-use Rattle.entries.specs.parts.Running.{behind}
+use Rattle.entries.specs.parts.Running.{behind, met_bad, had_no_room}
 use Rattle.entries.proofs.FirstMadeLaws.{made-append}
 use Rattle.entries.proofs.RunNotices.{notices-append}
 use Rattle.trace_lines.specs.Trace.{trace_lines}
@@ -33,11 +32,13 @@ use Rattle.input.specs.Filled.{Filled, Comes}
 use Rattle.replay.specs.declared.Wanted.{Wanted}
 use Rattle.replay.specs.declared.Wanted.TheVariants.{Nothing, Notices, Lines}
 use Rattle.streams.specs.declared.pieces.End.{End}
-use Rattle.streams.specs.declared.pieces.Piece.{Piece}
+use Rattle.replay.specs.declared.Piece.{Piece}
+use Rattle.entries.specs.declared.entry.Ended.{Ended}
+use Rattle.entries.specs.declared.entry.Ended.TheVariants.{Cut, Bad, Full}
 use Rattle.replay.specs.Reading.{written_of, ReadsFrom}
 use Rattle.replay.specs.parts.Pieces.{Waits, PieceLeaves}
 use Rattle.replay.proofs.WholeLaws.{waits-short, all-read}
-use Rattle.streams.specs.Ends.{piece_output, end_of_input, end_of_piece}
+use Rattle.streams.specs.Ends.{printed, end_of_input, end_of_piece}
 use Rattle.streams.specs.Written.{Writes, AppendsFirst}
 use Rattle.streams.specs.declared.output.Failed.{Failed}
 use Rattle.streams.specs.declared.output.Output.{Output}
@@ -292,24 +293,31 @@ input-ended t had left left₁ held holds ws buf seen have total (Ok None) e q x
     subst (λ r. IfOk r (λ e. ReadsFrom t had left₁ held holds ws buf e)) (sym q)
     (reading-ended t had left₁ held holds ws buf seen have total false read (w refl) (λ _. c.1 fits))
 
+-- where a bad entry stopped it the output was not full
+bad-not-full : (e : Ended) → met_bad e ≡ true → had_no_room e ≡ false
+bad-not-full Cut e = refl
+bad-not-full Bad e = refl
+bad-not-full Full e = absurd (false≢true e)
+
 -- a bad entry has stopped it
-pub piece-ended : (t : Wanted) (had left held holds : Option (List ℕ)) (ws buf : List ℕ) (total : ℕ) (p : Piece) (sent : Result (Unit {0}) Failed)
-    (e : Result End Failed) → e ≡ end_of_piece p total sent → (is_err sent ≡ false → Reading t had left held holds ws buf p.seen p.left total)
-    → (p.full ≡ false → Waits p.seen (take p.left buf) p.stopped) → (p.full ≡ true → p.stopped ≡ false) → (is_err sent || p.stopped) ≡ true
+pub piece-ended : (t : Wanted) (had left held holds : Option (List ℕ)) (ws buf : List ℕ) (total : ℕ) (p : Piece) (stopped : Bool) (sent : Result (Unit {0}) Failed)
+    (e : Result End Failed) → stopped ≡ met_bad p.end → e ≡ end_of_piece (record { seen = p.seen; stopped = stopped; left = p.left; total = total }) sent
+    → (is_err sent ≡ false → Reading t had left held holds ws buf p.seen p.left total)
+    → (had_no_room p.end ≡ false → Waits p.seen (take p.left buf) (met_bad p.end)) → (is_err sent || stopped) ≡ true
     → IfOk e (λ e. ReadsFrom t had left held holds ws buf e)
-piece-ended t had left held holds ws buf total p (Err x) e q read w goes h = subst (λ r. IfOk r (λ e. ReadsFrom t had left held holds ws buf e)) (sym q) tt
-piece-ended t had left held holds ws buf total p (Ok u) e q x w goes h =
-    let o = cases p.full (λ y. absurd (true≢false (sym h ∙ goes y))) (λ y. y) in
+piece-ended t had left held holds ws buf total p stopped (Err x) e met q read w h = subst (λ r. IfOk r (λ e. ReadsFrom t had left held holds ws buf e)) (sym q) tt
+piece-ended t had left held holds ws buf total p stopped (Ok u) e met q x w h =
+    let waits = subst (Waits p.seen (take p.left buf)) (sym met) (w (bad-not-full p.end (sym met ∙ h))) in
     subst (λ r. IfOk r (λ e. ReadsFrom t had left held holds ws buf e)) (sym q)
-    (reading-ended t had left held holds ws buf p.seen p.left total p.stopped (x refl) (w o) (λ y. absurd (true≢false (sym h ∙ y))))
+    (reading-ended t had left held holds ws buf p.seen p.left total stopped (x refl) waits (λ y. absurd (true≢false (sym h ∙ y))))
 
 -- what of a piece was sent to standard output
-pub sent-piece : (o : Output) (p : Piece) (out : List ℕ) (r : Result (Unit {0}) Failed) (a b : Option (List ℕ)) → o ≡ piece_output p
+pub sent-piece : (o : Output) (p : Piece) (out : List ℕ) (r : Result (Unit {0}) Failed) (a b : Option (List ℕ)) → o ≡ printed p.written
     → (o.stream ≡ Stdout → Writes r (take o.length out) a b) → Writes r (take p.written out) a b
 sent-piece o p out r a b e s =
     subst (λ (n : ℕ). Writes r (take n out) a b) (ap (λ (k : Output). k.length) e) (s (ap (λ (k : Output). k.stream) e))
 
-pub sent : (o : Output) (p : Piece) (out : List ℕ) (all : Result (Unit {0}) Failed) (a b : Option (List ℕ)) → o ≡ piece_output p
+pub sent : (o : Output) (p : Piece) (out : List ℕ) (all : Result (Unit {0}) Failed) (a b : Option (List ℕ)) → o ≡ printed p.written
     → (o.stream ≡ Stdout → Writes all (take o.length out) a b) → is_err all ≡ false → Appends a b (take p.written out)
 sent o p out (Ok u) a b e s w = sent-piece o p out (Ok u) a b e s
 sent o p out (Err x) a b e s w = absurd (true≢false w)
@@ -352,7 +360,7 @@ grows (Some xs) bs = refl
 pub send-failed : (t : Wanted) (known left held holds : Option (List ℕ)) (ws buf : List ℕ) (seen have total : ℕ)
     → (x : Reading t known left held holds ws buf seen have total) (n : ℕ) (h : have ≤ n) (out₀ ws₁ buf₁ out₁ : List ℕ) (p : Piece)
     → PieceLeaves seen t n ws buf out₀ ws₁ buf₁ out₁ p → (left₁ holds₂ : Option (List ℕ)) → Consumes left left₁ (drop have (take n buf))
-    → (r : Result (Unit {0}) Failed) (e : Result End Failed) (end : ℕ) → e ≡ end_of_piece p end r → Writes r (take p.written out₁) holds holds₂
+    → (r : Result (Unit {0}) Failed) (e : Result End Failed) (end : End) → e ≡ end_of_piece end r → Writes r (take p.written out₁) holds holds₂
     → (f : Failed) → e ≡ Err f → IfSome known (λ input. AppendsFirst (written_of t 0 first_book (parse 0 input).entries) held holds₂)
 unfolding reading-more
 send-failed t None left held holds ws buf seen have total x n h out₀ ws₁ buf₁ out₁ p m left₁ holds₂ c r e end q w f z = tt

@@ -14,13 +14,14 @@ ghost use Rattle.replay.specs.parts.Pieces.{PieceRuns, FillsMore, PieceLeaves};
 ghost use Rattle.streams.specs.Ends.{piece_size};
 ghost use Rattle.streams.specs.Written.{Writes};
 
+use entries::entry::Ended;
 use entries::run;
 use entries::run::Ran;
 use std::io;
 use std::io::{Read, Write};
-use streams::output::{Failed, Streams};
+use streams::output::{Failed, Output, Streams};
 use streams::pieces;
-use streams::pieces::{End, Piece};
+use streams::pieces::End;
 
 pub mod ending;
 
@@ -34,11 +35,22 @@ pub enum Wanted {
 }
 
 // The memory that a program reads with: the ledger in words, the bytes that came, and those that are to be written.
+// Arrays, and no lent slices: their lengths stand in the type, and slices would bring them back into the clauses of each function that reads.
 #[derive(Drop)]
 pub struct Buffers<const ROOM: usize> {
     pub ws: [u64; words::LEDGER_SIZE],
     pub buf: [u8; streams::PIECE_SIZE],
     pub out: [u8; ROOM],
+}
+
+// What a piece came to: how many entries came by now, how many bytes are left at the start of the buffer, how many bytes stand in the output, and why no
+// further entry was made.
+#[derive(Clone, Copy)]
+struct Piece {
+    seen: u64,
+    left: usize,
+    written: usize,
+    end: Ended,
 }
 
 // Reads on where all entries that were read are made.
@@ -100,8 +112,7 @@ fn make(
         seen: r.seen,
         left,
         written: r.written,
-        full: r.full,
-        stopped: r.stopped,
+        end: r.end,
     }
 }
 
@@ -136,13 +147,20 @@ pub fn read_all<R: Read, O: Write, E: Write, const ROOM: usize>(
             seen,
         );
         total += p.written;
-        let sent = streams.send(pieces::output_of(p), &buffers.out);
-        if sent.is_err() | p.stopped {
-            return pieces::end_of_piece(p, total, sent);
+        let sent = streams.send(Output::printed(p.written), &buffers.out);
+        let stopped = p.end.is_bad();
+        if sent.is_err() | stopped {
+            let end = End {
+                seen: p.seen,
+                stopped,
+                left: p.left,
+                total,
+            };
+            return pieces::end_of_piece(end, sent);
         }
         seen = p.seen;
         left = p.left;
-        full = p.full;
+        full = p.end.is_full();
     }
     Err(Failed::Read)
 }

@@ -2,24 +2,23 @@
 use Rattle.std.specs.Prelude.{ℕ, false, cond, Result, Ok, Err}
 use Rattle.input.specs.Filled.{Filled, not_ended}
 use Rattle.streams.specs.declared.pieces.End.{End}
-use Rattle.streams.specs.declared.pieces.Piece.{Piece}
 use Rattle.streams.specs.declared.output.Failed.{Failed}
 use Rattle.streams.specs.declared.output.Failed.TheVariants as failed
 use Rattle.streams.specs.declared.output.Output.{Output}
 use Rattle.streams.specs.declared.output.Stream.TheVariants.{Stdout}
 
--- what is written of a piece goes to standard output
-abbrev pub piece_output : Piece → Output
-piece_output p = record { stream = Stdout; length = p.written }
+-- so many bytes go to standard output
+abbrev pub printed : ℕ → Output
+printed n = record { stream = Stdout; length = n }
 
 -- a read that brought no bytes: the end of the input is no failure, and a failed read not the end
 abbrev pub end_of_input : Filled → ℕ → ℕ → ℕ → Result End Failed
 end_of_input f seen left total = cond (not_ended f) (Err failed.Read) (Ok (record { seen = seen; stopped = false; left = left; total = total }))
 
 -- after a piece: a bad entry is no failure
-abbrev pub end_of_piece : Piece → ℕ → Result (Unit {0}) Failed → Result End Failed
-end_of_piece p total (Ok u) = Ok (record { seen = p.seen; stopped = p.stopped; left = p.left; total = total })
-end_of_piece p total (Err e) = Err e
+abbrev pub end_of_piece : End → Result (Unit {0}) Failed → Result End Failed
+end_of_piece end (Ok u) = Ok end
+end_of_piece end (Err e) = Err e
 
 -- how many bytes of standard input are read at a time at most, and how many are written
 abbrev pub piece_size : ℕ

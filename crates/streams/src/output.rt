@@ -2,6 +2,7 @@
 ghost use Rattle.std.specs.Prelude.{◌≡◌, ◌≤◌, length, take, OnOk};
 ghost use Rattle.std.specs.Io.{WritesAtMost};
 ghost use Rattle.std.specs.Io.KnownBytes.{Appends, Keeps, WriteAppends};
+ghost use Rattle.streams.specs.Ends.{printed};
 ghost use Rattle.streams.specs.Written.{Writes};
 
 use std::io;
@@ -19,6 +20,18 @@ pub enum Stream {
 pub struct Output {
     pub stream: Stream,
     pub length: usize,
+}
+
+impl Output {
+    // So many bytes go to standard output.
+    pub fn printed(length: usize) -> Output
+        ensures { result ≡ printed length }
+    {
+        Output {
+            stream: Stream::Stdout,
+            length,
+        }
+    }
 }
 
 // The streams of a program: what it reads, what it writes, and where it tells what failed.

@@ -1,8 +1,8 @@
-// What a piece of standard input came to, where its bytes go, and how the reading ends.
+// How the reading of standard input in pieces ends.
 ghost use Rattle.std.specs.Prelude.{◌≡◌};
-ghost use Rattle.streams.specs.Ends.{piece_output, end_of_input, end_of_piece};
+ghost use Rattle.streams.specs.Ends.{end_of_input, end_of_piece};
 
-use crate::output::{Failed, Output, Stream};
+use crate::output::Failed;
 use std::io;
 use std::io::Write;
 
@@ -14,28 +14,6 @@ pub struct End {
     pub stopped: bool,
     pub left: usize,
     pub total: usize,
-}
-
-// What a piece came to: how many entries came by now, how many bytes are left at the start of the buffer, how many bytes stand in the output,
-// whether it has no room for another entry's, and whether a bad entry stands there.
-// `full` and `stopped` are those of the run over the piece (`entries::run::Ran`); an enum here would only be made from the two and matched again.
-#[derive(Clone, Copy)]
-pub struct Piece {
-    pub seen: u64,
-    pub left: usize,
-    pub written: usize,
-    pub full: bool,
-    pub stopped: bool,
-}
-
-// What is written of a piece goes to standard output.
-pub fn output_of(p: Piece) -> Output
-    ensures { result ≡ piece_output p }
-{
-    Output {
-        stream: Stream::Stdout,
-        length: p.written,
-    }
 }
 
 // How the reading ends where a read brought no bytes: the input has ended, or the read failed.
@@ -60,14 +38,9 @@ pub fn end_of_input<E: Write>(
 }
 
 // How the reading ends after a piece: at a bad entry, or since its bytes could not be written.
-pub fn end_of_piece(p: Piece, total: usize, written: Result<(), Failed>) -> Result<End, Failed>
-    ensures { result ≡ end_of_piece p total written }
+pub fn end_of_piece(end: End, written: Result<(), Failed>) -> Result<End, Failed>
+    ensures { result ≡ end_of_piece end written }
 {
     written?;
-    Ok(End {
-        seen: p.seen,
-        stopped: p.stopped,
-        left: p.left,
-        total,
-    })
+    Ok(end)
 }

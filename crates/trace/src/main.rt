@@ -1,4 +1,5 @@
 // Reads a journal on standard input and writes what became of each of its entries.
+// A program has a main of its own, so this one is like brn's: what both do is replay's.
 #![tactic(auto)]
 
 use replay::{Wanted, ending};

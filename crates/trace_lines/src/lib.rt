@@ -12,6 +12,7 @@ ghost use Rattle.trace_lines.specs.Lines.{call_name, sign_of, change_text, figur
 use calls::Returned;
 use rules::Cause;
 
+// Numbers, signs and names are put at fixed widths into the lent output: `write!` would need a writer over the slice, which keeps no index for a line's other cells.
 // Writes 0 or -, 1 byte.
 fn put_sign(out: &mut [u8], at: usize, x: i64)
     requires { at + 1 ≤ length out.old }

@@ -3,4 +3,4 @@ use Rattle.boundary.proofs.GiveLaws.{gives}
 use Rattle.boundary.proofs.call_by_calendar.Goals as goal
 
 pub returns : goal.returns
-returns c = record { gives = gives _ _ _ _ _ _ _ c.make_by_calendar-a.ensures _ _ _ _ _ c.give.ensures; out_after = c.make_by_calendar-a.ensures.bytes }
+returns c = record { gives = gives _ _ _ _ _ _ _ c.make_by_calendar-a.ensures _ _ _ _ _ c.give.ensures; written = c.make_by_calendar-a.ensures.bytes }

@@ -19,7 +19,7 @@ pub returns-then-not-sound : goal.returns-then-not-sound
 returns-then-not-sound c = unsound-leaves (length c.args.out.now) c.args.ledger.now c.args.out.now c.args.s.now c.args.body (no-fresh c.args.body c.in_default.not-Fresh) (sym c.sound.ensures ∙ c.if-not-sound.true)
 
 pub entry-requires : goal.entry-requires
-entry-requires c = record { ws_value = (sym c.sound.ensures ∙ c.if-not-sound.false, no-fresh-taken c.args.body (no-fresh c.args.body c.in_default.not-Fresh)); room_in_bounds = λ _. omega arith }
+entry-requires c = record { is_sound = (sym c.sound.ensures ∙ c.if-not-sound.false, no-fresh-taken c.args.body (no-fresh c.args.body c.in_default.not-Fresh)); has_room = λ _. omega arith }
 
 pub returns : goal.returns
 returns c =

@@ -3,4 +3,4 @@ use Rattle.clearing_c.proofs.clearing_request.Goals as goal
 
 pub returns : goal.returns
 returns c =
-    record { gives = rw c.request_of-r.ensures at c.call.ensures.gives; out_after = rw c.request_of-r.ensures at c.call.ensures.out_after }
+    record { gives = rw c.request_of-r.ensures at c.call.ensures.gives; written = rw c.request_of-r.ensures at c.call.ensures.written }

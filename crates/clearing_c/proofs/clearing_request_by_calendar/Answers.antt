@@ -5,5 +5,5 @@ pub returns : goal.returns
 returns c =
     record {
       gives = rw c.request_of-request.ensures at c.call_by_calendar.ensures.gives;
-      out_after = rw c.request_of-request.ensures at c.call_by_calendar.ensures.out_after;
+      written = rw c.request_of-request.ensures at c.call_by_calendar.ensures.written;
     }

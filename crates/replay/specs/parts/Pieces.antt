@@ -7,10 +7,10 @@ use Rattle.words.specs.Layout as layout
 use Rattle.journal.specs.Journal.{Entry, parse, after_entries}
 use Rattle.journal.specs.EntryCalls.{ledger_after_entries}
 use Rattle.entries.specs.declared.run.Ran.{Ran}
-use Rattle.entries.specs.parts.Running.{behind, FirstMade, NoneLeft}
+use Rattle.entries.specs.parts.Running.{behind, met_bad, had_no_room, FirstMade, NoneLeft}
 use Rattle.input.specs.Filled.{Filled}
 use Rattle.replay.specs.declared.Wanted.{Wanted}
-use Rattle.streams.specs.declared.pieces.Piece.{Piece}
+use Rattle.replay.specs.declared.Piece.{Piece}
 use Rattle.replay.specs.Reading.{written_of}
 
 -- a buffer of so many bytes, of which some were held before, holds no fewer than before, and no more than it has; where entries are left to be
@@ -54,5 +54,4 @@ pub record PieceLeaves (seen : ℕ) (t : Wanted) (n : ℕ) (ws₀ buf₀ out₀ 
   pub bytes : out ≡ put out₀ 0 (written_of t seen (book (layout.ledger_of ws₀)) done)
   pub written : p.written ≡ length (written_of t seen (book (layout.ledger_of ws₀)) done)
   pub room : p.written ≤ length out
-  pub waits : p.full ≡ false → Waits p.seen (take p.left buf) p.stopped
-  pub goes : p.full ≡ true → p.stopped ≡ false
+  pub waits : had_no_room p.end ≡ false → Waits p.seen (take p.left buf) (met_bad p.end)

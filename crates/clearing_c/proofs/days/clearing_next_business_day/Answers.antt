@@ -5,4 +5,4 @@ use Rattle.clearing_c.proofs.days.clearing_next_business_day.Goals as goal
 
 pub returns : goal.returns
 returns c =
-    let e = c.next_business_day-found.ensures in record { value = c.store_day.ensures.value ∙ ap number_of e; day_after = c.store_day.ensures.day_after ∙ ap (date_left _) e }
+    let e = c.next_business_day-found.ensures in record { answer = c.store_day.ensures.answer ∙ ap number_of e; stored = c.store_day.ensures.stored ∙ ap (date_left _) e }

@@ -5,4 +5,4 @@ use Rattle.clearing_c.proofs.days.clearing_weekday.Goals as goal
 
 pub returns : goal.returns
 returns c =
-    let e = c.weekday_of-found.ensures in record { value = c.store_number.ensures.value ∙ ap number_of e; weekday_after = c.store_number.ensures.place_after ∙ ap (number_left _) e }
+    let e = c.weekday_of-found.ensures in record { answer = c.store_number.ensures.answer ∙ ap number_of e; stored = c.store_number.ensures.stored ∙ ap (number_left _) e }
