@@ -4,4 +4,4 @@ use Rattle.replay.proofs.EndingLaws.{stop-line}
 use Rattle.replay.proofs.ending.stop_line.Goals as goal
 
 pub returns : goal.returns
-returns c = stop-line c.args.e _ _ _ _ (search rules) c.put_stop.ensures.value c.put_stop.ensures.out_after
+returns c = stop-line c.args.e _ _ _ _ (search rules) c.put_stop.ensures.answer c.put_stop.ensures.written
