@@ -14,7 +14,7 @@ use calls::{Called, Returned};
 use causes::{AccountRemoval, BillCall, CalendarRequest, Request, Start};
 use engine::call;
 use ledger::{Identity, Ledger};
-use places::{by_value, checks};
+use places::{checks, one_ledger};
 use rules::Cause;
 use units::Date;
 
@@ -22,7 +22,7 @@ use units::Date;
 fn lend_sound(l: Ledger) -> Result<[Ledger; 1], Cause>
     ensures { LentIfSound l result }
 {
-    let lent = by_value::lend(l);
+    let lent = one_ledger::lend(l);
     if !checks::sound(&lent) {
         return Err(Cause::BadArgument);
     }
@@ -45,7 +45,7 @@ fn left(lent: &[Ledger; 1], answer: Result<Returned, Cause>) -> Called
     ensures { result ≡ record { ledger = one_ledger lent.now; answer = answer } }
 {
     Called {
-        ledger: by_value::taken_back(lent),
+        ledger: one_ledger::taken_back(lent),
         answer,
     }
 }
@@ -54,7 +54,7 @@ fn left(lent: &[Ledger; 1], answer: Result<Returned, Cause>) -> Called
 pub fn fresh(l: Ledger, s: Start) -> Called
     ensures { result ≡ fresh_called l s }
 {
-    let mut lent = by_value::lend(l);
+    let mut lent = one_ledger::lend(l);
     let answer = call::fresh_in(&mut lent, s);
     left(&lent, answer)
 }

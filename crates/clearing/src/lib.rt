@@ -87,12 +87,12 @@ pub fn take_file(ledger: &mut Ledger, s: &[u8], out: &mut [u8]) -> Result<Return
 pub fn open_bill_of(ledger: &Ledger, account: u64) -> Result<usize, Cause>
     ensures { result ≡ open_in ledger.now account }
 {
-    lookups::open_bill_of(&places::by_value::lend(*ledger), account)
+    lookups::open_bill_of(&places::one_ledger::lend(*ledger), account)
 }
 
 // The amounts of the bill with this identity.
 pub fn amounts_of(ledger: &Ledger, id: Identity) -> Result<Amounts, Cause>
     ensures { result ≡ amounts_in ledger.now id }
 {
-    lookups::amounts_of(&places::by_value::lend(*ledger), id)
+    lookups::amounts_of(&places::one_ledger::lend(*ledger), id)
 }

@@ -11,7 +11,7 @@ ghost use Rattle.lookups.specs.Lookups.{amounts_in};
 use causes::{Request, Start};
 use ledger::{Identity, Ledger};
 use lookups::Amounts;
-use places::by_value;
+use places::one_ledger;
 use rules::Cause;
 use streams::output;
 use units::{Ccf, Date};
@@ -91,7 +91,7 @@ fn main(rt: HostRuntime) {
     let l = day(empty, s, q, Date(20171114), &mut out);
     let _ = output::write_all(&mut rt.stdout(), &out);
     let mut lines = [0u8; table::TABLE_ROOM];
-    let n = table::write(&mut lines, &by_value::lend(l), false);
+    let n = table::write(&mut lines, &one_ledger::lend(l), false);
     let _ = output::write_all(&mut rt.stdout(), &lines[..n]);
     show_answer(rt, l, id);
 }

@@ -3,8 +3,8 @@
 #![tactic(auto)]
 
 pub mod accounts;
-pub mod by_value;
 pub mod checks;
 pub mod holder;
 mod in_words;
+pub mod one_ledger;
 pub mod place;
