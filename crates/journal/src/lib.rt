@@ -121,7 +121,8 @@ fn removal_body(s: &[u8]) -> Option<Body>
 }
 
 // Whether an entry with this tag may have this length.
-// A tag stays the document's number: a byte may be none of the six, and a line of `trace` names an entry by its byte where its body is not read.
+// A tag stays the document's number, here and in room, tracing and trace_lines: a byte may be none of the six, and a line of `trace` names an entry by its byte
+// where its body is not read.
 fn good_length(tag: u8, n: usize) -> bool
     ensures { result ≡ good_length tag n }
 {

@@ -30,14 +30,14 @@ pub const STOP_SIZE: usize = 11;
 // The bytes that the longest table has: an output for a table has room for it.
 pub const TABLE_ROOM: usize = 10970;
 
-// O, I or C.
+// O, I or C. (No `From`: it would stand with `State` in crate ledger, and the letters are the table's alone.)
 fn state_byte(s: State) -> u8
     ensures { result ≡ state_byte s }
 {
     match s {
-        State::Open => 79,
-        State::Issued => 73,
-        State::Cancelled => 67,
+        State::Open => b'O',
+        State::Issued => b'I',
+        State::Cancelled => b'C',
     }
 }
 

@@ -82,7 +82,7 @@ fn next_answer(sent: &[u8], from: usize, k: usize) -> usize
     from + (k + 1) * RECORD_SIZE
 }
 
-// Where the walk over a file's groups has come to in the output and in the answers.
+// Where the walk over a file's groups has come to in the output and in the answers. Both are indices: the definitions say where each answer starts by one.
 #[derive(Clone, Copy)]
 struct Reached {
     end: usize,
@@ -105,7 +105,14 @@ fn put_group_line(r: Reached, out: &mut [u8], s: &[u8], i: usize, k: usize, sent
         from + layout::CONFIRMATION.at,
         layout::CONFIRMATION.width,
     );
-    put_in_record(out, at + 16, s, i, layout::ACCOUNT.at, layout::ACCOUNT.width);
+    put_in_record(
+        out,
+        at + 16,
+        s,
+        i,
+        layout::ACCOUNT.at,
+        layout::ACCOUNT.width,
+    );
     put_key(out, at + 29, s, i, k);
     put_in_record(out, at + 34, s, i, layout::NOTICE.at, layout::NOTICE.width);
     put_verdict(out, at + 38, sent, from, k)

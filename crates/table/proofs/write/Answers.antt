@@ -5,7 +5,6 @@ use lib.ListN.{take}
 use Rattle.ledger.specs.declared.LedgerHeader.{LedgerHeader}
 use Rattle.rules.specs.Lists.{every}
 use Rattle.ledger.specs.Books.{small_charge}
-use Rattle.ledger.proofs.SoundLaws.{ledger-count, ledger-small}
 use Rattle.table.proofs.TableLaws.{table-by}
 use Rattle.table.proofs.write.Goals as goal
 
