@@ -157,8 +157,7 @@ pub fn put_heading(out: &mut [u8])
 
 // Writes the table of a lent ledger, and answers how many bytes it has.
 pub fn write<T: Lines>(out: &mut [u8], lent: &[T], stopped: bool) -> usize
-    requires holds { (T.holds lent.now ≡ true) × ((T.held lent.now).count ≤ ledger_places) × (every small_charge (live (T.held lent.now)) ≡ true) }
-    requires has_room { table_room ≤ length out.old }
+    requires { (T.holds lent.now ≡ true) × ((T.held lent.now).count ≤ ledger_places) × (every small_charge (live (T.held lent.now)) ≡ true) × (table_room ≤ length out.old) }
     ensures answer { result ≡ length (table_of (book (T.held lent.now)) stopped) }
     ensures written { out.new ≡ put out.old 0 (table_of (book (T.held lent.now)) stopped) }
     ensures at_most { result ≤ table_room }
