@@ -14,6 +14,7 @@ ghost use Rattle.verdict.specs.parts.Dated.{dated_terms, Dated};
 ghost use Rattle.verdict.specs.Lines.{removed_long, line6, rate_of, line9, lines8to10, lines7to10, lines5to10, sent_charge, amounts_of, settle, verdict_of};
 
 use ledger::{Posted, RateCode, Terms};
+use records::group::GroupRecords;
 use records::{Notification, layout};
 use rules::ErrorCode;
 use units::{Ccf, Cents, Date, Rate};
@@ -28,17 +29,16 @@ fn has_code(h: &[u8], c: RateCode) -> bool
 }
 
 // Line 6 for RSP.
-fn line_6_response(h: &[u8], d: &[u8], t: Terms, today: Date) -> Result<(), ErrorCode>
-    requires { (record_size ≤ length h.now) × (record_size ≤ length d.now) }
-    ensures { result ≡ first (line6 Notification.Response today h.now d.now t) }
+fn line_6_response(r: &GroupRecords, t: Terms, today: Date) -> Result<(), ErrorCode>
+    ensures { result ≡ first (line6 Notification.Response today r.now.header.now r.now.detail.now t) }
 {
     if !t.is_open(today) {
         return Err(ErrorCode::Br09);
     }
-    if !layout::TRACKING.holds_number(h, t.latest.tracking) {
+    if !layout::TRACKING.holds_number(r.header, t.latest.tracking) {
         return Err(ErrorCode::Br01);
     }
-    if !layout::SEQUENCE.holds_number(d, t.sequence) {
+    if !layout::SEQUENCE.holds_number(r.detail, t.sequence) {
         return Err(ErrorCode::Br05);
     }
     Ok(())
@@ -59,10 +59,9 @@ fn removed_long(removal: Option<Date>, today: Date) -> bool
 }
 
 // Line 6 for SUP.
-fn line_6_supplement(h: &[u8], d: &[u8], t: Terms, today: Date) -> Result<(), ErrorCode>
-    requires whole { (record_size ≤ length h.now) × (record_size ≤ length d.now) }
-    requires dates { (is_date today.0 ≡ true) × (dated_terms t ≡ true) }
-    ensures { result ≡ first (line6 Notification.Supplement today h.now d.now t) }
+fn line_6_supplement(r: &GroupRecords, t: Terms, today: Date) -> Result<(), ErrorCode>
+    requires { (is_date today.0 ≡ true) × (dated_terms t ≡ true) }
+    ensures { result ≡ first (line6 Notification.Supplement today r.now.header.now r.now.detail.now t) }
 {
     let cancelled = t.cancelled;
     if cancelled {
@@ -79,7 +78,7 @@ fn line_6_supplement(h: &[u8], d: &[u8], t: Terms, today: Date) -> Result<(), Er
     if removed_long(removal, today) {
         return Err(ErrorCode::Br13);
     }
-    if !layout::SEQUENCE.holds_number(d, 0) {
+    if !layout::SEQUENCE.holds_number(r.detail, 0) {
         return Err(ErrorCode::Br05);
     }
     let sequence = t.sequence;
@@ -91,19 +90,17 @@ fn line_6_supplement(h: &[u8], d: &[u8], t: Terms, today: Date) -> Result<(), Er
 
 // Line 6: from the Notification Code to its check lines.
 fn line_6(
-    h: &[u8],
-    d: &[u8],
+    r: &GroupRecords,
     notification: Notification,
     t: Terms,
     today: Date,
 ) -> Result<(), ErrorCode>
-    requires whole { (record_size ≤ length h.now) × (record_size ≤ length d.now) }
-    requires dates { (is_date today.0 ≡ true) × (dated_terms t ≡ true) }
-    ensures { result ≡ first (line6 notification today h.now d.now t) }
+    requires { (is_date today.0 ≡ true) × (dated_terms t ≡ true) }
+    ensures { result ≡ first (line6 notification today r.now.header.now r.now.detail.now t) }
 {
     match notification {
-        Notification::Response => line_6_response(h, d, t, today),
-        Notification::Supplement => line_6_supplement(h, d, t, today),
+        Notification::Response => line_6_response(r, t, today),
+        Notification::Supplement => line_6_supplement(r, t, today),
     }
 }
 
@@ -149,21 +146,20 @@ fn bill_ready(d: &[u8], consumption: Ccf, charge: Cents) -> Result<Posted, Error
 }
 
 // Lines 8 to 10 for Prepay.
-fn prepay(h: &[u8], d: &[u8], consumption: Ccf, charge: Cents) -> Result<Posted, ErrorCode>
-    requires whole { (record_size ≤ length h.now) × (record_size ≤ length d.now) }
-    requires charge_sent { charge.0 ≡ sent_charge d.now }
-    ensures { result ≡ settle (first (lines8to10 true h.now d.now consumption.0 charge.0)) (amounts_of true d.now) }
+fn prepay(r: &GroupRecords, consumption: Ccf, charge: Cents) -> Result<Posted, ErrorCode>
+    requires { charge.0 ≡ sent_charge r.now.detail.now }
+    ensures { result ≡ settle (first (lines8to10 true r.now.header.now r.now.detail.now consumption.0 charge.0)) (amounts_of true r.now.detail.now) }
 {
-    let Some(_) = layout::BALANCE.number(h) else {
+    let Some(_) = layout::BALANCE.number(r.header) else {
         return Err(ErrorCode::Br21);
     };
-    let Some(applied) = layout::APPLIED.number(d) else {
+    let Some(applied) = layout::APPLIED.number(r.detail) else {
         return Err(ErrorCode::Br22);
     };
-    let Some(owed) = layout::OWED.number(d) else {
+    let Some(owed) = layout::OWED.number(r.detail) else {
         return Err(ErrorCode::Br23);
     };
-    line_9(d, consumption, charge)?;
+    line_9(r.detail, consumption, charge)?;
     if Cents(applied) + Cents(owed) != charge {
         return Err(ErrorCode::Br20);
     }
@@ -175,45 +171,42 @@ fn prepay(h: &[u8], d: &[u8], consumption: Ccf, charge: Cents) -> Result<Posted,
 }
 
 // Lines 7 to 10.
-fn amounts(h: &[u8], d: &[u8], t: Terms) -> Result<Posted, ErrorCode>
-    requires { (record_size ≤ length h.now) × (record_size ≤ length d.now) }
-    ensures { result ≡ settle (first (lines7to10 h.now d.now t)) (amounts_of (is_prepay t.product) d.now) }
+fn amounts(r: &GroupRecords, t: Terms) -> Result<Posted, ErrorCode>
+    ensures { result ≡ settle (first (lines7to10 r.now.header.now r.now.detail.now t)) (amounts_of (is_prepay t.product) r.now.detail.now) }
 {
-    let Some(c) = layout::CONSUMPTION.number(d) else {
+    let Some(c) = layout::CONSUMPTION.number(r.detail) else {
         return Err(ErrorCode::Br08);
     };
     let asked = t.latest.consumption;
     if Ccf(c) != asked {
         return Err(ErrorCode::Br06);
     }
-    let Some(m) = layout::CHARGE.number(d) else {
+    let Some(m) = layout::CHARGE.number(r.detail) else {
         return Err(ErrorCode::Br10);
     };
     let product = t.product;
     if product.is_prepay() {
-        return prepay(h, d, Ccf(c), Cents(m));
+        return prepay(r, Ccf(c), Cents(m));
     }
-    bill_ready(d, Ccf(c), Cents(m))
+    bill_ready(r.detail, Ccf(c), Cents(m))
 }
 
 // Lines 5 to 10.
 fn known(
-    h: &[u8],
-    d: &[u8],
+    r: &GroupRecords,
     notification: Notification,
     t: Terms,
     today: Date,
 ) -> Result<Posted, ErrorCode>
-    requires whole { (record_size ≤ length h.now) × (record_size ≤ length d.now) }
-    requires dates { (is_date today.0 ≡ true) × (dated_terms t ≡ true) }
-    ensures { result ≡ settle (first (lines5to10 notification today h.now d.now t)) (amounts_of (is_prepay t.product) d.now) }
+    requires { (is_date today.0 ≡ true) × (dated_terms t ≡ true) }
+    ensures { result ≡ settle (first (lines5to10 notification today r.now.header.now r.now.detail.now t)) (amounts_of (is_prepay t.product) r.now.detail.now) }
 {
     let code = t.code;
-    if !has_code(h, code) {
+    if !has_code(r.header, code) {
         return Err(ErrorCode::Br07);
     }
-    line_6(h, d, notification, t, today)?;
-    amounts(h, d, t)
+    line_6(r, notification, t, today)?;
+    amounts(r, t)
 }
 
 // Lines 4 to 10.
@@ -231,5 +224,9 @@ pub fn verdict_of(
     let Some(t) = b else {
         return Err(ErrorCode::Br16);
     };
-    known(h, d, notification, t, today)
+    let r = GroupRecords {
+        header: h,
+        detail: d,
+    };
+    known(&r, notification, t, today)
 }
