@@ -8,6 +8,7 @@ ghost use Rattle.records.specs.Layout.{record_at, records_from, is_sup};
 ghost use Rattle.file.specs.File.{printable, is_header, good_record, good_file, leading, groups, asks_id, unfit, form_of};
 ghost use Rattle.file.specs.parts.Walk.{records_after, group_at, pair_form};
 
+use records::group::{self, GroupRecords};
 use records::{FILE_SIZE, Notification, RECORD_SIZE, layout};
 use rules::ErrorCode;
 
@@ -113,30 +114,28 @@ pub fn count_groups(s: &[u8], n: usize) -> Counts
 }
 
 // Line 1 for a header and its only detail.
-fn unfit_pair(h: &[u8], d: &[u8]) -> bool
-    requires { (60 ≤ length h.now) × (45 ≤ length d.now) }
-    ensures { result ≡ unfit h.now d.now }
+fn unfit_pair(r: &GroupRecords) -> bool
+    ensures { result ≡ unfit r.now.header.now r.now.detail.now }
 {
-    !layout::RECORD_COUNT.holds(h, b"01")
-        | !layout::COMPANY.holds(h, b"34")
-        | !layout::TO_TYPE.is_same(h, d)
-        | !layout::NOTICE.is_same(h, d)
-        | !layout::ACCOUNT.is_numeric(h)
-        | !layout::KEY.is_numeric(d)
+    !layout::RECORD_COUNT.holds(r.header, b"01")
+        | !layout::COMPANY.holds(r.header, b"34")
+        | !layout::TO_TYPE.is_same(r.header, r.detail)
+        | !layout::NOTICE.is_same(r.header, r.detail)
+        | !layout::ACCOUNT.is_numeric(r.header)
+        | !layout::KEY.is_numeric(r.detail)
 }
 
 // Lines 1 and 2 for a header and its only detail: BR17, BR19, or the Notification Code.
-fn pair_form(h: &[u8], d: &[u8]) -> Result<Notification, ErrorCode>
-    requires { (60 ≤ length h.now) × (45 ≤ length d.now) }
-    ensures { result ≡ pair_form h.now d.now }
+fn pair_form(r: &GroupRecords) -> Result<Notification, ErrorCode>
+    ensures { result ≡ pair_form r.now.header.now r.now.detail.now }
 {
-    if unfit_pair(h, d) {
+    if unfit_pair(r) {
         return Err(ErrorCode::Br17);
     }
-    if layout::NOTICE.holds(h, b"RSP") {
+    if layout::NOTICE.holds(r.header, b"RSP") {
         return Ok(Notification::Response);
     }
-    if layout::NOTICE.holds(h, b"SUP") {
+    if layout::NOTICE.holds(r.header, b"SUP") {
         return Ok(Notification::Supplement);
     }
     Err(ErrorCode::Br19)
@@ -151,5 +150,5 @@ pub fn form_at(s: &[u8], i: usize, n: usize) -> Result<Notification, ErrorCode>
     if k != 1 {
         return Err(ErrorCode::Br17);
     }
-    pair_form(records::record_at(s, i), records::record_at(s, i + 1))
+    pair_form(&group::group_records(s, i))
 }

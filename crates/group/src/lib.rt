@@ -14,6 +14,7 @@ ghost use Rattle.group.specs.Groups.{verdict_on};
 ghost use Rattle.group.specs.parts.Turns.{identity_in, identity_at, sought_by, InWidthsAt, CanPost, ids_by, bill_by, WithinFile, TurnLeaves};
 
 use ledger::{Bill, Identity, LedgerHeader, Posted, Terms, Update};
+use records::group::GroupRecords;
 use records::{FILE_RECORDS, RECORD_SIZE, layout};
 use rules::ErrorCode;
 use units::Date;
@@ -45,13 +46,12 @@ pub struct TurnResult {
 }
 
 // The identity that a header and a detail name.
-fn identity_of(h: &[u8], d: &[u8]) -> Identity
-    requires { (19 ≤ length h.now) × (45 ≤ length d.now) }
-    ensures { result ≡ identity_in h.now d.now }
+fn identity_of(r: &GroupRecords) -> Identity
+    ensures { result ≡ identity_in r.now.header.now r.now.detail.now }
 {
     Identity {
-        account: layout::ACCOUNT.number(h).unwrap_or(0),
-        key: layout::KEY.number(d).unwrap_or(0),
+        account: layout::ACCOUNT.number(r.header).unwrap_or(0),
+        key: layout::KEY.number(r.detail).unwrap_or(0),
     }
 }
 
@@ -60,11 +60,10 @@ pub fn identity_at(s: &[u8], i: usize, n: usize) -> Identity
     requires { (i < n) × (n * record_size ≤ length s.now) }
     ensures { result ≡ identity_at s.now i n }
 {
-    let j = i + 1;
-    if n <= j {
+    if n <= i + 1 {
         return Identity { account: 0, key: 0 };
     }
-    identity_of(records::record_at(s, i), records::record_at(s, j))
+    identity_of(&records::group::group_records(s, i))
 }
 
 // Lines 1 to 10 for the group whose header is record i; duplicate says what line 3 asks, b is the bill it names.
@@ -84,9 +83,8 @@ pub fn verdict_at(
     if duplicate {
         return Err(ErrorCode::Br14);
     }
-    let h = records::record_at(s, i);
-    let d = records::record_at(s, i + 1);
-    verdict::verdict_of(h, d, notification, b, today)
+    let r = records::group::group_records(s, i);
+    verdict::verdict_of(&r, notification, b, today)
 }
 
 // The headers of groups that get BR14. (Most entries of a journal are no file: they are not searched.)

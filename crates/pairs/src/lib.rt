@@ -6,6 +6,7 @@ ghost use Rattle.records.specs.Limits.{record_size, file_records};
 ghost use Rattle.file.specs.parts.Walk.{group_at, mark_at};
 ghost use Rattle.pairs.specs.parts.GroupNumbers.{code_number, named_by, group_number, number_at, number_slot};
 
+use records::group::{self, GroupRecords};
 use records::{FILE_RECORDS, Notification, RECORD_SIZE, layout};
 use rules::ErrorCode;
 
@@ -22,12 +23,12 @@ fn code_number(form: Result<Notification, ErrorCode>) -> u64
 
 // The code, account and Bill Key of a group as one number, and no struct in an Option: by a struct with the derived equality the walk over 100 groups of which each
 // has its equal 50 groups away takes 23.2 us, and by numbers 6.8 (both walks in Rust, compiled by LLVM).
-fn named(h: &[u8], d: &[u8], code: u64) -> u64
-    requires { (19 ≤ length h.now) × (45 ≤ length d.now) × (code ≤ 2) }
-    ensures { result ≡ named_by h.now d.now code }
+fn named(r: &GroupRecords, code: u64) -> u64
+    requires { code ≤ 2 }
+    ensures { result ≡ named_by r.now.header.now r.now.detail.now code }
 {
-    let account = layout::ACCOUNT.number(h).unwrap_or(0);
-    let key = layout::KEY.number(d).unwrap_or(0);
+    let account = layout::ACCOUNT.number(r.header).unwrap_or(0);
+    let key = layout::KEY.number(r.detail).unwrap_or(0);
     code * 10000000000000000 + (account * 10000 + key)
 }
 
@@ -41,7 +42,7 @@ fn group_number(s: &[u8], i: usize, n: usize) -> u64
     if code == 0 {
         return 0;
     }
-    named(records::record_at(s, i), records::record_at(s, i + 1), code)
+    named(&group::group_records(s, i), code)
 }
 
 // The number of record i, 0 where it is no header.

@@ -1,6 +1,7 @@
 // The two records of a group that has one detail.
-ghost use Rattle.std.specs.Prelude.{◌≤◌, length};
+ghost use Rattle.std.specs.Prelude.{◌≡◌, ◌+◌, ◌*◌, ◌≤◌, length};
 ghost use Rattle.records.specs.Limits.{record_size};
+ghost use Rattle.records.specs.Layout.{record_at};
 
 // A group's header and its only detail, each a whole record.
 #[derive(Clone, Copy)]
@@ -8,4 +9,15 @@ pub struct GroupRecords<'a> {
     pub header: &'a [u8],
     pub detail: &'a [u8],
     pub ghost whole: { (record_size ≤ length header.now) × (record_size ≤ length detail.now) },
+}
+
+// Record i of the file s, and the record that follows it.
+pub fn group_records<'a>(s: &'a [u8], i: usize) -> GroupRecords<'a>
+    requires { (i + 1) * record_size + record_size ≤ length s.now }
+    ensures { (result.header.now ≡ record_at s.now i) × (result.detail.now ≡ record_at s.now (i + 1)) }
+{
+    GroupRecords {
+        header: crate::record_at(s, i),
+        detail: crate::record_at(s, i + 1),
+    }
 }

@@ -5,7 +5,6 @@ ghost use Rattle.std.specs.Prelude.{◌≡◌, true, ◌≤◌, length};
 ghost use Rattle.fields.specs.Put.{same_list};
 ghost use Rattle.fields.specs.Field.{field_of};
 ghost use Rattle.ledger.specs.Bills.{code_bytes, is_prepay};
-ghost use Rattle.records.specs.Limits.{record_size};
 ghost use Rattle.records.specs.Layout.{rate_code_in, tier_rate_in};
 ghost use Rattle.rules.specs.Rules.{first};
 ghost use Rattle.units.specs.Calendar.{is_date};
@@ -211,22 +210,16 @@ fn known(
 
 // Lines 4 to 10.
 pub fn verdict_of(
-    h: &[u8],
-    d: &[u8],
+    r: &GroupRecords,
     notification: Notification,
     b: Option<Terms>,
     today: Date,
 ) -> Result<Posted, ErrorCode>
-    requires whole { (record_size ≤ length h.now) × (record_size ≤ length d.now) }
-    requires dated { Dated today b }
-    ensures { result ≡ verdict_of notification today h.now d.now b }
+    requires { Dated today b }
+    ensures { result ≡ verdict_of notification today r.now.header.now r.now.detail.now b }
 {
     let Some(t) = b else {
         return Err(ErrorCode::Br16);
     };
-    let r = GroupRecords {
-        header: h,
-        detail: d,
-    };
-    known(&r, notification, t, today)
+    known(r, notification, t, today)
 }

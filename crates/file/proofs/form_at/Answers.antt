@@ -8,12 +8,12 @@ use Rattle.file.proofs.form_at.Goals as goal
 pub returns-then-k-ne1 : goal.returns-then-k-ne1
 returns-then-k-ne1 c = form-many c.args.s.now c.args.i c.args.n (λ e. c.if-k-ne1.true (c.detail_count-k.ensures ∙ e))
 
-pub record_at-requires-2 : goal.record_at-requires-2
-record_at-requires-2 c = omega (arith, leading-within c.args.s.now c.args.i c.args.n, c.detail_count-k.ensures)
+pub group_records-requires : goal.group_records-requires
+group_records-requires c = omega (arith, leading-within c.args.s.now c.args.i c.args.n, c.detail_count-k.ensures)
 
 pub returns : goal.returns
 returns c =
     let s = c.args.s.now in
     let i = c.args.i in
     let e = sym c.detail_count-k.ensures ∙ c.if-k-ne1.false in
-    c.pair_form.ensures ∙ ap₂ pair_form c.record_at.ensures.0 c.record_at-2.ensures.0 ∙ form-one s i c.args.n e
+    c.pair_form.ensures ∙ ap₂ pair_form c.group_records.ensures.0 c.group_records.ensures.1 ∙ form-one s i c.args.n e
