@@ -8,7 +8,7 @@ ghost use Rattle.records.specs.Layout.{record_at, records_from, is_sup};
 ghost use Rattle.file.specs.File.{printable, is_header, good_record, good_file, leading, groups, asks_id, unfit, form_of};
 ghost use Rattle.file.specs.parts.Walk.{records_after, group_at, pair_form};
 
-use records::group::{self, GroupRecords};
+use records::group::{self, GroupAt, GroupRecords};
 use records::{FILE_SIZE, Notification, RECORD_SIZE, layout};
 use rules::ErrorCode;
 
@@ -76,17 +76,17 @@ pub fn good_file(s: &[u8]) -> bool
     s.is_empty() || header_at(s, 0)
 }
 
-// How many details the group has whose header is record i, in a file of n records.
-pub fn detail_count(s: &[u8], i: usize, n: usize) -> usize
-    requires { (i < n) × (n * record_size ≤ length s.now) }
-    ensures { result ≡ leading (records_after s.now i n) }
+// How many details the group has.
+pub fn detail_count(g: &GroupAt) -> usize
+    ensures { result ≡ leading (records_after g.now.file.now g.now.header g.now.records) }
 {
-    for j in i + 1..n {
-        if header_at(s, j) {
-            return j - (i + 1);
+    let first = g.header + 1;
+    for j in first..g.records {
+        if header_at(g.file, j) {
+            return j - first;
         }
     }
-    n - (i + 1)
+    g.records - first
 }
 
 // How many groups there are, and how many ask for a Tracking ID: what cause 12 counts.
@@ -141,14 +141,13 @@ fn pair_form(r: &GroupRecords) -> Result<Notification, ErrorCode>
     Err(ErrorCode::Br19)
 }
 
-// Lines 1 and 2 for the group whose header is record i: BR17, BR19, or the Notification Code.
-pub fn form_at(s: &[u8], i: usize, n: usize) -> Result<Notification, ErrorCode>
-    requires { (i < n) × (n * record_size ≤ length s.now) }
-    ensures { result ≡ form_of (group_at s.now i n) }
+// Lines 1 and 2 for a group: BR17, BR19, or the Notification Code.
+pub fn form_at(g: &GroupAt) -> Result<Notification, ErrorCode>
+    ensures { result ≡ form_of (group_at g.now.file.now g.now.header g.now.records) }
 {
-    let k = detail_count(s, i, n);
+    let k = detail_count(g);
     if k != 1 {
         return Err(ErrorCode::Br17);
     }
-    pair_form(&group::group_records(s, i))
+    pair_form(&group::group_records(g.file, g.header))
 }

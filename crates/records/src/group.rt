@@ -1,7 +1,16 @@
-// The two records of a group that has one detail.
-ghost use Rattle.std.specs.Prelude.{◌≡◌, ◌+◌, ◌*◌, ◌≤◌, length};
+// A group of a file: where it stands, and the two records of one that has one detail.
+ghost use Rattle.std.specs.Prelude.{◌≡◌, ◌+◌, ◌*◌, ◌≤◌, ◌<◌, length};
 ghost use Rattle.records.specs.Limits.{record_size};
 ghost use Rattle.records.specs.Layout.{record_at};
+
+// Where a group stands: in a file of so many records, which of these is its header, counted from 0.
+#[derive(Clone, Copy)]
+pub struct GroupAt<'a> {
+    pub file: &'a [u8],
+    pub records: usize,
+    pub header: usize,
+    pub ghost in_file: { (header < records) × (records * record_size ≤ length file.now) },
+}
 
 // A group's header and its only detail, each a whole record.
 #[derive(Clone, Copy)]
