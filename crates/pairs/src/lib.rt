@@ -6,7 +6,7 @@ ghost use Rattle.records.specs.Limits.{record_size, file_records};
 ghost use Rattle.file.specs.parts.Walk.{group_at, mark_at};
 ghost use Rattle.pairs.specs.parts.GroupNumbers.{code_number, named_by, group_number, number_at, number_slot};
 
-use records::group::{self, GroupRecords};
+use records::group::{self, GroupAt, GroupRecords};
 use records::{FILE_RECORDS, Notification, RECORD_SIZE, layout};
 use rules::ErrorCode;
 
@@ -32,17 +32,16 @@ fn named(r: &GroupRecords, code: u64) -> u64
     code * 10000000000000000 + (account * 10000 + key)
 }
 
-// The number of the group whose header is record i, 0 where it fails line 1 or 2.
-fn group_number(s: &[u8], i: usize, n: usize) -> u64
-    requires { (i < n) × (n * record_size ≤ length s.now) }
-    ensures { result ≡ group_number (group_at s.now i n) }
+// The number of a group, 0 where it fails line 1 or 2.
+fn group_number(g: &GroupAt) -> u64
+    ensures { result ≡ group_number (group_at g.now.file.now g.now.header g.now.records) }
 {
-    let form = file::form_at(s, i, n);
+    let form = file::form_at(g);
     let code = code_number(form);
     if code == 0 {
         return 0;
     }
-    named(&group::group_records(s, i), code)
+    named(&group::group_records(g.file, g.header), code)
 }
 
 // The number of record i, 0 where it is no header.
@@ -51,7 +50,11 @@ fn number_at(s: &[u8], i: usize, n: usize) -> u64
     ensures { result ≡ number_at s.now n i }
 {
     if file::header_at(s, i) {
-        return group_number(s, i, n);
+        return group_number(&GroupAt {
+            file: s,
+            records: n,
+            header: i,
+        });
     }
     0
 }

@@ -9,6 +9,7 @@ ghost use Rattle.table.specs.Table.{cell, ended};
 ghost use Rattle.trace_lines.specs.Lines.{first_key};
 ghost use Rattle.trace_lines.specs.parts.ReadAnswers.{group_from, read_verdict, answer_long, read_line, read_lines, Lined};
 
+use records::group::GroupAt;
 use records::{RECORD_SIZE, layout};
 
 // Where the error code of a REJ's first detail stands.
@@ -105,7 +106,14 @@ fn put_group_line(r: Reached, out: &mut [u8], s: &[u8], i: usize, k: usize, sent
         from + layout::CONFIRMATION.at,
         layout::CONFIRMATION.width,
     );
-    put_in_record(out, at + 16, s, i, layout::ACCOUNT.at, layout::ACCOUNT.width);
+    put_in_record(
+        out,
+        at + 16,
+        s,
+        i,
+        layout::ACCOUNT.at,
+        layout::ACCOUNT.width,
+    );
     put_key(out, at + 29, s, i, k);
     put_in_record(out, at + 34, s, i, layout::NOTICE.at, layout::NOTICE.width);
     put_verdict(out, at + 38, sent, from, k)
@@ -118,7 +126,11 @@ fn group_turn(r: Reached, out: &mut [u8], s: &[u8], i: usize, n: usize, sent: &[
     ensures { (out.new ≡ put out.old r.end (read_line (drop r.from sent.now) (group_at s.now i n))) × (result.end ≡ r.end + length (read_line (drop r.from sent.now) (group_at s.now i n))) × (result.from ≡ r.from + answer_long (drop r.from sent.now) (length (group_at s.now i n).details)) }
 {
     let from = r.from;
-    let k = file::detail_count(s, i, n);
+    let k = file::detail_count(&GroupAt {
+        file: s,
+        records: n,
+        header: i,
+    });
     Reached {
         end: put_group_line(r, out, s, i, k, sent),
         from: next_answer(sent, from, k),

@@ -32,13 +32,13 @@ returns-then-duplicate c =
 pub group_records-r-requires : goal.group_records-r-requires
 group_records-r-requires c =
     let q = passed _ _ (sym c.form_at.ensures ∙ c.in_ok-notification.was) in
-    omega (arith, one-within c.args.s.now c.args.i c.args.n q.0)
+    omega (arith, one-within c.args.g.now.file.now c.args.g.now.header c.args.g.now.records q.0)
 
 pub returns : goal.returns
 returns c =
-    let s = c.args.s.now in
-    let i = c.args.i in
-    let n = c.args.n in
+    let s = c.args.g.now.file.now in
+    let i = c.args.g.now.header in
+    let n = c.args.g.now.records in
     let g = group_at s i n in
     let q = passed _ _ (sym c.form_at.ensures ∙ c.in_ok-notification.was) in
     let e : verdict_of c.in_ok-notification.notification c.args.today c.group_records-r.result.header.now c.group_records-r.result.detail.now c.args.b
