@@ -49,12 +49,11 @@ pub fn header_at(s: &[u8], i: usize) -> bool
     is_header(records::record_at(s, i))
 }
 
-// Whether record i has the Notification Code SUP.
-pub fn sup_at(s: &[u8], i: usize) -> bool
-    requires { i * record_size + record_size ≤ length s.now }
-    ensures { result ≡ is_sup (record_at s.now i) }
+// Whether a group's header has the Notification Code SUP.
+pub fn sup_at(g: &GroupAt) -> bool
+    ensures { result ≡ is_sup (record_at g.now.file.now g.now.header) }
 {
-    layout::NOTICE.holds(records::record_at(s, i), b"SUP")
+    layout::NOTICE.holds(records::record_at(g.file, g.header), b"SUP")
 }
 
 // The check of a whole file: cause 11 where it is false.

@@ -129,7 +129,7 @@ pub fn turn(
     requires widths { InWidthsAt f b × WithinFile c × (h.tracking ≤ 1000000200) × (h.confirmation ≤ 1000000200) × (is_date h.today.0 ≡ true) }
     ensures { TurnLeaves (verdict_on duplicate h.today (sought_by f b) (group_at g.now.file.now g.now.header g.now.records)) (group_at g.now.file.now g.now.header g.now.records) h b c writes out.old out.new result }
 {
-    let sup = file::sup_at(g.file, g.header);
+    let sup = file::sup_at(g);
     let today = h.today;
     let v = verdict_at(g, duplicate, sought_by(f, b), today);
     let size = answer::answer(out, c.written, writes, g, v, b, h);
