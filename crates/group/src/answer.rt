@@ -1,5 +1,5 @@
 // The answer to a group, ACF or REJ, where the bill at its place is at hand.
-ghost use Rattle.std.specs.Prelude.{◌≡◌, true, ◌+◌, ◌-◌, ◌*◌, ◌≤◌, ◌<◌, length};
+ghost use Rattle.std.specs.Prelude.{◌≡◌, true, ◌+◌, ◌-◌, ◌*◌, ◌≤◌, length};
 ghost use Rattle.fields.specs.Put.{put};
 ghost use Rattle.records.specs.Limits.{record_size, file_records};
 ghost use Rattle.records.specs.Layout.{record_at};
@@ -37,7 +37,8 @@ fn write_acf(out: &mut [u8], at: usize, g: &GroupAt, a: Acf)
 }
 
 // Writes the answer to the group g, where b is the bill at its place, if notices are written, and says how long it is. (`writes` and no closure in its place: the
-// length is told where nothing is written too, and a closure's contract would have to say what it writes at each place, as this one does.)
+// length is told where nothing is written too, and a closure's contract would have to say what it writes at each place, as this one does.
+// Seven parameters: `turn` alone calls it, and would alone make a struct of some of them.)
 pub fn answer(
     out: &mut [u8],
     at: usize,

@@ -5,7 +5,7 @@
 pub mod answer;
 pub mod counts;
 
-ghost use Rattle.std.specs.Prelude.{◌≡◌, true, false, cond, ℕ, ◌+◌, ◌-◌, ◌*◌, ◌≤◌, ◌<◌, length, get_or};
+ghost use Rattle.std.specs.Prelude.{◌≡◌, true, false, ℕ, ◌+◌, ◌-◌, ◌*◌, ◌≤◌, ◌<◌, length, get_or};
 ghost use Rattle.records.specs.Limits.{record_size, file_records};
 ghost use Rattle.units.specs.Calendar.{is_date};
 ghost use Rattle.file.specs.parts.Walk.{group_at, mark_at};
@@ -15,7 +15,7 @@ ghost use Rattle.group.specs.parts.Turns.{identity_in, identity_at, sought_by, I
 
 use ledger::{Bill, Identity, LedgerHeader, Posted, Terms, Update};
 use records::group::{GroupAt, GroupRecords};
-use records::{FILE_RECORDS, RECORD_SIZE, layout};
+use records::{FILE_RECORDS, layout};
 use rules::ErrorCode;
 use units::Date;
 
@@ -115,6 +115,7 @@ fn post(v: Result<Posted, ErrorCode>, sup: bool, b: Bill) -> Bill
 }
 
 // One group's turn, where b stands at the place that was found: its answer is written, if notices are.
+// (Eight parameters: `TurnLeaves` says of each what it is, and a struct of some would be made by engine `turn` alone.)
 pub fn turn(
     out: &mut [u8],
     writes: bool,

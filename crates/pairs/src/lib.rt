@@ -7,7 +7,7 @@ ghost use Rattle.file.specs.parts.Walk.{group_at, mark_at};
 ghost use Rattle.pairs.specs.parts.GroupNumbers.{code_number, named_by, group_number, number_at, number_slot};
 
 use records::group::{self, GroupAt, GroupRecords};
-use records::{FILE_RECORDS, Notification, RECORD_SIZE, layout};
+use records::{FILE_RECORDS, Notification, layout};
 use rules::ErrorCode;
 
 // A form's Notification Code as a number, 0 for none.
@@ -59,7 +59,8 @@ fn number_at(s: &[u8], i: usize, n: usize) -> u64
     0
 }
 
-// The numbers of the records of a file.
+// The numbers of the records of a file. (Its clause stands here, in `duplicates` and in group `marks`: GroupAt asks for an index, which none of them has, and a
+// struct of s and n alone would be made for these three and taken apart in each.)
 fn group_numbers(s: &[u8], n: usize) -> [u64; FILE_RECORDS]
     requires { (n ≤ file_records) × (n * record_size ≤ length s.now) }
     ensures { (length result ≡ file_records) × ((k : ℕ) → k < n → get_or result k 0 ≡ number_at s.now n k) }
@@ -71,7 +72,7 @@ fn group_numbers(s: &[u8], n: usize) -> [u64; FILE_RECORDS]
     r
 }
 
-// The slot of a number.
+// The slot of a number. (Rust has no `From` of a u64 for usize: the cast loses nothing, since the rest is below 509.)
 fn slot(number: u64) -> usize
     ensures { (result ≡ number_slot number) × (result < 509) }
 {

@@ -1,5 +1,5 @@
 // The lines of a file's groups, read off the file and the answers to it.
-ghost use Rattle.std.specs.Prelude.{◌≡◌, ◌+◌, ◌*◌, ◌≤◌, ◌<◌, length, drop};
+ghost use Rattle.std.specs.Prelude.{◌≡◌, ◌+◌, ◌*◌, ◌≤◌, length, drop};
 ghost use Rattle.fields.specs.Put.{put, part};
 ghost use Rattle.records.specs.Limits.{record_size};
 ghost use Rattle.records.specs.Layout.{records_from};

@@ -1,7 +1,7 @@
 // Lines 4 to 10: the verdict of a group that passes lines 1 to 3, on the bill that it names.
 #![tactic(auto)]
 
-ghost use Rattle.std.specs.Prelude.{◌≡◌, true, ◌≤◌, length};
+ghost use Rattle.std.specs.Prelude.{◌≡◌, true};
 ghost use Rattle.fields.specs.Put.{same_list};
 ghost use Rattle.fields.specs.Field.{field_of};
 ghost use Rattle.ledger.specs.Bills.{code_bytes, is_prepay};
@@ -19,12 +19,11 @@ use rules::ErrorCode;
 use units::{Ccf, Cents, Date, Rate};
 
 // Whether a header has this rate code.
-fn has_code(h: &[u8], c: RateCode) -> bool
-    requires { 7 ≤ length h.now }
-    ensures { result ≡ same_list (rate_code_in h.now) (code_bytes c) }
+fn has_code(r: &GroupRecords, c: RateCode) -> bool
+    ensures { result ≡ same_list (rate_code_in r.now.header.now) (code_bytes c) }
 {
     let code = [c.first, c.second, 67, c.tens, c.ones];
-    layout::RATE_CODE.holds(h, &code)
+    layout::RATE_CODE.holds(r.header, &code)
 }
 
 // Line 6 for RSP.
@@ -57,7 +56,8 @@ fn removed_long(removal: Option<Date>, today: Date) -> bool
     }
 }
 
-// Line 6 for SUP.
+// Line 6 for SUP. (The clause on dates stands three times: a struct of the bill's terms and today would be as long in `line6` and the rules that take each alone,
+// and RSP's line 6 asks for no such clause.)
 fn line_6_supplement(r: &GroupRecords, t: Terms, today: Date) -> Result<(), ErrorCode>
     requires { (is_date today.0 ≡ true) × (dated_terms t ≡ true) }
     ensures { result ≡ first (line6 Notification.Supplement today r.now.header.now r.now.detail.now t) }
@@ -104,29 +104,27 @@ fn line_6(
 }
 
 // The rate of tier 1, which no rule adds or compares.
-fn tier_1_rate(d: &[u8]) -> Option<Rate>
-    requires { 94 ≤ length d.now }
-    ensures { result ≡ rate_of (field_of (tier_rate_in d.now 88)) }
+fn tier_1_rate(r: &GroupRecords) -> Option<Rate>
+    ensures { result ≡ rate_of (field_of (tier_rate_in r.now.detail.now 88)) }
 {
-    let rate = layout::TIER_1_RATE.number(d)?;
+    let rate = layout::TIER_1_RATE.number(r.detail)?;
     Some(Rate(rate))
 }
 
 // Line 9.
-fn line_9(d: &[u8], consumption: Ccf, charge: Cents) -> Result<(), ErrorCode>
-    requires { 207 ≤ length d.now }
-    ensures { result ≡ first (line9 d.now consumption.0 charge.0) }
+fn line_9(r: &GroupRecords, consumption: Ccf, charge: Cents) -> Result<(), ErrorCode>
+    ensures { result ≡ first (line9 r.now.detail.now consumption.0 charge.0) }
 {
-    let Some(_) = tier_1_rate(d) else {
+    let Some(_) = tier_1_rate(r) else {
         return Err(ErrorCode::Br24);
     };
-    let Some(ccf) = records::tier_consumptions(d) else {
+    let Some(ccf) = records::tier_consumptions(r.detail) else {
         return Err(ErrorCode::Br25);
     };
     if Ccf(ccf.sum()) != consumption {
         return Err(ErrorCode::Br25);
     }
-    let Some(cents) = records::tier_charges(d) else {
+    let Some(cents) = records::tier_charges(r.detail) else {
         return Err(ErrorCode::Br26);
     };
     if Cents(cents.sum()) != charge {
@@ -136,11 +134,10 @@ fn line_9(d: &[u8], consumption: Ccf, charge: Cents) -> Result<(), ErrorCode>
 }
 
 // Lines 8 to 10 for Bill Ready: line 9 alone.
-fn bill_ready(d: &[u8], consumption: Ccf, charge: Cents) -> Result<Posted, ErrorCode>
-    requires { 207 ≤ length d.now }
-    ensures { result ≡ settle (first (line9 d.now consumption.0 charge.0)) (Posted.BillReady charge) }
+fn bill_ready(r: &GroupRecords, consumption: Ccf, charge: Cents) -> Result<Posted, ErrorCode>
+    ensures { result ≡ settle (first (line9 r.now.detail.now consumption.0 charge.0)) (Posted.BillReady charge) }
 {
-    line_9(d, consumption, charge)?;
+    line_9(r, consumption, charge)?;
     Ok(Posted::BillReady(charge))
 }
 
@@ -158,7 +155,7 @@ fn prepay(r: &GroupRecords, consumption: Ccf, charge: Cents) -> Result<Posted, E
     let Some(owed) = layout::OWED.number(r.detail) else {
         return Err(ErrorCode::Br23);
     };
-    line_9(r.detail, consumption, charge)?;
+    line_9(r, consumption, charge)?;
     if Cents(applied) + Cents(owed) != charge {
         return Err(ErrorCode::Br20);
     }
@@ -187,7 +184,7 @@ fn amounts(r: &GroupRecords, t: Terms) -> Result<Posted, ErrorCode>
     if product.is_prepay() {
         return prepay(r, Ccf(c), Cents(m));
     }
-    bill_ready(r.detail, Ccf(c), Cents(m))
+    bill_ready(r, Ccf(c), Cents(m))
 }
 
 // Lines 5 to 10.
@@ -201,7 +198,7 @@ fn known(
     ensures { result ≡ settle (first (lines5to10 notification today r.now.header.now r.now.detail.now t)) (amounts_of (is_prepay t.product) r.now.detail.now) }
 {
     let code = t.code;
-    if !has_code(r.header, code) {
+    if !has_code(r, code) {
         return Err(ErrorCode::Br07);
     }
     line_6(r, notification, t, today)?;
