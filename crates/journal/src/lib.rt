@@ -209,9 +209,7 @@ fn length_at(s: &[u8]) -> usize
     requires { 3 ≤ length s.now }
     ensures { (result ≡ get_or s.now 1 0 * 256 + get_or s.now 2 0) × (result < 65536) }
 {
-    let high = usize::from(s[1]);
-    let low = usize::from(s[2]);
-    high * 256 + low
+    usize::from(u16::from_be_bytes([s[1], s[2]]))
 }
 
 // What stands at the start of s, after so many entries.

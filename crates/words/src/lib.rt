@@ -52,11 +52,7 @@ pub fn fits(words: &[u64]) -> bool
     if words.len() != LEDGER_SIZE {
         return false;
     }
-    let mut good = true;
-    for i in 0..ledger::PLACES {
-        good = good & fits_in(words, HEADER_SIZE + PLACE_SIZE * i);
-    }
-    good
+    (0..ledger::PLACES).all(|i| fits_in(words, HEADER_SIZE + PLACE_SIZE * i))
 }
 
 // ---- the ledger whose words they are
