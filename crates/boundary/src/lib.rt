@@ -1,4 +1,4 @@
-// A call on words that may hold anything, and what it came to given to the caller's buffers.
+// A call on words that may hold anything, and what it came to given to the caller's buffers. These go side by side, since no struct crosses the C interface.
 #![tactic(auto)]
 
 ghost use Rattle.std.specs.Prelude.{◌≡◌, length};
@@ -56,11 +56,9 @@ fn give(change: &mut i64, counts: &mut [u64; 4], a: Result<Returned, Cause>) -> 
     match a {
         Err(cause) => u64::from(cause),
         Ok(r) => {
+            *change = r.change;
             // Rust has no `From` of a usize for u64, here and in clearing_c: the cast loses nothing.
-            let cents = r.change;
-            *change = cents;
-            let all = [r.written as u64, r.accepted, r.rejected, r.closed];
-            *counts = all;
+            *counts = [r.written as u64, r.accepted, r.rejected, r.closed];
             0
         }
     }

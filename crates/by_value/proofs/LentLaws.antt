@@ -7,7 +7,7 @@ use Rattle.std.specs.Prelude.{Err}
 use Rattle.fields.specs.Put.{put}
 use Rattle.ledger.specs.declared.Ledger.{Ledger}
 use Rattle.ledger.specs.Sound.{sound_ledger}
-use Rattle.rules.specs.declared.Cause.{Cause}
+use Rattle.calls.specs.declared.Called.{Called}
 use Rattle.rules.specs.declared.Cause.TheVariants.{BadArgument}
 use Rattle.causes.specs.Causes.{Call}
 use Rattle.calls.specs.Machine.{called, step_in}
@@ -15,6 +15,6 @@ use Rattle.calls.proofs.CallLaws.{cause-unsound, stopped, stopped-called}
 
 module _ (c : Call) (l : Ledger) where
   -- a ledger that is not sound
-  pub unsound-called : sound_ledger l ≡ false → (n : Cause) → n ≡ BadArgument → (out : List ℕ)
-      → (record { ledger = l; answer = Err n } ≡ called l c) × (out ≡ put out 0 (step_in l c).written)
-  unsound-called u n e out = rw e (stopped-called (stopped l c BadArgument (cause-unsound l c u)) out)
+  pub unsound-called : sound_ledger l ≡ false → (r : Called) → r ≡ record { ledger = l; answer = Err BadArgument } → (out : List ℕ)
+      → (r ≡ called l c) × (out ≡ put out 0 (step_in l c).written)
+  unsound-called u r e out = rw e (stopped-called (stopped l c BadArgument (cause-unsound l c u)) out)

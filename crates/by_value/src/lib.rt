@@ -1,7 +1,7 @@
 // The calls on a ledger by value: each lends the ledger to the engine, if it is sound, and hands back what that left.
 #![tactic(auto)]
 
-ghost use Rattle.std.specs.Prelude.{◌≡◌, true, length, Err};
+ghost use Rattle.std.specs.Prelude.{◌≡◌, true, length};
 ghost use Rattle.fields.specs.Put.{put};
 ghost use Rattle.places.specs.parts.OneLedger.{holds_one, one_ledger};
 ghost use Rattle.causes.specs.Causes.{request, calendar, file, cancel, close, removal};
@@ -18,25 +18,18 @@ use places::{checks, one_ledger};
 use rules::Cause;
 use units::Date;
 
-// The ledger lent for a call, or 2 where it is not sound.
-fn lend_sound(l: Ledger) -> Result<[Ledger; 1], Cause>
+// The ledger lent for a call; where it is not sound the call is refused with 2, and the ledger is as it was.
+fn lend_sound(l: Ledger) -> Result<[Ledger; 1], Called>
     ensures { LentIfSound l result }
 {
     let lent = one_ledger::lend(l);
     if !checks::sound(&lent) {
-        return Err(Cause::BadArgument);
+        return Err(Called {
+            ledger: l,
+            answer: Err(Cause::BadArgument),
+        });
     }
     Ok(lent)
-}
-
-// "Returned is the number alone": the ledger is as it was.
-fn refused(l: Ledger, cause: Cause) -> Called
-    ensures { result ≡ record { ledger = l; answer = Err cause } }
-{
-    Called {
-        ledger: l,
-        answer: Err(cause),
-    }
 }
 
 // The ledger that a call left, and what it answered.
@@ -65,7 +58,7 @@ pub fn close_day(l: Ledger, d: Date) -> Called
 {
     let mut lent = match lend_sound(l) {
         Ok(lent) => lent,
-        Err(cause) => return refused(l, cause),
+        Err(refused) => return refused,
     };
     let answer = call::close_in(&mut lent, d);
     left(&lent, answer)
@@ -77,7 +70,7 @@ pub fn remove_account(l: Ledger, a: AccountRemoval) -> Called
 {
     let mut lent = match lend_sound(l) {
         Ok(lent) => lent,
-        Err(cause) => return refused(l, cause),
+        Err(refused) => return refused,
     };
     let answer = call::removal_in(&mut lent, a);
     left(&lent, answer)
@@ -89,7 +82,7 @@ pub fn take_file(l: Ledger, out: &mut [u8], s: &[u8]) -> Called
 {
     let mut lent = match lend_sound(l) {
         Ok(lent) => lent,
-        Err(cause) => return refused(l, cause),
+        Err(refused) => return refused,
     };
     let room = out.len();
     let answer = call::file_in(&mut lent, out, true, room, s);
@@ -102,7 +95,7 @@ fn bill_call(l: Ledger, out: &mut [u8], c: BillCall) -> Called
 {
     let mut lent = match lend_sound(l) {
         Ok(lent) => lent,
-        Err(cause) => return refused(l, cause),
+        Err(refused) => return refused,
     };
     let room = out.len();
     let answer = call::bill_call_in(&mut lent, out, true, room, c);
@@ -127,7 +120,7 @@ pub fn request_by_calendar(
 {
     let mut lent = match lend_sound(l) {
         Ok(lent) => lent,
-        Err(unsound) => return refused(l, unsound),
+        Err(unsound) => return unsound,
     };
     let room = out.len();
     let answer = call::calendar_in(&mut lent, out, true, room, q, holidays);

@@ -103,7 +103,8 @@ fn bill_check(r: Request, held: usize, b: Option<Terms>) -> Result<(), Cause>
     Ok(())
 }
 
-// The first cause against a request of a sound ledger.
+// The first cause against a request of a sound ledger. (The bounds of its two next numbers are a clause here and in decisions, and no field of LedgerHeader: places
+// `Holder::header` gives the header of a ledger that is not sound too.)
 pub fn request_check(
     r: Request,
     room: usize,
@@ -174,6 +175,7 @@ pub fn file_check(s: &[u8], room: usize, tracking: u64, confirmation: u64) -> Re
         return Err(Cause::OutputTooSmall);
     }
     let needs = file::count_groups(s, len / records::RECORD_SIZE);
+    // Rust has no `From` of a usize for u64: the casts lose nothing.
     if lacks(
         tracking,
         confirmation,

@@ -1,4 +1,5 @@
-// The calls on a ledger that is lent: each makes the call by value and stores the ledger that it left.
+// The calls on a ledger that is lent: each makes the call by value and stores the ledger that it left. The three lines of each stay: one function over a closure
+// that makes the call would be as long at each call, and its contract would speak of what the closure leaves.
 #![tactic(auto)]
 
 ghost use Rattle.std.specs.Prelude.{◌≡◌, length};

@@ -15,19 +15,12 @@ pub fn clearing_weekday(date: u64, weekday: &mut u64) -> u64
     crate::store_number(weekday, found)
 }
 
-// Stores a day that was found, and gives the number of the answer: one function of numbers and days would take a closure from each caller that says what number
-// a day is, and its contract would speak of that.
+// Stores a day that was found, and gives the number of the answer.
 fn store_day(day: &mut u64, found: Result<Date, Cause>) -> u64
     ensures answer { result ≡ number_of found }
     ensures stored { day.new ≡ date_left day.old found }
 {
-    match found {
-        Ok(d) => {
-            *day = d.0;
-            0
-        }
-        Err(cause) => u64::from(cause),
-    }
+    crate::store_number(day, found.map(|d| d.0))
 }
 
 // The first business day after a date.

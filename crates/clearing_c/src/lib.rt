@@ -209,13 +209,7 @@ pub fn clearing_open_bill(ledger: &[u64], account: u64, place: &mut u64) -> u64
     ensures stored { place.new ≡ number_left place.old (open_in (ledger_of ledger.now) account) }
 {
     let found = lookups::open_bill_of(ledger, account);
-    match found {
-        Ok(p) => {
-            *place = p as u64;
-            0
-        }
-        Err(cause) => u64::from(cause),
-    }
+    store_number(place, found.map(|p| p as u64))
 }
 
 // Lookup: charge, applied and owed of one bill.
@@ -239,13 +233,7 @@ pub fn clearing_ledger_table(ledger: &[u64], out: &mut [u8], written: &mut u64) 
     ensures { Prints (ledger_of ledger.now) out.old written.old out.new written.new result }
 {
     let p = table::print(out, ledger, false);
-    match p {
-        Ok(n) => {
-            *written = n as u64;
-            0
-        }
-        Err(cause) => u64::from(cause),
-    }
+    store_number(written, p.map(|n| n as u64))
 }
 
 // The journal entry at the start of some bytes, before which so many entries came; found are its bytes, 0 where no whole good one stands there

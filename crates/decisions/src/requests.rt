@@ -1,4 +1,5 @@
-// What a request and a cancel leave of the bill at their place.
+// What a request and a cancel leave of the bill at their place. That a header's numbers are not past the last is asked by a clause: a type of such headers would
+// have to ask it where one is made, at the same calls, since a ledger holds any number.
 ghost use Rattle.std.specs.Prelude.{◌≡◌, ◌≤◌};
 ghost use Rattle.rules.specs.Rules.{first};
 ghost use Rattle.causes.specs.Requests.{latest_of, new_bill};

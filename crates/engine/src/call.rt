@@ -1,4 +1,5 @@
 // The calls on a lent ledger that is known to be sound: each does what the call by value does, and writes its notices if it is asked to.
+// `out`, `writes` and `room` go side by side: the contracts say of the output what stood in it and what stands, and a struct of the three would be made for each call.
 ghost use Rattle.std.specs.Prelude.{◌≡◌, true, ◌+◌, ◌≤◌, length, take};
 ghost use Rattle.rules.specs.Lists.{count};
 ghost use Rattle.ledger.specs.Sound.{sound_ledger};

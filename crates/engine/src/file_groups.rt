@@ -1,13 +1,14 @@
 // A file's groups on a lent ledger: each decided, answered and posted in its place.
-ghost use Rattle.std.specs.Prelude.{◌≡◌, true, ◌+◌, ◌-◌, ◌*◌, ◌≤◌, ◌<◌, length};
+ghost use Rattle.std.specs.Prelude.{◌≡◌, true, ◌+◌, ◌-◌, ◌*◌, ◌≤◌, length};
 ghost use Rattle.records.specs.Layout.{records_from};
 ghost use Rattle.file.specs.File.{groups};
 ghost use Rattle.group.specs.parts.Turns.{Ready, FitForTurn, TurnLeavesOn, FileTaken};
 ghost use Rattle.records.specs.Limits.{record_size, file_records};
 
-use group::{GroupAt, Tally};
+use group::Tally;
 use places::holder::Holder;
 use places::place;
+use records::group::GroupAt;
 
 // One group's turn: its bill found, the group decided and answered, and what that leaves stored.
 fn turn<T: Holder>(
@@ -15,19 +16,19 @@ fn turn<T: Holder>(
     out: &mut [u8],
     writes: bool,
     c: Tally,
-    s: &[u8],
-    g: GroupAt,
+    g: &GroupAt,
+    duplicate: bool,
 ) -> Tally
-    requires in_file { (g.header < g.records) × (g.records * record_size ≤ length s.now) × (g.records ≤ file_records) × (writes ≡ true → c.written + (g.records - g.header) * record_size ≤ length out.old) }
+    requires in_file { (g.now.records ≤ file_records) × (writes ≡ true → c.written + (g.now.records - g.now.header) * record_size ≤ length out.old) }
     requires holds { (T.holds lent.old ≡ true) × FitForTurn (T.held lent.old) c }
-    ensures { (T.holds lent.new ≡ true) × TurnLeavesOn s.now g.header g.records g.duplicate (T.held lent.old) c writes out.old (T.held lent.new) out.new result }
+    ensures { (T.holds lent.new ≡ true) × TurnLeavesOn g.now.file.now g.now.header g.now.records duplicate (T.held lent.old) c writes out.old (T.held lent.new) out.new result }
 {
     let h = T::header(lent);
     let count = h.count;
-    let f = place::find(lent, count, group::identity_at(s, g.header, g.records));
+    let f = place::find(lent, count, group::identity_at(g));
     let p = ledger::books::bill_place(f, count);
     let b = T::bill_at(lent, p);
-    let x = group::turn(out, writes, c, s, g, h, f, b);
+    let x = group::turn(out, writes, c, g, duplicate, h, f, b);
     let u = x.update;
     place::update(lent, p, u);
     x.tally
@@ -44,11 +45,11 @@ pub fn take<T: Holder>(lent: &mut [T], out: &mut [u8], writes: bool, s: &[u8], n
     for (header, duplicate) in marks[..n].iter().enumerate() {
         if file::header_at(s, header) {
             let g = GroupAt {
-                header,
+                file: s,
                 records: n,
-                duplicate: *duplicate,
+                header,
             };
-            c = turn(lent, out, writes, c, s, g);
+            c = turn(lent, out, writes, c, &g, *duplicate);
         }
     }
     c

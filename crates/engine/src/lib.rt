@@ -1,5 +1,4 @@
-// The engine: a ledger that is lent as words and changed in place. Each call does to the ledger that the words hold what the call by value does; an entry of
-// a journal is one call of `step`.
+// The engine: a ledger that is lent, as words or as one `Ledger`, and changed in place. Crate by_value lends its ledger to it, crate entries a journal's words.
 #![tactic(auto)]
 
 pub mod call;

@@ -26,10 +26,7 @@ pub struct Ran {
 fn written(a: Result<Returned, Cause>) -> usize
     ensures { result ≡ length_of a }
 {
-    match a {
-        Ok(r) => r.written,
-        Err(_) => 0,
-    }
+    a.map_or(0, |r| r.written)
 }
 
 // Whether an output of so many bytes, of which n are written, lacks what one entry may write.
@@ -37,10 +34,7 @@ fn is_full(writes: bool, len: usize, n: usize) -> bool
     requires { writes ≡ true → n ≤ len }
     ensures { result ≡ (writes && ltb (len - n) file_size) }
 {
-    if writes {
-        return len - n < records::FILE_SIZE;
-    }
-    false
+    writes && len - n < records::FILE_SIZE
 }
 
 // Where the next notices go: where none are written they are lent the start, and leave it alone.

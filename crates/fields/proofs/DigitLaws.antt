@@ -12,7 +12,7 @@ use Rattle.fields.proofs.BoolLaws.{and_both}
 use Rattle.fields.proofs.PutLaws.{put-cons}
 use lib.Arith.{mod-mul, digits_lt, digits_div}
 use lib.Dec.{leb}
-use borrow.Author.Tests.{le-leb, leb-true, lt-leb}
+use borrow.Author.Tests.{le-leb, leb-true}
 use Rattle.fields.specs.Digits.{digits, number, is_digit, numeric}
 use Rattle.std.specs.Prelude.{Some, None}
 
@@ -51,14 +51,6 @@ is_digit-range x h =
 pub is_digit-in : (x : ℕ) → 48 ≤ x → x ≤ 57 → is_digit x ≡ true
 unfolding is_digit
 is_digit-in x h k = simp (le-leb 48 x h, le-leb x 57 k)
-
-pub is_digit-low : (x : ℕ) → x < 48 → is_digit x ≡ false
-unfolding is_digit
-is_digit-low x h = simp (lt-leb 48 x h)
-
-pub is_digit-high : (x : ℕ) → 57 < x → is_digit x ≡ false
-unfolding is_digit
-is_digit-high x h = simp (le-leb 48 x (omega arith), lt-leb x 57 h)
 
 pub numeric-digits : (w n : ℕ) → numeric (digits w n) ≡ true
 unfolding digits numeric

@@ -13,7 +13,8 @@ pub fn put_digits(out: &mut [u8], at: usize, width: usize, n: u64)
     ensures { out.new ≡ put out.old at (digits width n) }
 {
     let mut m = n;
-    // By `as`, which is proved to keep the digit: `try_from` would want an answer for what is no byte.
+    // From the last digit, which `% 10` gives first: the one to write is the i-th, by its index. By `as`, which is proved to keep the digit: `try_from` would want
+    // an answer for what is no byte.
     for i in (0..width).rev() {
         out[at + i] = (48 + m % 10) as u8;
         m = m / 10;
@@ -59,10 +60,7 @@ pub fn read_digits(f: &[u8]) -> Option<u64>
 {
     let mut n: u64 = 0;
     for &x in f {
-        if x < 48 {
-            return None;
-        }
-        if 57 < x {
+        if !is_digit(x) {
             return None;
         }
         n = n * 10 + u64::from(x - b'0');
@@ -109,7 +107,7 @@ pub fn is_digits(s: &[u8], at: usize, width: usize, n: u64) -> bool
     ensures { result ≡ same_list (part s.now at width) (digits width n) }
 {
     let mut m = n;
-    // By `as`, as in `put_digits`.
+    // From the last digit by an index, and by `as`, as in `put_digits`.
     for i in (0..width).rev() {
         if s[at + i] != (48 + m % 10) as u8 {
             return false;

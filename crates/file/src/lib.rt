@@ -8,6 +8,7 @@ ghost use Rattle.records.specs.Layout.{record_at, records_from, is_sup};
 ghost use Rattle.file.specs.File.{printable, is_header, good_record, good_file, leading, groups, asks_id, unfit, form_of};
 ghost use Rattle.file.specs.parts.Walk.{records_after, group_at, pair_form};
 
+use records::group::{self, GroupAt, GroupRecords};
 use records::{FILE_SIZE, Notification, RECORD_SIZE, layout};
 use rules::ErrorCode;
 
@@ -48,12 +49,11 @@ pub fn header_at(s: &[u8], i: usize) -> bool
     is_header(records::record_at(s, i))
 }
 
-// Whether record i has the Notification Code SUP.
-pub fn sup_at(s: &[u8], i: usize) -> bool
-    requires { i * record_size + record_size ≤ length s.now }
-    ensures { result ≡ is_sup (record_at s.now i) }
+// Whether a group's header has the Notification Code SUP.
+pub fn sup_at(g: &GroupAt) -> bool
+    ensures { result ≡ is_sup (record_at g.now.file.now g.now.header) }
 {
-    layout::NOTICE.holds(records::record_at(s, i), b"SUP")
+    layout::NOTICE.holds(records::record_at(g.file, g.header), b"SUP")
 }
 
 // The check of a whole file: cause 11 where it is false.
@@ -75,17 +75,17 @@ pub fn good_file(s: &[u8]) -> bool
     s.is_empty() || header_at(s, 0)
 }
 
-// How many details the group has whose header is record i, in a file of n records.
-pub fn detail_count(s: &[u8], i: usize, n: usize) -> usize
-    requires { (i < n) × (n * record_size ≤ length s.now) }
-    ensures { result ≡ leading (records_after s.now i n) }
+// How many details the group has.
+pub fn detail_count(g: &GroupAt) -> usize
+    ensures { result ≡ leading (records_after g.now.file.now g.now.header g.now.records) }
 {
-    for j in i + 1..n {
-        if header_at(s, j) {
-            return j - (i + 1);
+    let first = g.header + 1;
+    for j in first..g.records {
+        if header_at(g.file, j) {
+            return j - first;
         }
     }
-    n - (i + 1)
+    g.records - first
 }
 
 // How many groups there are, and how many ask for a Tracking ID: what cause 12 counts.
@@ -113,43 +113,40 @@ pub fn count_groups(s: &[u8], n: usize) -> Counts
 }
 
 // Line 1 for a header and its only detail.
-fn unfit_pair(h: &[u8], d: &[u8]) -> bool
-    requires { (60 ≤ length h.now) × (45 ≤ length d.now) }
-    ensures { result ≡ unfit h.now d.now }
+fn unfit_pair(r: &GroupRecords) -> bool
+    ensures { result ≡ unfit r.now.header.now r.now.detail.now }
 {
-    !layout::RECORD_COUNT.holds(h, b"01")
-        | !layout::COMPANY.holds(h, b"34")
-        | !layout::TO_TYPE.is_same(h, d)
-        | !layout::NOTICE.is_same(h, d)
-        | !layout::ACCOUNT.is_numeric(h)
-        | !layout::KEY.is_numeric(d)
+    !layout::RECORD_COUNT.holds(r.header, b"01")
+        | !layout::COMPANY.holds(r.header, b"34")
+        | !layout::TO_TYPE.is_same(r.header, r.detail)
+        | !layout::NOTICE.is_same(r.header, r.detail)
+        | !layout::ACCOUNT.is_numeric(r.header)
+        | !layout::KEY.is_numeric(r.detail)
 }
 
 // Lines 1 and 2 for a header and its only detail: BR17, BR19, or the Notification Code.
-fn pair_form(h: &[u8], d: &[u8]) -> Result<Notification, ErrorCode>
-    requires { (60 ≤ length h.now) × (45 ≤ length d.now) }
-    ensures { result ≡ pair_form h.now d.now }
+fn pair_form(r: &GroupRecords) -> Result<Notification, ErrorCode>
+    ensures { result ≡ pair_form r.now.header.now r.now.detail.now }
 {
-    if unfit_pair(h, d) {
+    if unfit_pair(r) {
         return Err(ErrorCode::Br17);
     }
-    if layout::NOTICE.holds(h, b"RSP") {
+    if layout::NOTICE.holds(r.header, b"RSP") {
         return Ok(Notification::Response);
     }
-    if layout::NOTICE.holds(h, b"SUP") {
+    if layout::NOTICE.holds(r.header, b"SUP") {
         return Ok(Notification::Supplement);
     }
     Err(ErrorCode::Br19)
 }
 
-// Lines 1 and 2 for the group whose header is record i: BR17, BR19, or the Notification Code.
-pub fn form_at(s: &[u8], i: usize, n: usize) -> Result<Notification, ErrorCode>
-    requires { (i < n) × (n * record_size ≤ length s.now) }
-    ensures { result ≡ form_of (group_at s.now i n) }
+// Lines 1 and 2 for a group: BR17, BR19, or the Notification Code.
+pub fn form_at(g: &GroupAt) -> Result<Notification, ErrorCode>
+    ensures { result ≡ form_of (group_at g.now.file.now g.now.header g.now.records) }
 {
-    let k = detail_count(s, i, n);
+    let k = detail_count(g);
     if k != 1 {
         return Err(ErrorCode::Br17);
     }
-    pair_form(records::record_at(s, i), records::record_at(s, i + 1))
+    pair_form(&group::group_records(g.file, g.header))
 }

@@ -5,7 +5,7 @@
 pub mod answer;
 pub mod counts;
 
-ghost use Rattle.std.specs.Prelude.{◌≡◌, true, false, cond, ℕ, ◌+◌, ◌-◌, ◌*◌, ◌≤◌, ◌<◌, length, get_or};
+ghost use Rattle.std.specs.Prelude.{◌≡◌, true, false, ℕ, ◌+◌, ◌-◌, ◌*◌, ◌≤◌, ◌<◌, length, get_or};
 ghost use Rattle.records.specs.Limits.{record_size, file_records};
 ghost use Rattle.units.specs.Calendar.{is_date};
 ghost use Rattle.file.specs.parts.Walk.{group_at, mark_at};
@@ -14,17 +14,10 @@ ghost use Rattle.group.specs.Groups.{verdict_on};
 ghost use Rattle.group.specs.parts.Turns.{identity_in, identity_at, sought_by, InWidthsAt, CanPost, ids_by, bill_by, WithinFile, TurnLeaves};
 
 use ledger::{Bill, Identity, LedgerHeader, Posted, Terms, Update};
-use records::{FILE_RECORDS, RECORD_SIZE, layout};
+use records::group::{GroupAt, GroupRecords};
+use records::{FILE_RECORDS, layout};
 use rules::ErrorCode;
 use units::Date;
-
-// A group of a file: the record that is its header, how many records the file has, and whether the group gets BR14.
-#[derive(Clone, Copy)]
-pub struct GroupAt {
-    pub header: usize,
-    pub records: usize,
-    pub duplicate: bool,
-}
 
 // What came of a file's groups so far: how many were accepted and rejected, how many bytes their answers have, and the sums of the charges that were posted and
 // of those that they replaced.
@@ -45,48 +38,41 @@ pub struct TurnResult {
 }
 
 // The identity that a header and a detail name.
-fn identity_of(h: &[u8], d: &[u8]) -> Identity
-    requires { (19 ≤ length h.now) × (45 ≤ length d.now) }
-    ensures { result ≡ identity_in h.now d.now }
+fn identity_of(r: &GroupRecords) -> Identity
+    ensures { result ≡ identity_in r.now.header.now r.now.detail.now }
 {
     Identity {
-        account: layout::ACCOUNT.number(h).unwrap_or(0),
-        key: layout::KEY.number(d).unwrap_or(0),
+        account: layout::ACCOUNT.number(r.header).unwrap_or(0),
+        key: layout::KEY.number(r.detail).unwrap_or(0),
     }
 }
 
-// The identity that the group of record i names, where a record follows.
-pub fn identity_at(s: &[u8], i: usize, n: usize) -> Identity
-    requires { (i < n) × (n * record_size ≤ length s.now) }
-    ensures { result ≡ identity_at s.now i n }
+// The identity that a group names, where a record follows its header.
+pub fn identity_at(g: &GroupAt) -> Identity
+    ensures { result ≡ identity_at g.now.file.now g.now.header g.now.records }
 {
-    let j = i + 1;
-    if n <= j {
+    if g.records <= g.header + 1 {
         return Identity { account: 0, key: 0 };
     }
-    identity_of(records::record_at(s, i), records::record_at(s, j))
+    identity_of(&records::group::group_records(g.file, g.header))
 }
 
-// Lines 1 to 10 for the group whose header is record i; duplicate says what line 3 asks, b is the bill it names.
+// Lines 1 to 10 for a group; duplicate says what line 3 asks, b is the bill it names.
 pub fn verdict_at(
-    s: &[u8],
-    i: usize,
-    n: usize,
+    g: &GroupAt,
     duplicate: bool,
     b: Option<Terms>,
     today: Date,
 ) -> Result<Posted, ErrorCode>
-    requires in_file { (i < n) × (n * record_size ≤ length s.now) }
-    requires dated { Dated today b }
-    ensures { result ≡ verdict_on duplicate today b (group_at s.now i n) }
+    requires { Dated today b }
+    ensures { result ≡ verdict_on duplicate today b (group_at g.now.file.now g.now.header g.now.records) }
 {
-    let notification = file::form_at(s, i, n)?;
+    let notification = file::form_at(g)?;
     if duplicate {
         return Err(ErrorCode::Br14);
     }
-    let h = records::record_at(s, i);
-    let d = records::record_at(s, i + 1);
-    verdict::verdict_of(h, d, notification, b, today)
+    let r = records::group::group_records(g.file, g.header);
+    verdict::verdict_of(&r, notification, b, today)
 }
 
 // The headers of groups that get BR14. (Most entries of a journal are no file: they are not searched.)
@@ -104,11 +90,7 @@ pub fn marks(s: &[u8], n: usize) -> [bool; FILE_RECORDS]
 pub fn sought_by(f: Option<usize>, b: Bill) -> Option<Terms>
     ensures { result ≡ sought_by f b }
 {
-    let t = b.terms;
-    match f {
-        Some(_) => Some(t),
-        None => None,
-    }
+    f.map(|_| b.terms)
 }
 
 // How many Tracking IDs a group takes.
@@ -133,24 +115,25 @@ fn post(v: Result<Posted, ErrorCode>, sup: bool, b: Bill) -> Bill
 }
 
 // One group's turn, where b stands at the place that was found: its answer is written, if notices are.
+// (Eight parameters: `TurnLeaves` says of each what it is, and a struct of some would be made by engine `turn` alone.)
 pub fn turn(
     out: &mut [u8],
     writes: bool,
     c: Tally,
-    s: &[u8],
-    g: GroupAt,
+    g: &GroupAt,
+    duplicate: bool,
     h: LedgerHeader,
     f: Option<usize>,
     b: Bill,
 ) -> TurnResult
-    requires in_file { (g.header < g.records) × (g.records * record_size ≤ length s.now) × (g.records ≤ file_records) × (writes ≡ true → c.written + (g.records - g.header) * record_size ≤ length out.old) }
+    requires in_file { (g.now.records ≤ file_records) × (writes ≡ true → c.written + (g.now.records - g.now.header) * record_size ≤ length out.old) }
     requires widths { InWidthsAt f b × WithinFile c × (h.tracking ≤ 1000000200) × (h.confirmation ≤ 1000000200) × (is_date h.today.0 ≡ true) }
-    ensures { TurnLeaves (verdict_on g.duplicate h.today (sought_by f b) (group_at s.now g.header g.records)) (group_at s.now g.header g.records) h b c writes out.old out.new result }
+    ensures { TurnLeaves (verdict_on duplicate h.today (sought_by f b) (group_at g.now.file.now g.now.header g.now.records)) (group_at g.now.file.now g.now.header g.now.records) h b c writes out.old out.new result }
 {
-    let sup = file::sup_at(s, g.header);
+    let sup = file::sup_at(g);
     let today = h.today;
-    let v = verdict_at(s, g.header, g.records, g.duplicate, sought_by(f, b), today);
-    let size = answer::answer(out, c.written, writes, s, g, v, b, h);
+    let v = verdict_at(g, duplicate, sought_by(f, b), today);
+    let size = answer::answer(out, c.written, writes, g, v, b, h);
     let tally = counts::add(c, v, b, size);
     let header = LedgerHeader {
         today,

@@ -13,7 +13,7 @@ use units::Date;
 // The bytes of the longest line that is printed.
 pub const DAY_ROOM: usize = 11;
 
-// The number of 8 digits, 0 where the bytes are anything else.
+// The number of 8 digits, 0 where the bytes are anything else. 0 here and 10 below, and no Option: the calendar refuses both, and the callers would put them for None.
 fn date_in(line: &[u8]) -> u64
     ensures { result ≡ date_in line.now }
 {
@@ -78,7 +78,8 @@ fn number_width(n: u64) -> usize
     if n < 10 { 1 } else { 2 }
 }
 
-// Writes the line of a date that was worked out, or of the refusal, and answers its length.
+// Writes the line of a date that was worked out, or of the refusal, and answers its length. (Not by `write!`: it would need a writer over the slice.)
+// The room is a clause, and no array in the type: an array would ask more of who calls `print_day`.
 fn put_day(out: &mut [u8], d: Result<Date, Cause>) -> usize
     requires { day_room ≤ length out.old }
     ensures answer { result ≡ length (day_line d) }
@@ -101,7 +102,7 @@ fn put_day(out: &mut [u8], d: Result<Date, Cause>) -> usize
     }
 }
 
-// What is worked out of the bytes of DATE and NUMBER and of the holidays' lines. One line more than the most is taken: so many are refused.
+// What is worked out of the bytes of DATE and NUMBER, which go side by side (a struct of both would be taken apart here), and of the holidays' lines. One line more than the most is taken: so many are refused.
 fn day_of(date: &[u8], number: &[u8], s: &[u8]) -> Result<Date, Cause>
     ensures { result ≡ day_of date.now number.now s.now }
 {

@@ -121,7 +121,8 @@ fn removal_body(s: &[u8]) -> Option<Body>
 }
 
 // Whether an entry with this tag may have this length.
-// A tag stays the document's number: a byte may be none of the six, and a line of `trace` names an entry by its byte where its body is not read.
+// A tag stays the document's number, here and in room, tracing and trace_lines: a byte may be none of the six, and a line of `trace` names an entry by its byte
+// where its body is not read.
 fn good_length(tag: u8, n: usize) -> bool
     ensures { result ≡ good_length tag n }
 {
@@ -208,9 +209,7 @@ fn length_at(s: &[u8]) -> usize
     requires { 3 ≤ length s.now }
     ensures { (result ≡ get_or s.now 1 0 * 256 + get_or s.now 2 0) × (result < 65536) }
 {
-    let high = usize::from(s[1]);
-    let low = usize::from(s[2]);
-    high * 256 + low
+    usize::from(u16::from_be_bytes([s[1], s[2]]))
 }
 
 // What stands at the start of s, after so many entries.

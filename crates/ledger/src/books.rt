@@ -1,12 +1,11 @@
-// The ledger: its bills found, stored and summed, and the signed change of its total.
-ghost use Rattle.std.specs.Prelude.{◌≡◌, true, ◌+◌, ◌<◌, ◌≤◌, ◌^◌, length, get_or, take, position, pos, ◌-ℤ◌};
+// The ledger without bills, the place where a bill goes, the sum of lent bills, and the signed change of it.
+ghost use Rattle.std.specs.Prelude.{◌≡◌, true, ◌+◌, ◌<◌, ◌≤◌, ◌^◌, length, pos, ◌-ℤ◌};
 ghost use Rattle.rules.specs.Lists.{every};
-ghost use Rattle.ledger.specs.Bills.{blank_bill};
-ghost use Rattle.ledger.specs.Books.{empty_ledger, live, of_id, place_of, bill_charge, small_charge, total_of};
-ghost use Rattle.ledger.specs.parts.Places.{updated, within, place_for};
+ghost use Rattle.ledger.specs.Books.{empty_ledger, bill_charge, small_charge, total_of};
+ghost use Rattle.ledger.specs.parts.Places.{within, place_for};
 ghost use Rattle.ledger.specs.Limits.{ledger_places};
 
-use crate::{Bill, Identity, Ledger, Update};
+use crate::{Bill, Ledger};
 use units::{Cents, Date};
 
 impl Ledger {
@@ -22,44 +21,9 @@ impl Ledger {
             bills: [Bill::blank(); crate::PLACES],
         }
     }
-
-    // The place of the bill with this identity.
-    pub fn find(self, id: Identity) -> Option<usize>
-        requires { self.count ≤ ledger_places }
-        ensures { result ≡ place_of id (live self) }
-    {
-        place_among(&self.bills[..self.count], id)
-    }
-
-    // The ledger with a header, and a bill at a place.
-    pub fn updated(mut self, i: usize, u: Update) -> Ledger
-        requires { i < ledger_places }
-        ensures { result ≡ updated self i u }
-    {
-        self.bills[i] = u.bill;
-        self.today = u.header.today;
-        self.next_tracking = u.header.tracking;
-        self.next_confirmation = u.header.confirmation;
-        self.count = u.header.count;
-        self
-    }
-
-    // The sum of the posted charges.
-    pub fn total(self) -> Cents
-        requires { (self.count ≤ ledger_places) × (every small_charge (live self) ≡ true) }
-        ensures { result.0 ≡ total_of (live self) }
-    {
-        total(&self.bills[..self.count])
-    }
 }
 
-// The index of the bill with this identity among lent bills.
-fn place_among(bills: &[Bill], id: Identity) -> Option<usize>
-    ensures { result ≡ position (of_id id) bills.now }
-{
-    bills.iter().position(|b| b.terms.identity == id)
-}
-
+// The last place for one past the array.
 fn within(i: usize) -> usize
     ensures { (result ≡ within i) × (result < ledger_places) }
 {
@@ -75,14 +39,6 @@ pub fn bill_place(f: Option<usize>, count: usize) -> usize
     ensures { (result ≡ place_for f count) × (result < ledger_places) }
 {
     within(f.unwrap_or(count))
-}
-
-// A bill of a lent slice.
-pub fn bill_at(bills: &[Bill], i: usize) -> Bill
-    requires { i < length bills.now }
-    ensures { result ≡ get_or bills.now i blank_bill }
-{
-    bills[i]
 }
 
 // A sum, and the charge of one bill more.

@@ -35,10 +35,7 @@ pub fn is_next(n: u64) -> bool
 pub fn is_sound_removal(removal: Option<Date>) -> bool
     ensures { result ≡ sound_removal removal }
 {
-    match removal {
-        None => true,
-        Some(d) => d.valid(),
-    }
+    removal.is_none_or(|d| d.valid())
 }
 
 impl Terms {

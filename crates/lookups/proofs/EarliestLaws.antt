@@ -2,12 +2,12 @@
 -- Assumes nothing.
 use Prim.Native.Nat.{ℕ, zero, suc, ◌+◌, ◌≤◌, ◌<◌}
 use mathlib.Core.Path.{◌≡◌, refl, sym, ap, subst, ◌∙◌}
-use mathlib.Core.Bool.{Bool, true, false, not, cond, ◌&&◌, true≢false}
+use mathlib.Core.Bool.{Bool, true, false, true≢false}
 use mathlib.Core.List.{List, [], ◌∷◌}
 use native.Mathlib.Omega.{arith}
 use native.Mathlib.Decide.{dec_le}
 use native.Mathlib.Numerals.{add-one}
-use lib.Dec.{ltb, leb}
+use lib.Dec.{leb}
 use lib.ListN.{length, get_or, drop}
 use lib.Seq.{drop-cons, drop-length, slice, slice-cons}
 use borrow.Author.Tests.{leb-true, leb-false, lt-ltb, le-ltb}
@@ -19,7 +19,7 @@ use Rattle.ledger.specs.declared.Bill.{Bill}
 use Rattle.ledger.specs.Bills.{blank_bill}
 use Rattle.lookups.specs.declared.Due.{Due}
 use Rattle.lookups.specs.Lookups.{is_open_of, due, is_due_before, is_earliest}
-use Rattle.lookups.specs.parts.Walk.{none_due, is_sooner, due_with, due_after, found_due}
+use Rattle.lookups.specs.parts.Walk.{none_due, due_with, due_after, found_due}
 use Rattle.std.specs.Prelude.{Option, Some, None, is_some}
 
 -- ---- one turn of a loop over the bills from i up to n

@@ -53,10 +53,7 @@ pub fn due_with(first: Option<Due>, p: usize, b: Bill, account: u64, today: Date
 pub fn place_due(first: Option<Due>) -> Result<usize, Cause>
     ensures { result ≡ place_due first }
 {
-    match first {
-        Some(held) => Ok(held.place),
-        None => Err(Cause::NoSuchBill),
-    }
+    first.map(|held| held.place).ok_or(Cause::NoSuchBill)
 }
 
 // The open bill of an account that is due first, of the first n.
@@ -110,10 +107,7 @@ pub fn amounts_of<T: Holder>(lent: &[T], id: Identity) -> Result<Amounts, Cause>
         return Err(Cause::BadArgument);
     }
     let h = T::header(lent);
-    let f = place::find(lent, h.count, id);
-    let Some(p) = f else {
-        return Err(Cause::NoSuchBill);
-    };
+    let p = place::find(lent, h.count, id).ok_or(Cause::NoSuchBill)?;
     let b = T::bill_at(lent, p);
     Ok(counted(b.posted))
 }

@@ -6,7 +6,8 @@ ghost use Rattle.records.specs.Limits.{record_size, file_records};
 ghost use Rattle.file.specs.parts.Walk.{group_at, mark_at};
 ghost use Rattle.pairs.specs.parts.GroupNumbers.{code_number, named_by, group_number, number_at, number_slot};
 
-use records::{FILE_RECORDS, Notification, RECORD_SIZE, layout};
+use records::group::{self, GroupAt, GroupRecords};
+use records::{FILE_RECORDS, Notification, layout};
 use rules::ErrorCode;
 
 // A form's Notification Code as a number, 0 for none.
@@ -22,26 +23,25 @@ fn code_number(form: Result<Notification, ErrorCode>) -> u64
 
 // The code, account and Bill Key of a group as one number, and no struct in an Option: by a struct with the derived equality the walk over 100 groups of which each
 // has its equal 50 groups away takes 23.2 us, and by numbers 6.8 (both walks in Rust, compiled by LLVM).
-fn named(h: &[u8], d: &[u8], code: u64) -> u64
-    requires { (19 ≤ length h.now) × (45 ≤ length d.now) × (code ≤ 2) }
-    ensures { result ≡ named_by h.now d.now code }
+fn named(r: &GroupRecords, code: u64) -> u64
+    requires { code ≤ 2 }
+    ensures { result ≡ named_by r.now.header.now r.now.detail.now code }
 {
-    let account = layout::ACCOUNT.number(h).unwrap_or(0);
-    let key = layout::KEY.number(d).unwrap_or(0);
+    let account = layout::ACCOUNT.number(r.header).unwrap_or(0);
+    let key = layout::KEY.number(r.detail).unwrap_or(0);
     code * 10000000000000000 + (account * 10000 + key)
 }
 
-// The number of the group whose header is record i, 0 where it fails line 1 or 2.
-fn group_number(s: &[u8], i: usize, n: usize) -> u64
-    requires { (i < n) × (n * record_size ≤ length s.now) }
-    ensures { result ≡ group_number (group_at s.now i n) }
+// The number of a group, 0 where it fails line 1 or 2.
+fn group_number(g: &GroupAt) -> u64
+    ensures { result ≡ group_number (group_at g.now.file.now g.now.header g.now.records) }
 {
-    let form = file::form_at(s, i, n);
+    let form = file::form_at(g);
     let code = code_number(form);
     if code == 0 {
         return 0;
     }
-    named(records::record_at(s, i), records::record_at(s, i + 1), code)
+    named(&group::group_records(g.file, g.header), code)
 }
 
 // The number of record i, 0 where it is no header.
@@ -50,12 +50,17 @@ fn number_at(s: &[u8], i: usize, n: usize) -> u64
     ensures { result ≡ number_at s.now n i }
 {
     if file::header_at(s, i) {
-        return group_number(s, i, n);
+        return group_number(&GroupAt {
+            file: s,
+            records: n,
+            header: i,
+        });
     }
     0
 }
 
-// The numbers of the records of a file.
+// The numbers of the records of a file. (Its clause stands here, in `duplicates` and in group `marks`: GroupAt asks for an index, which none of them has, and a
+// struct of s and n alone would be made for these three and taken apart in each.)
 fn group_numbers(s: &[u8], n: usize) -> [u64; FILE_RECORDS]
     requires { (n ≤ file_records) × (n * record_size ≤ length s.now) }
     ensures { (length result ≡ file_records) × ((k : ℕ) → k < n → get_or result k 0 ≡ number_at s.now n k) }
@@ -67,7 +72,7 @@ fn group_numbers(s: &[u8], n: usize) -> [u64; FILE_RECORDS]
     r
 }
 
-// The slot of a number.
+// The slot of a number. (Rust has no `From` of a u64 for usize: the cast loses nothing, since the rest is below 509.)
 fn slot(number: u64) -> usize
     ensures { (result ≡ number_slot number) × (result < 509) }
 {

@@ -17,7 +17,7 @@ use Rattle.ledger.specs.Bills.{blank_bill}
 use Rattle.ledger.specs.Books.{of_id}
 use Rattle.ledger.specs.Sound.{holds_id, distinct}
 use Rattle.places.specs.parts.Slots.{slots, identity_slot}
-use Rattle.std.specs.Prelude.{Some, None}
+use Rattle.std.specs.Prelude.{is_some}
 
 -- ---- lists
 module _ {A : Type 0} (p : A → Bool) where
@@ -31,14 +31,9 @@ module _ {A : Type 0} (p : A → Bool) where
   has-none (x ∷ xs) (suc i) d f = rw (f 0 (omega arith)) (has-none xs i d (λ k h. f (suc k) (omega arith)))
 
   -- a search says whether some element passes
-  pub found-has : (n i : ℕ) (xs : List A) → find p n xs ≡ Some i → has p xs ≡ true
-  found-has n i [] e = let z : ◌≡◌ {A = ℕ} 0 1 = cc in absurd (omega arith)
-  found-has n i (x ∷ xs) e = cases (p x) (λ f. rw f) (λ f. rw f (found-has (suc n) i xs (rw f at e)))
-
-  pub not_found : (n : ℕ) (xs : List A) → find p n xs ≡ None → has p xs ≡ false
-  not_found n [] e = refl
-  not_found n (x ∷ xs) e =
-      cases (p x) (λ f. let g = rw f at e in let z : ◌≡◌ {A = ℕ} 0 1 = cc in absurd (omega arith)) (λ f. rw f (not_found (suc n) xs (rw f at e)))
+  pub found-some : (n : ℕ) (xs : List A) → is_some (find p n xs) ≡ has p xs
+  found-some n [] = refl
+  found-some n (x ∷ xs) = cases (p x) (λ f. rw f refl) (λ f. rw f (found-some (suc n) xs))
 
 -- ---- no identity stands twice
 eqb_swap : (a b : ℕ) → eqb a b ≡ eqb b a

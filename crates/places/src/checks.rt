@@ -19,8 +19,7 @@ const ACCOUNT_STEP: u64 = 329;
 pub fn good_header(h: LedgerHeader) -> bool
     ensures { result ≡ (is_date h.today.0 && is_next h.tracking && is_next h.confirmation && leb h.count ledger_places) }
 {
-    let today = h.today;
-    today.valid()
+    h.today.valid()
         & ledger::sound::is_next(h.tracking)
         & ledger::sound::is_next(h.confirmation)
         & (h.count <= PLACES)
@@ -34,7 +33,7 @@ pub fn good_bills<T: Holder>(lent: &[T], n: usize) -> bool
     (0..n).all(|i| T::bill_at(lent, i).sound())
 }
 
-// The slot of an identity.
+// The slot of an identity. By `as`, which is proved to keep it: an index has no `From`.
 fn slot(id: Identity) -> usize
     ensures { (result ≡ identity_slot id) × (result < slots) }
 {
@@ -46,11 +45,7 @@ fn stands<T: Holder>(lent: &[T], n: usize, id: Identity) -> bool
     requires { (T.holds lent.now ≡ true) × (n ≤ ledger_places) }
     ensures { result ≡ holds_id id (take n (T.held lent.now).bills) }
 {
-    let f = place::find(lent, n, id);
-    match f {
-        Some(_) => true,
-        None => false,
-    }
+    place::find(lent, n, id).is_some()
 }
 
 // The same, where its slot was met: no walk begins where it was not.
@@ -58,13 +53,10 @@ fn stands_if_met<T: Holder>(lent: &[T], n: usize, id: Identity, met: bool) -> bo
     requires { (T.holds lent.now ≡ true) × (n ≤ ledger_places) }
     ensures { result ≡ (met && holds_id id (take n (T.held lent.now).bills)) }
 {
-    if met {
-        return stands(lent, n, id);
-    }
-    false
+    met && stands(lent, n, id)
 }
 
-// Whether no identity stands twice among the first n. Equal identities have one slot, so a place is held against those before it only where
+// Whether no identity stands twice among the first n, with no set of std's, which takes the heap that a rule of the project forbids. Equal identities have one slot, so a place is held against those before it only where
 // one of them has its slot.
 pub fn all_distinct<T: Holder>(lent: &[T], n: usize) -> bool
     requires { (T.holds lent.now ≡ true) × (n ≤ ledger_places) }
@@ -83,7 +75,7 @@ pub fn all_distinct<T: Holder>(lent: &[T], n: usize) -> bool
     true
 }
 
-// Whether the slice holds a sound ledger: cause 2 where it does not. No ledger is made of its words.
+// Whether the slice holds a sound ledger: cause 2 where it does not. Words are tested as they stand: no ledger is made of them.
 pub fn sound<T: Holder>(lent: &[T]) -> bool
     ensures { result ≡ sound_ledger (T.held lent.now) }
 {

@@ -30,6 +30,7 @@ impl Holder for u64 {
         words::fits(lent)
     }
 
+    // By `as`, here and where a header is stored: Rust has no `From` of a u64 for an index, and a count of bills fits both.
     fn header(lent: &[u64]) -> LedgerHeader {
         LedgerHeader {
             today: Date(lent[0]),

@@ -1,4 +1,5 @@
-// The bills of a lent ledger: found, summed, and stored with a header.
+// The bills of a lent ledger: found, summed, and stored with a header. That the slice holds a ledger, and that n is no more than its places, is asked beside
+// each: a struct over the slice would ask both where it is made, once in each call, and say its two ghost facts again where it is lent to be changed.
 ghost use Rattle.std.specs.Prelude.{◌≡◌, true, ◌+◌, ◌≤◌, ◌<◌, take};
 ghost use Rattle.rules.specs.Lists.{every, find};
 ghost use Rattle.ledger.specs.Books.{of_id, small_charge, total_of};
@@ -15,9 +16,7 @@ pub fn find<T: Holder>(lent: &[T], n: usize, id: Identity) -> Option<usize>
     ensures { result ≡ find (of_id id) 0 (take n (T.held lent.now).bills) }
 {
     for i in 0..n {
-        let at = T::identity_at(lent, i);
-        let same = (at.account == id.account) & (at.key == id.key);
-        if same {
+        if T::identity_at(lent, i) == id {
             return Some(i);
         }
     }

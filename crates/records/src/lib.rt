@@ -1,6 +1,7 @@
 // The records of a supplier's file and of the notices: their limits, where each field stands (layout), and what is read of a record.
 #![tactic(auto)]
 
+pub mod group;
 pub mod layout;
 
 ghost use Rattle.std.specs.Prelude.{◌≡◌, ◌+◌, ◌*◌, ◌≤◌, ◌<◌, ◌^◌, length};

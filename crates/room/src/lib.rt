@@ -6,7 +6,7 @@ ghost use Rattle.room.specs.Room.{most_of, most_in};
 
 use journal::Frame;
 
-// How many bytes an entry with this tag and this length of its body writes at most.
+// How many bytes an entry with this tag and this length of its body writes at most. (By the tag: its body is not read, see journal `good_length`.)
 fn most_of(frame: Frame) -> usize
     ensures { result ≡ most_of frame.tag frame.length }
 {

@@ -25,7 +25,7 @@ pub enum Cause {
     NoSuchDay = 15,
 }
 
-// Its number.
+// Its number. By `as`, here and below: Rust gives an enum's number no other way.
 impl From<Cause> for u64 {
     ghost from_gives = { λ cause n. n ≡ cause_number cause };
 

@@ -7,7 +7,7 @@ use std::io;
 use std::io::Write;
 
 // Where the reading ended: how many entries came, whether a bad one stopped it, how many bytes are left at the start of the buffer, and how many bytes
-// were written.
+// were written. `stopped` stands beside the three, which it does not choose among: all go with either end.
 #[derive(Clone, Copy)]
 pub struct End {
     pub seen: u64,

@@ -30,14 +30,14 @@ pub const STOP_SIZE: usize = 11;
 // The bytes that the longest table has: an output for a table has room for it.
 pub const TABLE_ROOM: usize = 10970;
 
-// O, I or C.
+// O, I or C. (No `From`: it would stand with `State` in crate ledger, and the letters are the table's alone.)
 fn state_byte(s: State) -> u8
     ensures { result ≡ state_byte s }
 {
     match s {
-        State::Open => 79,
-        State::Issued => 73,
-        State::Cancelled => 67,
+        State::Open => b'O',
+        State::Issued => b'I',
+        State::Cancelled => b'C',
     }
 }
 
@@ -157,8 +157,7 @@ pub fn put_heading(out: &mut [u8])
 
 // Writes the table of a lent ledger, and answers how many bytes it has.
 pub fn write<T: Lines>(out: &mut [u8], lent: &[T], stopped: bool) -> usize
-    requires holds { (T.holds lent.now ≡ true) × ((T.held lent.now).count ≤ ledger_places) × (every small_charge (live (T.held lent.now)) ≡ true) }
-    requires has_room { table_room ≤ length out.old }
+    requires { (T.holds lent.now ≡ true) × ((T.held lent.now).count ≤ ledger_places) × (every small_charge (live (T.held lent.now)) ≡ true) × (table_room ≤ length out.old) }
     ensures answer { result ≡ length (table_of (book (T.held lent.now)) stopped) }
     ensures written { out.new ≡ put out.old 0 (table_of (book (T.held lent.now)) stopped) }
     ensures at_most { result ≤ table_room }

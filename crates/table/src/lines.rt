@@ -1,4 +1,5 @@
-// What the table takes of a lent ledger: the lines of its bills, and their total. A `Ledger` lends its bills; of words each is read at its place.
+// What the table takes of a lent ledger: the lines of its bills, and their total. Two methods per kind of ledger, since document 01 asks that the table's total and
+// lines walk a lent slice of bills: a `Ledger` lends its own, and of words, which hold no bills, each is read at its place.
 ghost use Rattle.std.specs.Prelude.{◌≡◌, true, ◌+◌, ◌*◌, ◌≤◌, length, take};
 ghost use Rattle.fields.specs.Put.{put};
 ghost use Rattle.rules.specs.Lists.{every};

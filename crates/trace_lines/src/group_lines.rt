@@ -1,5 +1,5 @@
 // The lines of a file's groups, read off the file and the answers to it.
-ghost use Rattle.std.specs.Prelude.{◌≡◌, ◌+◌, ◌*◌, ◌≤◌, ◌<◌, length, drop};
+ghost use Rattle.std.specs.Prelude.{◌≡◌, ◌+◌, ◌*◌, ◌≤◌, length, drop};
 ghost use Rattle.fields.specs.Put.{put, part};
 ghost use Rattle.records.specs.Limits.{record_size};
 ghost use Rattle.records.specs.Layout.{records_from};
@@ -9,6 +9,7 @@ ghost use Rattle.table.specs.Table.{cell, ended};
 ghost use Rattle.trace_lines.specs.Lines.{first_key};
 ghost use Rattle.trace_lines.specs.parts.ReadAnswers.{group_from, read_verdict, answer_long, read_line, read_lines, Lined};
 
+use records::group::GroupAt;
 use records::{RECORD_SIZE, layout};
 
 // Where the error code of a REJ's first detail stands.
@@ -82,7 +83,7 @@ fn next_answer(sent: &[u8], from: usize, k: usize) -> usize
     from + (k + 1) * RECORD_SIZE
 }
 
-// Where the walk over a file's groups has come to in the output and in the answers.
+// Where the walk over a file's groups has come to in the output and in the answers. Both are indices: the definitions say where each answer starts by one.
 #[derive(Clone, Copy)]
 struct Reached {
     end: usize,
@@ -105,22 +106,29 @@ fn put_group_line(r: Reached, out: &mut [u8], s: &[u8], i: usize, k: usize, sent
         from + layout::CONFIRMATION.at,
         layout::CONFIRMATION.width,
     );
-    put_in_record(out, at + 16, s, i, layout::ACCOUNT.at, layout::ACCOUNT.width);
+    put_in_record(
+        out,
+        at + 16,
+        s,
+        i,
+        layout::ACCOUNT.at,
+        layout::ACCOUNT.width,
+    );
     put_key(out, at + 29, s, i, k);
     put_in_record(out, at + 34, s, i, layout::NOTICE.at, layout::NOTICE.width);
     put_verdict(out, at + 38, sent, from, k)
 }
 
-// The line of the group whose header is record i of n.
-fn group_turn(r: Reached, out: &mut [u8], s: &[u8], i: usize, n: usize, sent: &[u8]) -> Reached
-    requires whole { (i < n) × (n * record_size ≤ length s.now) × (n * record_size ≤ length sent.now) × (r.from ≤ i * record_size) }
+// The line of a group.
+fn group_turn(r: Reached, out: &mut [u8], g: &GroupAt, sent: &[u8]) -> Reached
+    requires whole { (g.now.records * record_size ≤ length sent.now) × (r.from ≤ g.now.header * record_size) }
     requires has_room { r.end + 43 ≤ length out.old }
-    ensures { (out.new ≡ put out.old r.end (read_line (drop r.from sent.now) (group_at s.now i n))) × (result.end ≡ r.end + length (read_line (drop r.from sent.now) (group_at s.now i n))) × (result.from ≡ r.from + answer_long (drop r.from sent.now) (length (group_at s.now i n).details)) }
+    ensures { (out.new ≡ put out.old r.end (read_line (drop r.from sent.now) (group_at g.now.file.now g.now.header g.now.records))) × (result.end ≡ r.end + length (read_line (drop r.from sent.now) (group_at g.now.file.now g.now.header g.now.records))) × (result.from ≡ r.from + answer_long (drop r.from sent.now) (length (group_at g.now.file.now g.now.header g.now.records).details)) }
 {
     let from = r.from;
-    let k = file::detail_count(s, i, n);
+    let k = file::detail_count(g);
     Reached {
-        end: put_group_line(r, out, s, i, k, sent),
+        end: put_group_line(r, out, g.file, g.header, k, sent),
         from: next_answer(sent, from, k),
     }
 }
@@ -136,7 +144,12 @@ pub fn put_group_lines(out: &mut [u8], at: usize, s: &[u8], n: usize, sent: &[u8
     // By the number of a record, which the turn takes too: no slice holds what is walked over.
     for i in 0..n {
         if file::header_at(s, i) {
-            r = group_turn(r, out, s, i, n, sent);
+            let g = GroupAt {
+                file: s,
+                records: n,
+                header: i,
+            };
+            r = group_turn(r, out, &g, sent);
         }
     }
     r.end

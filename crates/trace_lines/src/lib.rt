@@ -76,7 +76,7 @@ fn put_answer(out: &mut [u8], at: usize, answer: Result<Returned, Cause>)
     }
 }
 
-// Writes the name of the call with this tag and a comma, and answers where they end.
+// Writes the name of the call with this tag and a comma, and answers where they end. (By the tag, since the body was not kept: see journal `good_length`.)
 fn put_call(out: &mut [u8], at: usize, tag: u8) -> usize
     requires { at + 8 ≤ length out.old }
     ensures { (out.new ≡ put out.old at (cell (call_name tag))) × (result ≡ at + length (cell (call_name tag))) }

@@ -19,10 +19,7 @@ pub const ENTRY_ROOM: usize = 8652;
 fn is_done(a: Result<Returned, Cause>) -> bool
     ensures { result ≡ is_done a }
 {
-    match a {
-        Ok(_) => true,
-        Err(_) => false,
-    }
+    a.is_ok()
 }
 
 // Writes the lines of the entry of n bytes at the start of src, whose call answered a and wrote at the start of sent, and answers where they end.
@@ -49,7 +46,8 @@ fn put_lines(
     end
 }
 
-// Makes the entries at the start of src, after so many entries, and writes their lines, as long as the output has room for another entry's.
+// Makes the entries at the start of src, after so many entries, and writes their lines, as long as the output has room for another entry's. (No one loop with
+// entries' `run`: what a turn writes and measures differs, and a closure's contract would say it again.)
 pub fn run(ws: &mut [u64], sent: &mut [u8], out: &mut [u8], src: &[u8], seen: u64) -> Ran
     requires { (sound_ledger (ledger_of ws.old) ≡ true) × (file_size ≤ length sent.old) }
     ensures { TracesIn seen src.now ws.old out.old ws.new out.new result }

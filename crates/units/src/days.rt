@@ -46,7 +46,7 @@ impl Date {
         days_before_year(y) + days_before_month(y, m) + (d % 100 - 1)
     }
 
-    // 1 Monday to 7 Sunday.
+    // 1 Monday to 7 Sunday: a number, as document 02 and C have it, which is compared with Friday's and stored.
     pub fn weekday(self) -> u64
         requires { is_date self.0 ≡ true }
         ensures { result ≡ weekday self.0 }

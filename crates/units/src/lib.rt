@@ -29,6 +29,7 @@ pub const LAST_DATE: u64 = 29991231;
 #[derive(Clone, Copy, PartialEq, Eq, PartialOrd, Ord)]
 pub struct Date(pub u64);
 
+// std has no derive of `Add`: each unit that is added says its own.
 impl Add for Cents {
     type Output = Cents;
 
@@ -94,7 +95,7 @@ fn leap(y: u64) -> bool
     y % 4 == 0
 }
 
-// The number of days of a month, 0 for no month.
+// The number of days of a month, 0 for no month: no day is one of those, so `valid` asks nothing else.
 fn month_days(y: u64, m: u64) -> u64
     ensures { result ≡ month_days y m }
 {

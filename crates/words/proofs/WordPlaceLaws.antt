@@ -1,13 +1,14 @@
 -- Laws of the loops over the places: one place more, read or written. Assumes nothing.
 use Prim.Native.Nat.{ℕ, zero, suc, ◌+◌, ◌-◌, ◌*◌, ◌≤◌, ◌<◌}
 use mathlib.Core.Path.{◌≡◌, refl, sym, ap, ap₂, ◌∙◌}
-use mathlib.Core.Bool.{Bool, true, ◌&&◌, and_assoc, and-true}
+use mathlib.Core.Bool.{Bool, true, ◌&&◌}
 use mathlib.Core.List.{List, [], ◌∷◌, ◌++◌, append_assoc, append-nil}
 use native.Mathlib.Omega.{arith}
 use native.Mathlib.Numerals.{add-one}
 use native.Mathlib.Nat.{not-suc-le-zero, le_of_suc-le-suc}
 use lib.ListN.{length, take, drop, get_or, set, length-drop, drop_of_length-le}
 use lib.Seq.{drop-drop, take_all, length-take-le, take-suc, take_at, drop-append-add}
+use Rattle.std.specs.List.{list_all, range_with_len}
 use Rattle.fields.specs.Put.{put}
 use Rattle.fields.proofs.PutLaws.{first, next}
 use Rattle.fields.proofs.BoolLaws.{and_left, and_right}
@@ -30,19 +31,18 @@ next_place ws i =
     drop-drop (place_size * i) place_size ws ∙ ap (λ (k : ℕ). drop k ws) e
 
 -- ---- read
--- the tests of one place more
-holds-suc : (i : ℕ) (ws : List ℕ) → holds_bills (suc i) ws ≡ (holds_bills i ws && holds_bill (drop (place_size * i) ws))
+-- the tests of k places by number are those of the places one after the other
+holds-from : (ws : List ℕ) (a k : ℕ) → list_all (λ i. holds_bill (drop (4 + place_size * i) ws)) (range_with_len a k) ≡ holds_bills k (drop (4 + place_size * a) ws)
 unfolding holds_bills
-holds-suc zero ws = and-true (holds_bill ws)
-holds-suc (suc i) ws =
-    ap (λ (b : Bool). holds_bill ws && b) (holds-suc i (drop place_size ws) ∙ ap (λ (k : List ℕ). holds_bills i (drop place_size ws) && holds_bill k) (next_place ws i))
-    ∙ sym (and_assoc (holds_bill ws) (holds_bills i (drop place_size ws)) (holds_bill (drop (place_size * suc i) ws)))
+holds-from ws a zero = refl
+holds-from ws a (suc k) =
+    let e : 4 + place_size * a + place_size ≡ 4 + place_size * (a + 1) = omega arith in
+    ap (λ (b : Bool). holds_bill (drop (4 + place_size * a) ws) && b)
+    (holds-from ws (a + 1) k
+    ∙ sym (ap (holds_bills k) (drop-drop place_size (4 + place_size * a) ws ∙ ap (λ (n : ℕ). drop n ws) e)))
 
-pub holds_more : (ws : List ℕ) (i : ℕ) → (holds_bills i (drop 4 ws) && holds_bill (drop (4 + place_size * i) ws)) ≡ holds_bills (i + 1) (drop 4 ws)
-holds_more ws i =
-    sym (ap (λ (n : ℕ). holds_bills n (drop 4 ws)) (add-one i)
-    ∙ holds-suc i (drop 4 ws)
-    ∙ ap (λ (k : List ℕ). holds_bills i (drop 4 ws) && holds_bill k) (place_at ws i))
+pub holds-first : (ws : List ℕ) (n : ℕ) → list_all (λ i. holds_bill (drop (4 + place_size * i) ws)) (range_with_len 0 n) ≡ holds_bills n (drop 4 ws)
+holds-first ws n = holds-from ws 0 n
 
 -- where all places pass, each does
 holds-each : (n : ℕ) (ws : List ℕ) (i : ℕ) → holds_bills n ws ≡ true → i < n → holds_bill (drop (place_size * i) ws) ≡ true

@@ -25,7 +25,7 @@ fn fits_code(first: u64, second: u64, tens: u64, ones: u64) -> bool
     (first < 256) & ((second < 256) & ((tens < 256) & (ones < 256)))
 }
 
-// Whether the kind is 0, 1 or 2, and the words that it does not use are 0.
+// Whether the kind is 0, 1 or 2, and the words that it does not use are 0. A number, here and of a product, since these are the words that C lends.
 fn fits_posted(kind: u64, charge: u64, applied: u64, owed: u64) -> bool
     ensures { result ≡ holds_posted kind charge applied owed }
 {
@@ -52,11 +52,7 @@ pub fn fits(words: &[u64]) -> bool
     if words.len() != LEDGER_SIZE {
         return false;
     }
-    let mut good = true;
-    for i in 0..ledger::PLACES {
-        good = good & fits_in(words, HEADER_SIZE + PLACE_SIZE * i);
-    }
-    good
+    (0..ledger::PLACES).all(|i| fits_in(words, HEADER_SIZE + PLACE_SIZE * i))
 }
 
 // ---- the ledger whose words they are
@@ -113,6 +109,7 @@ fn terms_in(w: &[u64]) -> Terms
     ensures { result ≡ terms_in w.now }
 {
     let code = code_in(w);
+    // by `as`, as in `code_in`
     let product = Product::from(w[6] as u8);
     let latest = latest_in(w);
     // 0 is none

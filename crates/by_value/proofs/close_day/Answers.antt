@@ -5,4 +5,4 @@ use Rattle.by_value.proofs.LentLaws.{unsound-called}
 use Rattle.by_value.proofs.close_day.Goals as goal
 
 pub returns-in-Err : goal.returns-in-Err
-returns-in-Err c = rw c.refused.ensures (unsound-called (close c.args.d) c.args.l c.in-Err.ensures.0 _ c.in-Err.ensures.1 []).0
+returns-in-Err c = (unsound-called (close c.args.d) c.args.l c.in-Err.ensures.0 _ c.in-Err.ensures.1 []).0

@@ -5,4 +5,4 @@ use Rattle.by_value.proofs.LentLaws.{unsound-called}
 use Rattle.by_value.proofs.remove_account.Goals as goal
 
 pub returns-in-Err : goal.returns-in-Err
-returns-in-Err c = rw c.refused.ensures (unsound-called (removal c.args.a) c.args.l c.in-Err.ensures.0 _ c.in-Err.ensures.1 []).0
+returns-in-Err c = (unsound-called (removal c.args.a) c.args.l c.in-Err.ensures.0 _ c.in-Err.ensures.1 []).0

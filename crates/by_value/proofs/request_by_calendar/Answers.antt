@@ -3,4 +3,4 @@ use Rattle.by_value.proofs.LentLaws.{unsound-called}
 use Rattle.by_value.proofs.request_by_calendar.Goals as goal
 
 pub returns-in-Err : goal.returns-in-Err
-returns-in-Err c = rw c.refused.ensures (unsound-called _ c.args.l c.in-Err.ensures.0 _ c.in-Err.ensures.1 _)
+returns-in-Err c = unsound-called _ c.args.l c.in-Err.ensures.0 _ c.in-Err.ensures.1 _

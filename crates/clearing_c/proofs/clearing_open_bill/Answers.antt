@@ -1,10 +1,9 @@
--- `clearing_c::clearing_open_bill` meets its contract.
-use mathlib.Core.Path.{sym, ap, ◌∙◌}
+-- `clearing_c::clearing_open_bill` meets its contract: the place that was found is stored.
+use mathlib.Core.Path.{◌≡◌, sym, ap, ◌∙◌}
+use Rattle.std.proofs.Common.{rules}
 use Rattle.boundary.specs.Boundary.{number_of, number_left}
 use Rattle.clearing_c.proofs.clearing_open_bill.Goals as goal
 
-pub returns-in-Ok : goal.returns-in-Ok
-returns-in-Ok c = let e = sym c.open_bill_of-found.ensures ∙ c.in-Ok.is in record { answer = sym (ap number_of e); stored = sym (ap (number_left _) e) }
-
-pub returns-in-Err : goal.returns-in-Err
-returns-in-Err c = let e = sym c.open_bill_of-found.ensures ∙ c.in-Err.is in record { answer = c.from.ensures ∙ sym (ap number_of e); stored = sym (ap (number_left _) e) }
+pub returns : goal.returns
+returns c =
+    let e : c.map.result ≡ c.open_bill_of-found.result = search rules in record { answer = c.store_number.ensures.answer ∙ ap number_of (e ∙ c.open_bill_of-found.ensures); stored = c.store_number.ensures.stored ∙ ap (number_left _) (e ∙ c.open_bill_of-found.ensures) }

@@ -1,5 +1,5 @@
 use Prim.Native.Nat.{ℕ, ◌+◌, ◌-◌, ◌*◌, ◌^◌, ◌≤◌, ◌<◌}
-use mathlib.Core.Path.{◌≡◌, refl, ap}
+use mathlib.Core.Path.{◌≡◌, refl, sym, ap, ◌∙◌}
 use mathlib.Core.Bool.{true}
 use mathlib.Core.List.{List, [], ◌∷◌, ◌++◌}
 use native.Mathlib.Omega.{arith}
@@ -7,7 +7,7 @@ use lib.ListN.{length, take, get_or}
 use lib.Seq.{length-take-le, take_all}
 use Rattle.fields.specs.Digits.{number, numeric}
 use Rattle.fields.proofs.PutLaws.{take_more}
-use Rattle.fields.proofs.DigitLaws.{number_lt, number-snoc, numeric-snoc, numeric-at, pow-le, field-number, field-not, is_digit-in, is_digit-low, is_digit-high}
+use Rattle.fields.proofs.DigitLaws.{number_lt, number-snoc, numeric-snoc, numeric-at, pow-le, field-number, field-not, is_digit-range}
 use Rattle.fields.proofs.read_digits.Goals as goal
 
 -- the number so far has at most eighteen digits
@@ -21,15 +21,13 @@ pub loop-x-init : goal.loop-x-init
 unfolding numeric number
 loop-x-init c = (refl, refl)
 
-pub returns-then-x-lt48 : goal.returns-then-x-lt48
-returns-then-x-lt48 c =
+pub returns-then-not-is_digit : goal.returns-then-not-is_digit
+returns-then-not-is_digit c =
     let f = c.args.f.now in
-    field-not f (numeric-at f c.loop-x.x-index (omega arith) (is_digit-low _ c.if-x-lt48.true))
+    field-not f (numeric-at f c.loop-x.x-index (omega arith) (sym c.is_digit.ensures ∙ c.if-not-is_digit.true))
 
-pub returns-then-x-gt57 : goal.returns-then-x-gt57
-returns-then-x-gt57 c =
-    let f = c.args.f.now in
-    field-not f (numeric-at f c.loop-x.x-index (omega arith) (is_digit-high _ c.if-x-gt57.true))
+pub overflow_sub-x : goal.overflow_sub-x
+overflow_sub-x c = (is_digit-range _ (sym c.is_digit.ensures ∙ c.if-not-is_digit.false)).0
 
 pub overflow_mul-n : goal.overflow_mul-n
 overflow_mul-n c = let l = c.loop-x in omega (arith, small c.args.f.now l.n l.x-index (omega arith) (omega arith) l.invariant.0 l.invariant.1)
@@ -42,7 +40,7 @@ loop-x-preserved c =
     let f = c.args.f.now in
     let l = c.loop-x in
     let t : take (l.x-index + 1) f ≡ take l.x-index f ++ (get_or f l.x-index 0 ∷ []) = take_more f l.x-index (omega arith) in (
-      rw t (numeric-snoc (take l.x-index f) (get_or f l.x-index 0) l.invariant.0 (is_digit-in (get_or f l.x-index 0) (omega arith) (omega arith))),
+      rw t (numeric-snoc (take l.x-index f) (get_or f l.x-index 0) l.invariant.0 (sym c.is_digit.ensures ∙ c.if-not-is_digit.false)),
       rw (t, number-snoc (take l.x-index f) (get_or f l.x-index 0), c.from.ensures) (ap (λ (n : ℕ). n * 10 + (get_or f l.x-index 0 - 48)) l.invariant.1),
     )
 

@@ -7,4 +7,4 @@ use Rattle.file.specs.parts.Walk.{records_after}
 use Rattle.file.proofs.detail_count.Given as goal
 
 abbrev pub invariant-loop-j : goal.invariant-loop-j
-invariant-loop-j l = leading (records_after l.s l.i l.n) ≡ l.j - (l.i + 1) + leading (records_from l.s l.j (l.n - l.j))
+invariant-loop-j l = leading (records_after l.g.file.now l.g.header l.g.records) ≡ l.j - l.first + leading (records_from l.g.file.now l.j (l.g.records - l.j))

@@ -6,14 +6,14 @@ use Rattle.file.proofs.FileLaws.{leading-within, form-many, form-one}
 use Rattle.file.proofs.form_at.Goals as goal
 
 pub returns-then-k-ne1 : goal.returns-then-k-ne1
-returns-then-k-ne1 c = form-many c.args.s.now c.args.i c.args.n (λ e. c.if-k-ne1.true (c.detail_count-k.ensures ∙ e))
+returns-then-k-ne1 c = form-many c.args.g.now.file.now c.args.g.now.header c.args.g.now.records (λ e. c.if-k-ne1.true (c.detail_count-k.ensures ∙ e))
 
-pub record_at-requires-2 : goal.record_at-requires-2
-record_at-requires-2 c = omega (arith, leading-within c.args.s.now c.args.i c.args.n, c.detail_count-k.ensures)
+pub group_records-requires : goal.group_records-requires
+group_records-requires c = omega (arith, leading-within c.args.g.now.file.now c.args.g.now.header c.args.g.now.records, c.detail_count-k.ensures)
 
 pub returns : goal.returns
 returns c =
-    let s = c.args.s.now in
-    let i = c.args.i in
+    let s = c.args.g.now.file.now in
+    let i = c.args.g.now.header in
     let e = sym c.detail_count-k.ensures ∙ c.if-k-ne1.false in
-    c.pair_form.ensures ∙ ap₂ pair_form c.record_at.ensures.0 c.record_at-2.ensures.0 ∙ form-one s i c.args.n e
+    c.pair_form.ensures ∙ ap₂ pair_form c.group_records.ensures.0 c.group_records.ensures.1 ∙ form-one s i c.args.g.now.records e

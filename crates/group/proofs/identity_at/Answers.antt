@@ -3,10 +3,10 @@ use borrow.Author.Tests.{le-leb, lt-leb}
 use Rattle.group.specs.parts.Turns.{identity_at}
 use Rattle.group.proofs.identity_at.Goals as goal
 
-pub returns-then-n-j : goal.returns-then-n-j
+pub returns-then-g : goal.returns-then-g
 unfolding identity_at
-returns-then-n-j c = rw (le-leb _ _ c.if-n-j.true)
+returns-then-g c = rw (le-leb _ _ c.if-g.true)
 
 pub returns : goal.returns
 unfolding identity_at
-returns c = rw (lt-leb _ _ c.if-n-j.false, ← c.record_at.ensures.0, ← c.record_at-2.ensures.0) c.identity_of.ensures
+returns c = rw (lt-leb _ _ c.if-g.false, ← c.group_records.ensures.0, ← c.group_records.ensures.1) c.identity_of.ensures

@@ -29,19 +29,19 @@ returns-then-duplicate c =
     let q = passed _ _ (sym c.form_at.ensures ∙ c.in_ok-notification.was) in
     verdict-line3 _ _ _ _ q.0 q.1 c.if-duplicate.true
 
-pub record_at-d-requires : goal.record_at-d-requires
-record_at-d-requires c =
+pub group_records-r-requires : goal.group_records-r-requires
+group_records-r-requires c =
     let q = passed _ _ (sym c.form_at.ensures ∙ c.in_ok-notification.was) in
-    omega (arith, one-within c.args.s.now c.args.i c.args.n q.0)
+    omega (arith, one-within c.args.g.now.file.now c.args.g.now.header c.args.g.now.records q.0)
 
 pub returns : goal.returns
 returns c =
-    let s = c.args.s.now in
-    let i = c.args.i in
-    let n = c.args.n in
+    let s = c.args.g.now.file.now in
+    let i = c.args.g.now.header in
+    let n = c.args.g.now.records in
     let g = group_at s i n in
     let q = passed _ _ (sym c.form_at.ensures ∙ c.in_ok-notification.was) in
-    let e : verdict_of c.in_ok-notification.notification c.args.today c.record_at-h.result.now c.record_at-d.result.now c.args.b
+    let e : verdict_of c.in_ok-notification.notification c.args.today c.group_records-r.result.header.now c.group_records-r.result.detail.now c.args.b
     ≡ verdict_of (notification_of g) c.args.today g.header (detail_of g) c.args.b =
-    rw (c.record_at-h.ensures.0, c.record_at-d.ensures.0, q.2, header_is s i n, only-detail s i n (one-detail s i n q.0)) in
+    rw (c.group_records-r.ensures.0, c.group_records-r.ensures.1, q.2, header_is s i n, only-detail s i n (one-detail s i n q.0)) in
     c.verdict_of.ensures ∙ e ∙ verdict-rest c.args.duplicate c.args.today c.args.b g q.0 q.1 c.if-duplicate.false

@@ -7,4 +7,4 @@ pub write-n-requires : goal.write-n-requires
 write-n-requires c =
     let t = ran-table _ _ _ _ example-clear c.day-l.ensures.0 in
     let lent = c.lend.ensures in
-    record { holds = (lent.0, rw lent.1 t.0, rw lent.1 t.1); has_room = omega arith }
+    (lent.0, rw lent.1 t.0, rw lent.1 t.1, omega arith)

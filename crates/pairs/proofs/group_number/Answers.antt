@@ -14,21 +14,21 @@ pub returns-then-code-eq0 : goal.returns-then-code-eq0
 unfolding group_number
 returns-then-code-eq0 c = rw (sym (c.code_number-code.ensures.0 ∙ ap code_number c.form_at-form.ensures) ∙ c.if-code-eq0.true)
 
-pub record_at-requires-2 : goal.record_at-requires-2
-record_at-requires-2 c =
+pub group_records-requires : goal.group_records-requires
+group_records-requires c =
     let a = c.args in
     let k = c.code_number-code.ensures.0 ∙ ap code_number c.form_at-form.ensures in
-    omega (arith, one-within a.s.now a.i a.n (code-line1 (group_at a.s.now a.i a.n) (λ z. c.if-code-eq0.false (k ∙ z))))
+    omega (arith, one-within a.g.now.file.now a.g.now.header a.g.now.records (code-line1 (group_at a.g.now.file.now a.g.now.header a.g.now.records) (λ z. c.if-code-eq0.false (k ∙ z))))
 
 pub returns : goal.returns
 unfolding group_number
 returns c =
-    let s = c.args.s.now in
-    let i = c.args.i in
-    let n = c.args.n in
+    let s = c.args.g.now.file.now in
+    let i = c.args.g.now.header in
+    let n = c.args.g.now.records in
     let k = c.code_number-code.ensures.0 ∙ ap code_number c.form_at-form.ensures in
     let l = code-line1 (group_at s i n) (λ z. c.if-code-eq0.false (k ∙ z)) in
-    let e : named_by c.record_at.result.now c.record_at-2.result.now c.code_number-code.result
+    let e : named_by c.group_records.result.header.now c.group_records.result.detail.now c.code_number-code.result
     ≡ named_by (group_at s i n).header (detail_of (group_at s i n)) (code_number (form_of (group_at s i n))) =
-    rw (c.record_at.ensures.0, c.record_at-2.ensures.0, k, header_is s i n, only-detail s i n (one-detail s i n l)) in
+    rw (c.group_records.ensures.0, c.group_records.ensures.1, k, header_is s i n, only-detail s i n (one-detail s i n l)) in
     rw (ne_eqb (code_number (form_of (group_at s i n))) 0 (λ z. c.if-code-eq0.false (k ∙ z))) (c.named.ensures ∙ e)

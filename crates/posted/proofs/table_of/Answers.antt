@@ -11,7 +11,7 @@ returns-in_default c = tables-none c.args.e _ _ _ _ c.in_default.is c.printed.en
 pub write-length-requires : goal.write-length-requires
 write-length-requires c =
     let s = rw c.in-Ok.is at c.requires.0 in
-    record { holds = (sound-holds _ s, ledger-count _ s, ledger-small _ s); has_room = omega (arith, c.requires.1) }
+    (sound-holds _ s, ledger-count _ s, ledger-small _ s, omega (arith, c.requires.1))
 
 pub returns : goal.returns
 returns c =

@@ -14,7 +14,7 @@ returns-then-out-lt-TABLE_ROOM c =
 pub write-n-requires : goal.write-n-requires
 write-n-requires c =
     let s = c.run-r.ensures.made.sound in
-    record { holds = (sound-holds _ s, ledger-count _ s, ledger-small _ s); has_room = c.if-out-lt-TABLE_ROOM.false }
+    (sound-holds _ s, ledger-count _ s, ledger-small _ s, c.if-out-lt-TABLE_ROOM.false)
 
 pub returns : goal.returns
 returns c =

@@ -15,7 +15,7 @@ pub write-requires : goal.write-requires
 write-requires g c =
     let l = g.T.Holder.held c.args.lent.now in
     let s = sym c.sound.ensures ∙ c.if-not-sound.false in
-    record { holds = (g.met.T.Holder.sound_holds _ s, ledger-count l s, ledger-small l s); has_room = c.if-out-lt-TABLE_ROOM.false }
+    (g.met.T.Holder.sound_holds _ s, ledger-count l s, ledger-small l s, c.if-out-lt-TABLE_ROOM.false)
 
 pub returns : goal.returns
 returns g c = let e = prints (g.T.Holder.held c.args.lent.now) c.args.stopped c.args.out.now (sym c.sound.ensures ∙ c.if-not-sound.false) _ _ c.if-out-lt-TABLE_ROOM.false c.write.ensures.answer c.write.ensures.written in record { answer = e.0; written = e.1 }

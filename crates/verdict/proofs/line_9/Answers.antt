@@ -11,25 +11,25 @@ use Rattle.verdict.proofs.line_9.Goals as goal
 -- the rate
 pub returns-in_default : goal.returns-in_default
 unfolding line9
-returns-in_default c = rw (rate-bad (field_of (tier_rate_in c.args.d.now 88)) (sym c.tier_1_rate.ensures ∙ c.in_default.is))
+returns-in_default c = rw (rate-bad (field_of (tier_rate_in c.args.r.now.detail.now 88)) (sym c.tier_1_rate.ensures ∙ c.in_default.is))
 
 -- the four consumptions: their sum fits, and is what was added
 pub returns-in_default-tier_consumptions : goal.returns-in_default-tier_consumptions
 unfolding line9
 returns-in_default-tier_consumptions c =
     rw (
-      rate-good (field_of (tier_rate_in c.args.d.now 88)) (sym c.tier_1_rate.ensures ∙ c.in-Some.is),
+      rate-good (field_of (tier_rate_in c.args.r.now.detail.now 88)) (sym c.tier_1_rate.ensures ∙ c.in-Some.is),
       sym c.tier_consumptions.ensures ∙ c.in_default-tier_consumptions.is,
     )
 
 pub sum-requires : goal.sum-requires
-sum-requires c = omega (arith, consumptions-fit _ c.requires (sym c.tier_consumptions.ensures ∙ c.in-Some-tier_consumptions.is))
+sum-requires c = omega (arith, consumptions-fit _ (omega (arith, c.args.r.now.whole.1)) (sym c.tier_consumptions.ensures ∙ c.in-Some-tier_consumptions.is))
 
 pub returns-then-ne : goal.returns-then-ne
 unfolding line9
 returns-then-ne c =
     rw (
-      rate-good (field_of (tier_rate_in c.args.d.now 88)) (sym c.tier_1_rate.ensures ∙ c.in-Some.is),
+      rate-good (field_of (tier_rate_in c.args.r.now.detail.now 88)) (sym c.tier_1_rate.ensures ∙ c.in-Some.is),
       sum-misses c.args.consumption.0 (sym c.tier_consumptions.ensures ∙ c.in-Some-tier_consumptions.is) c.sum.ensures,
       sym c.ne.ensures ∙ c.if-ne.true,
     )
@@ -39,20 +39,20 @@ pub returns-in_default-tier_charges : goal.returns-in_default-tier_charges
 unfolding line9
 returns-in_default-tier_charges c =
     rw (
-      rate-good (field_of (tier_rate_in c.args.d.now 88)) (sym c.tier_1_rate.ensures ∙ c.in-Some.is),
+      rate-good (field_of (tier_rate_in c.args.r.now.detail.now 88)) (sym c.tier_1_rate.ensures ∙ c.in-Some.is),
       sum-misses c.args.consumption.0 (sym c.tier_consumptions.ensures ∙ c.in-Some-tier_consumptions.is) c.sum.ensures,
       sym c.ne.ensures ∙ c.if-ne.false,
       sym c.tier_charges.ensures ∙ c.in_default-tier_charges.is,
     )
 
 pub sum-requires-2 : goal.sum-requires-2
-sum-requires-2 c = omega (arith, charges-fit _ c.requires (sym c.tier_charges.ensures ∙ c.in-Some-tier_charges.is))
+sum-requires-2 c = omega (arith, charges-fit _ (omega (arith, c.args.r.now.whole.1)) (sym c.tier_charges.ensures ∙ c.in-Some-tier_charges.is))
 
 pub returns-then-ne-2 : goal.returns-then-ne-2
 unfolding line9
 returns-then-ne-2 c =
     rw (
-      rate-good (field_of (tier_rate_in c.args.d.now 88)) (sym c.tier_1_rate.ensures ∙ c.in-Some.is),
+      rate-good (field_of (tier_rate_in c.args.r.now.detail.now 88)) (sym c.tier_1_rate.ensures ∙ c.in-Some.is),
       sum-misses c.args.consumption.0 (sym c.tier_consumptions.ensures ∙ c.in-Some-tier_consumptions.is) c.sum.ensures,
       sym c.ne.ensures ∙ c.if-ne.false,
       sum-misses c.args.charge.0 (sym c.tier_charges.ensures ∙ c.in-Some-tier_charges.is) c.sum-2.ensures,
@@ -63,7 +63,7 @@ pub returns : goal.returns
 unfolding line9
 returns c =
     rw (
-      rate-good (field_of (tier_rate_in c.args.d.now 88)) (sym c.tier_1_rate.ensures ∙ c.in-Some.is),
+      rate-good (field_of (tier_rate_in c.args.r.now.detail.now 88)) (sym c.tier_1_rate.ensures ∙ c.in-Some.is),
       sum-misses c.args.consumption.0 (sym c.tier_consumptions.ensures ∙ c.in-Some-tier_consumptions.is) c.sum.ensures,
       sym c.ne.ensures ∙ c.if-ne.false,
       sum-misses c.args.charge.0 (sym c.tier_charges.ensures ∙ c.in-Some-tier_charges.is) c.sum-2.ensures,

@@ -40,8 +40,8 @@ pub add-requires : goal.add-requires
 add-requires c =
     omega (
       arith,
-      field_below _ 233 13 _ (omega arith) (sym c.number-2.ensures ∙ c.in-Some-number.is),
-      field_below _ 246 13 _ (omega arith) (sym c.number-3.ensures ∙ c.in-Some-number-2.is),
+      field_below _ 233 13 _ (omega (arith, c.args.r.now.whole.1)) (sym c.number-2.ensures ∙ c.in-Some-number.is),
+      field_below _ 246 13 _ (omega (arith, c.args.r.now.whole.1)) (sym c.number-3.ensures ∙ c.in-Some-number-2.is),
     )
 
 pub returns-then-ne : goal.returns-then-ne
@@ -66,5 +66,5 @@ returns c =
       first-clear (line9 _ _ _) _ (sym c.line_9.ensures ∙ c.in_ok-line_9.was),
       sym c.add.ensures,
       sym c.ne.ensures ∙ c.if-ne.false,
-      ← c.requires.charge_sent,
+      ← c.requires,
     )

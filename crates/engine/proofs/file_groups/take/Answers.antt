@@ -15,7 +15,7 @@ pub turn-c-requires : goal.turn-c-requires
 turn-c-requires g c =
     let e = sym c.header_at.ensures ∙ c.if-header_at.true in
     let h : c.loop-header.header < c.args.n = omega (arith, length-take-le c.args.n c.marks-marks.result (omega (arith, c.marks-marks.type_inv))) in
-    record { in_file = (h, c.requires.file_fits.1, c.requires.file_fits.0, walk-room _ _ _ _ _ _ _ _ _ c.loop-header.invariant.walk h e c.requires.file_fits.2); holds = (c.loop-header.invariant.holds, walk_fine _ _ _ _ _ _ _ _ _ c.loop-header.invariant.walk h e c.requires.file_fits.0) }
+    record { in_file = (c.requires.file_fits.0, walk-room _ _ _ _ _ _ _ _ _ c.loop-header.invariant.walk h e c.requires.file_fits.2); holds = (c.loop-header.invariant.holds, walk_fine _ _ _ _ _ _ _ _ _ c.loop-header.invariant.walk h e c.requires.file_fits.0) }
 
 pub loop-header-preserved : goal.loop-header-preserved
 loop-header-preserved g c =

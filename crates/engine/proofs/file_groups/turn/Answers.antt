@@ -12,7 +12,7 @@ pub find-f-requires : goal.find-f-requires
 find-f-requires g c = (c.requires.holds.0, rw c.header-h.ensures c.requires.holds.1.count)
 
 pub turn-x-requires : goal.turn-x-requires
-turn-x-requires g c = record { in_file = c.requires.in_file; widths = (turn-calm (g.T.Holder.held c.args.lent.now) c.args.c c.requires.holds.1 c.args.s.now c.args.g.header c.args.g.records _ c.identity_at.ensures _ (found-is (g.T.Holder.held c.args.lent.now) _ _ c.header-h.ensures _ c.find-f.ensures) _ (place_is (g.T.Holder.held c.args.lent.now) _ _ c.header-h.ensures _ c.find-f.ensures _ c.bill_place-p.ensures.0) _ c.bill_at-b.ensures, c.requires.holds.1.few, rw c.header-h.ensures c.requires.holds.1.tracking, rw c.header-h.ensures c.requires.holds.1.confirmation, rw c.header-h.ensures c.requires.holds.1.today) }
+turn-x-requires g c = record { in_file = c.requires.in_file; widths = (turn-calm (g.T.Holder.held c.args.lent.now) c.args.c c.requires.holds.1 c.args.g.now.file.now c.args.g.now.header c.args.g.now.records _ c.identity_at.ensures _ (found-is (g.T.Holder.held c.args.lent.now) _ _ c.header-h.ensures _ c.find-f.ensures) _ (place_is (g.T.Holder.held c.args.lent.now) _ _ c.header-h.ensures _ c.find-f.ensures _ c.bill_place-p.ensures.0) _ c.bill_at-b.ensures, c.requires.holds.1.few, rw c.header-h.ensures c.requires.holds.1.tracking, rw c.header-h.ensures c.requires.holds.1.confirmation, rw c.header-h.ensures c.requires.holds.1.today) }
 
 pub update-requires : goal.update-requires
 update-requires g c =
@@ -24,4 +24,4 @@ update-requires g c =
 
 pub returns : goal.returns
 returns g c =
-    (c.update.ensures.0, turn_on (g.T.Holder.held c.args.lent.now) c.args.c c.requires.holds.1 c.args.s.now c.args.g.header c.args.g.records _ c.identity_at.ensures _ (found-is (g.T.Holder.held c.args.lent.now) _ _ c.header-h.ensures _ c.find-f.ensures) _ (place_is (g.T.Holder.held c.args.lent.now) _ _ c.header-h.ensures _ c.find-f.ensures _ c.bill_place-p.ensures.0) _ c.bill_at-b.ensures c.args.g.duplicate c.args.writes c.args.out.now _ c.turn-x.result (turn-here c.args.g.duplicate c.find-f.result c.bill_at-b.result (group_at c.args.s.now c.args.g.header c.args.g.records) c.args.c c.args.writes c.args.out.now _ c.turn-x.result c.header-h.result (header_of (g.T.Holder.held c.args.lent.now)) c.header-h.ensures c.turn-x.ensures) _ c.update.ensures.1)
+    (c.update.ensures.0, turn_on (g.T.Holder.held c.args.lent.now) c.args.c c.requires.holds.1 c.args.g.now.file.now c.args.g.now.header c.args.g.now.records _ c.identity_at.ensures _ (found-is (g.T.Holder.held c.args.lent.now) _ _ c.header-h.ensures _ c.find-f.ensures) _ (place_is (g.T.Holder.held c.args.lent.now) _ _ c.header-h.ensures _ c.find-f.ensures _ c.bill_place-p.ensures.0) _ c.bill_at-b.ensures c.args.duplicate c.args.writes c.args.out.now _ c.turn-x.result (turn-here c.args.duplicate c.find-f.result c.bill_at-b.result (group_at c.args.g.now.file.now c.args.g.now.header c.args.g.now.records) c.args.c c.args.writes c.args.out.now _ c.turn-x.result c.header-h.result (header_of (g.T.Holder.held c.args.lent.now)) c.header-h.ensures c.turn-x.ensures) _ c.update.ensures.1)

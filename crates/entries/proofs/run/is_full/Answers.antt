@@ -8,5 +8,5 @@ overflow_sub-result c = omega (arith, c.requires c.if-writes.true)
 pub returns-then-writes : goal.returns-then-writes
 returns-then-writes c = rw c.if-writes.true
 
-pub returns : goal.returns
-returns c = rw c.if-writes.false
+pub returns-else-writes : goal.returns-else-writes
+returns-else-writes c = rw c.if-writes.false

@@ -13,9 +13,9 @@ use Rattle.places.proofs.place.find.Goals as goal
 tested : (id x y : Identity) → x ≡ y → (eqb y.account id.account && eqb y.key id.key) ≡ (eqb x.account id.account && eqb x.key id.key)
 tested id x y e = ap (λ (z : Identity). eqb z.account id.account && eqb z.key id.key) (sym e)
 
-pub returns-then-same : goal.returns-then-same
-returns-then-same g c =
+pub returns-then-eq : goal.returns-then-eq
+returns-then-eq g c =
     sym
     (find-hit _ _ _ blank_bill c.loop-i-test.true (omega (arith, c.requires.1, g.met.T.Holder.places _ c.requires.0)) (of_id c.args.id)
-    (tested c.args.id _ _ c.identity_at-at.ensures ∙ c.if-same.true))
+    (tested c.args.id _ _ c.identity_at.ensures ∙ (sym c.eq.ensures ∙ c.if-eq.true)))
     ∙ c.loop-i.invariant

@@ -17,7 +17,7 @@ pub group_turn-r-requires : goal.group_turn-r-requires
 group_turn-r-requires c =
     let w = c.loop-i.invariant in
     let e = sym c.header_at.ensures ∙ c.if-header_at.true in
-    let r = leading-header c.args.s.now c.loop-i.i c.args.n (omega arith) e in record { whole = (omega arith, omega arith, omega arith, omega (arith, w.room)); has_room = omega (arith, w.few, w.long, w.within, c.requires.has_room) }
+    let r = leading-header c.args.s.now c.loop-i.i c.args.n (omega arith) e in record { whole = (omega (arith, c.requires.whole), omega (arith, w.room)); has_room = omega (arith, w.few, w.long, w.within, c.requires.has_room) }
 
 pub loop-i-preserved : goal.loop-i-preserved
 loop-i-preserved c =
