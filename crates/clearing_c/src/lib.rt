@@ -52,8 +52,7 @@ pub fn clearing_fresh(
         tracking,
         confirmation,
     };
-    let mut none = [0];
-    boundary::call(ledger, &mut none, change, counts, Body::Fresh(start), b"")
+    boundary::call(ledger, &mut [], change, counts, Body::Fresh(start), b"")
 }
 
 // Close of day.
@@ -65,10 +64,9 @@ pub fn clearing_close(
 ) -> u64
     ensures { Gives (called (ledger_of ledger.old) (close (date_of today))) ledger.old change.old counts.old ledger.new change.new counts.new result }
 {
-    let mut none = [0];
     boundary::call(
         ledger,
-        &mut none,
+        &mut [],
         change,
         counts,
         Body::Close(Date(today)),
@@ -90,8 +88,7 @@ pub fn clearing_removal(
         account,
         date: Date(date),
     };
-    let mut none = [0];
-    boundary::call(ledger, &mut none, change, counts, Body::Removal(a), b"")
+    boundary::call(ledger, &mut [], change, counts, Body::Removal(a), b"")
 }
 
 // What a request takes, from numbers.
