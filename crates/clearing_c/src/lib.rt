@@ -22,7 +22,8 @@ use ledger::Identity;
 use rules::Cause;
 use units::{Ccf, Date};
 
-// Stores a number that was found, and gives the number of the answer.
+// Stores a number that was found, and gives the number of the answer. Casts here and in `journals` lose nothing: a usize is no more than a u64, as in boundary.
+// `clearing_amounts` and `store_result` make an array of what was found, and boundary's `give` fills two places of one answer, so each keeps a `match` of its own.
 fn store_number(place: &mut u64, found: Result<u64, Cause>) -> u64
     ensures answer { result ≡ number_of found }
     ensures stored { place.new ≡ number_left place.old found }
