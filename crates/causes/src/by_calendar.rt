@@ -23,18 +23,5 @@ pub fn due_day(q: CalendarRequest, holidays: &[u64], today: Date) -> Result<Date
 pub fn on_date(r: Request, d: Date) -> Request
     ensures { result ≡ on_date r d }
 {
-    let code = r.code;
-    let identity = r.identity;
-    let billing = r.billing;
-    let from = r.from;
-    let consumption = r.consumption;
-    Request {
-        code,
-        identity,
-        product: r.product,
-        billing,
-        from,
-        consumption,
-        scheduled: d,
-    }
+    Request { scheduled: d, ..r }
 }

@@ -46,7 +46,7 @@ fn same_code(x: CodeField, c: RateCode) -> bool
 fn good_product(x: u8) -> bool
     ensures { result ≡ is_product x }
 {
-    (x == 66) | (x == 80)
+    (x == b'B') | (x == b'P')
 }
 
 // Whether every argument but the Scheduled Date is in its width and range.
@@ -243,10 +243,5 @@ pub fn removal_check(a: AccountRemoval, held: bool) -> Result<(), Cause>
 pub fn one_closed(b: Bill, old: Date, new: Date) -> u64
     ensures { result ≡ cond (closes old new b) 1 0 }
 {
-    let t = b.terms;
-    if t.is_open(old) & !t.is_open(new) {
-        1
-    } else {
-        0
-    }
+    u64::from(b.terms.is_open(old) & !b.terms.is_open(new))
 }

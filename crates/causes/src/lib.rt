@@ -1,5 +1,4 @@
-// What decides on a call, on small values: its arguments, the first cause against it, what a request or a cancel leaves of the bill at its place, and its notice.
-// Who holds the ledger finds the bill and stores what is left: calls by value, engine in words.
+// What decides on a call, on small values: its arguments, and the first cause against it. The engine finds the bill and stores what is left.
 #![tactic(auto)]
 
 pub mod by_calendar;

@@ -22,7 +22,8 @@ use ledger::Identity;
 use rules::Cause;
 use units::{Ccf, Date};
 
-// Stores a number that was found, and gives the number of the answer.
+// Stores a number that was found, and gives the number of the answer. Casts here and in `journals` lose nothing: a usize is no more than a u64, as in boundary.
+// `clearing_amounts` and `store_result` make an array of what was found, and boundary's `give` fills two places of one answer, so each keeps a `match` of its own.
 fn store_number(place: &mut u64, found: Result<u64, Cause>) -> u64
     ensures answer { result ≡ number_of found }
     ensures stored { place.new ≡ number_left place.old found }
@@ -52,8 +53,7 @@ pub fn clearing_fresh(
         tracking,
         confirmation,
     };
-    let mut none = [0];
-    boundary::call(ledger, &mut none, change, counts, Body::Fresh(start), b"")
+    boundary::call(ledger, &mut [], change, counts, Body::Fresh(start), b"")
 }
 
 // Close of day.
@@ -65,10 +65,9 @@ pub fn clearing_close(
 ) -> u64
     ensures { Gives (called (ledger_of ledger.old) (close (date_of today))) ledger.old change.old counts.old ledger.new change.new counts.new result }
 {
-    let mut none = [0];
     boundary::call(
         ledger,
-        &mut none,
+        &mut [],
         change,
         counts,
         Body::Close(Date(today)),
@@ -90,8 +89,7 @@ pub fn clearing_removal(
         account,
         date: Date(date),
     };
-    let mut none = [0];
-    boundary::call(ledger, &mut none, change, counts, Body::Removal(a), b"")
+    boundary::call(ledger, &mut [], change, counts, Body::Removal(a), b"")
 }
 
 // What a request takes, from numbers.

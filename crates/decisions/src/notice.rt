@@ -15,10 +15,7 @@ use units::Ccf;
 fn previous(f: Option<usize>, b: Bill) -> Ccf
     ensures { result ≡ previous_by f b }
 {
-    match f {
-        None => Ccf(0),
-        Some(_) => b.terms.latest.consumption,
-    }
+    f.map_or(Ccf(0), |_| b.terms.latest.consumption)
 }
 
 // The BIL of a request: b stood at its place, and c does now.
@@ -26,15 +23,13 @@ fn put_bil(out: &mut [u8], h: LedgerHeader, f: Option<usize>, b: Bill, c: Bill)
     requires { notice_size ≤ length out.old }
     ensures { out.new ≡ put out.old 0 (bil_by h f b c) }
 {
-    let consumption = previous(f, b);
-    let today = h.today;
     notices::bil::write(
         out,
         0,
         Bil {
             bill: c,
-            previous: consumption,
-            today,
+            previous: previous(f, b),
+            today: h.today,
             confirmation: h.confirmation,
         },
     );
@@ -45,15 +40,13 @@ fn put_cxl(out: &mut [u8], h: LedgerHeader, b: Bill)
     requires { notice_size ≤ length out.old }
     ensures { out.new ≡ put out.old 0 (cxl_by h b) }
 {
-    let terms = b.terms;
-    let today = h.today;
     notices::cxl::write(
         out,
         0,
         Cxl {
-            terms,
+            terms: b.terms,
             tracking: h.tracking,
-            today,
+            today: h.today,
             confirmation: h.confirmation,
         },
     );

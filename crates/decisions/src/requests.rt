@@ -15,16 +15,12 @@ use units::Cents;
 fn latest_of(r: Request, tracking: u64) -> Latest
     ensures { result ≡ latest_of r tracking }
 {
-    let consumption = r.consumption;
-    let billing = r.billing;
-    let from = r.from;
-    let scheduled = r.scheduled;
     Latest {
         tracking,
-        consumption,
-        billing,
-        from,
-        scheduled,
+        consumption: r.consumption,
+        billing: r.billing,
+        from: r.from,
+        scheduled: r.scheduled,
     }
 }
 
@@ -32,10 +28,12 @@ fn latest_of(r: Request, tracking: u64) -> Latest
 fn new_bill(r: Request, tracking: u64) -> Bill
     ensures { result ≡ new_bill r tracking }
 {
-    let code = r.code;
-    let id = r.identity;
-    let latest = latest_of(r, tracking);
-    Bill::first(id, RateCode::from(code), Product::from(r.product), latest)
+    Bill::first(
+        r.identity,
+        RateCode::from(r.code),
+        Product::from(r.product),
+        latest_of(r, tracking),
+    )
 }
 
 // The bill as a request leaves it: a new one, or a known one with the new values.
@@ -54,10 +52,7 @@ fn grown(f: Option<usize>, n: usize) -> usize
     requires { n ≤ ledger_places }
     ensures { result ≡ grown f n }
 {
-    match f {
-        None => n + 1,
-        Some(_) => n,
-    }
+    if f.is_none() { n + 1 } else { n }
 }
 
 // One of each number used, with so many bills.
@@ -65,12 +60,11 @@ fn use_numbers(h: LedgerHeader, n: usize) -> LedgerHeader
     requires { (h.tracking ≤ used_up) × (h.confirmation ≤ used_up) }
     ensures { result ≡ used_by h n }
 {
-    let today = h.today;
     LedgerHeader {
-        today,
         tracking: h.tracking + 1,
         confirmation: h.confirmation + 1,
         count: n,
+        ..h
     }
 }
 
@@ -136,9 +130,6 @@ pub fn change_of(c: BillCall, b: Bill) -> i64
 {
     match c {
         BillCall::Request(_) => 0,
-        BillCall::Cancel(_) => {
-            let posted = b.posted;
-            ledger::books::signed_change(Cents(0), posted.charge())
-        }
+        BillCall::Cancel(_) => ledger::books::signed_change(Cents(0), b.posted.charge()),
     }
 }

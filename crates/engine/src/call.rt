@@ -99,13 +99,7 @@ pub fn close_in<T: Holder>(lent: &mut [T], d: Date) -> Result<Returned, Cause>
     let today = h.today;
     checks::close_check(d, today)?;
     let closed = closed_by(lent, h.count, today, d);
-    let next = LedgerHeader {
-        today: d,
-        tracking: h.tracking,
-        confirmation: h.confirmation,
-        count: h.count,
-    };
-    T::put_header(lent, next);
+    T::put_header(lent, LedgerHeader { today: d, ..h });
     calls::carried_out::quiet(closed)
 }
 

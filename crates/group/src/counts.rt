@@ -26,21 +26,18 @@ pub fn add(c: Tally, v: Result<Posted, ErrorCode>, b: Bill, size: usize) -> Tall
     requires { WithinFile c × (size ≤ file_size) × (came_by v ≤ 10 ^ 13) × (went_by v b ≤ 10 ^ 13) }
     ensures { result ≡ tallied c v b size }
 {
-    let posted = b.posted;
     match v {
         Ok(amounts) => Tally {
             accepted: c.accepted + 1,
-            rejected: c.rejected,
             written: c.written + size,
             came: c.came + amounts.charge().0,
-            went: c.went + posted.charge().0,
+            went: c.went + b.posted.charge().0,
+            ..c
         },
         Err(_) => Tally {
-            accepted: c.accepted,
             rejected: c.rejected + 1,
             written: c.written + size,
-            came: c.came,
-            went: c.went,
+            ..c
         },
     }
 }

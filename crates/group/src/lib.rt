@@ -1,5 +1,4 @@
-// One group of a supplier file on small values: the bill that it names, its verdict, and its turn. Who holds the ledger finds the bill and stores what the
-// turn leaves: groups by value, engine in words.
+// One group of a supplier file on small values: the bill that it names, its verdict, and its turn. The engine finds the bill and stores what the turn leaves.
 #![tactic(auto)]
 
 pub mod answer;
@@ -47,7 +46,8 @@ fn identity_of(r: &GroupRecords) -> Identity
     }
 }
 
-// The identity that a group names, where a record follows its header.
+// The identity that a group names, where a record follows its header. (Where none does or a field holds no number it is no Option: line 1 refuses such a group
+// whatever bill is found, so 0 stands there.)
 pub fn identity_at(g: &GroupAt) -> Identity
     ensures { result ≡ identity_at g.now.file.now g.now.header g.now.records }
 {
@@ -75,7 +75,7 @@ pub fn verdict_at(
     verdict::verdict_of(&r, notification, b, today)
 }
 
-// The headers of groups that get BR14. (Most entries of a journal are no file: they are not searched.)
+// The headers of groups that get BR14: an array with the count of records beside it, since memory is fixed. (Most entries of a journal are no file: they are not searched.)
 pub fn marks(s: &[u8], n: usize) -> [bool; FILE_RECORDS]
     requires { (n ≤ file_records) × (n * record_size ≤ length s.now) }
     ensures { ((k : ℕ) → k < n → get_or result k false ≡ mark_at s.now n k) × ((k : ℕ) → n ≤ k → get_or result k false ≡ false) }
@@ -99,7 +99,7 @@ fn ids_used(v: Result<Posted, ErrorCode>, sup: bool) -> u64
 {
     match v {
         Err(_) => 0,
-        Ok(_) => { if sup { 1 } else { 0 } }
+        Ok(_) => u64::from(sup),
     }
 }
 
@@ -131,15 +131,13 @@ pub fn turn(
     ensures { TurnLeaves (verdict_on duplicate h.today (sought_by f b) (group_at g.now.file.now g.now.header g.now.records)) (group_at g.now.file.now g.now.header g.now.records) h b c writes out.old out.new result }
 {
     let sup = file::sup_at(g);
-    let today = h.today;
-    let v = verdict_at(g, duplicate, sought_by(f, b), today);
+    let v = verdict_at(g, duplicate, sought_by(f, b), h.today);
     let size = answer::answer(out, c.written, writes, g, v, b, h);
     let tally = counts::add(c, v, b, size);
     let header = LedgerHeader {
-        today,
         tracking: h.tracking + ids_used(v, sup),
         confirmation: h.confirmation + 1,
-        count: h.count,
+        ..h
     };
     let bill = post(v, sup, b);
     let update = Update { header, bill };

@@ -19,9 +19,8 @@ fn refusal(src: &[u8], room: usize) -> Option<Reported>
         return None;
     }
     let mut ws = [0u64; words::LEDGER_SIZE];
-    let mut none = [0u8; 1];
     run::start(&mut ws);
-    let r = run::run(&mut ws, &mut none, false, src, 0);
+    let r = run::run(&mut ws, &mut [], false, src, 0);
     if r.written <= room {
         return None;
     }

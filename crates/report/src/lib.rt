@@ -22,9 +22,8 @@ pub fn post_table(src: &[u8], out: &mut [u8]) -> Reported
     ensures { Reports src.now out.old out.new result }
 {
     let mut ws = [0u64; words::LEDGER_SIZE];
-    let mut none = [0u8; 1];
     run::start(&mut ws);
-    let r = run::run(&mut ws, &mut none, false, src, 0);
+    let r = run::run(&mut ws, &mut [], false, src, 0);
     let stopped = journal::ends_bad(r.end.is_bad(), src.len() - r.used, r.seen);
     if out.len() < table::TABLE_ROOM {
         return Reported {

@@ -50,37 +50,34 @@ length-key s j zero h = length-filled 4 32
 length-key s j (suc k) h =
     ap length (key-some s j (suc k) (λ e. omega arith)) ∙ length_part s (j * 321 + 41) 4 (omega arith)
 
--- ---- the verdict, and where the answer ends
-module _ (sent : List ℕ) (from k : ℕ) where
-  abbrev rest : List ℕ
-  rest = drop from sent
+-- ---- the verdict, and how long the answer is
+module _ (b : List ℕ) (k : ℕ) where
+  acf-at : is_acf b ≡ holds b 30 (text "ACF")
+  acf-at = refl
 
-  acf-at : is_acf rest ≡ holds sent (from + 30) (text "ACF")
-  acf-at = rw (part-drop sent from 30 3)
-
-  pub verdict-acf : holds sent (from + 30) (text "ACF") ≡ true → read_verdict rest k ≡ text "ACF"
+  pub verdict-acf : holds b 30 (text "ACF") ≡ true → read_verdict b k ≡ text "ACF"
   unfolding read_verdict
   verdict-acf e = rw (acf-at ∙ e)
 
-  pub verdict-none : holds sent (from + 30) (text "ACF") ≡ false → k ≡ 0 → read_verdict rest k ≡ text "BR17"
+  pub verdict-none : holds b 30 (text "ACF") ≡ false → k ≡ 0 → read_verdict b k ≡ text "BR17"
   unfolding read_verdict
   verdict-none e z = rw (acf-at ∙ e, eq-eqb k 0 z)
 
-  pub verdict-code : holds sent (from + 30) (text "ACF") ≡ false → (k ≡ 0 → ⊥) → read_verdict rest k ≡ part sent (from + 580) 4
+  pub verdict-code : holds b 30 (text "ACF") ≡ false → (k ≡ 0 → ⊥) → read_verdict b k ≡ part b 580 4
   unfolding read_verdict
-  verdict-code e z = rw (acf-at ∙ e, ne_eqb k 0 z) (part-part rest 321 321 259 4 (omega arith) ∙ part-drop sent from 580 4)
+  verdict-code e z = rw (acf-at ∙ e, ne_eqb k 0 z) (part-part b 321 321 259 4 (omega arith))
 
-  pub long-acf : holds sent (from + 30) (text "ACF") ≡ true → answer_long rest k ≡ 321
+  pub long-acf : holds b 30 (text "ACF") ≡ true → answer_long b k ≡ 321
   unfolding answer_long
   long-acf e = rw (acf-at ∙ e)
 
-  pub long-rej : holds sent (from + 30) (text "ACF") ≡ false → answer_long rest k ≡ (k + 1) * 321
+  pub long-rej : holds b 30 (text "ACF") ≡ false → answer_long b k ≡ (k + 1) * 321
   unfolding answer_long
   long-rej e = rw (acf-at ∙ e)
 
   -- a verdict was put with byte 10, in n bytes
-  pub verdict-put : (xs out : List ℕ) (at n : ℕ) (v : List ℕ) → read_verdict rest k ≡ v → length (ended v) ≡ n → out ≡ put xs at (ended v)
-      → (out ≡ put xs at (ended (read_verdict rest k))) × (at + n ≡ at + length (ended (read_verdict rest k)))
+  pub verdict-put : (xs out : List ℕ) (at n : ℕ) (v : List ℕ) → read_verdict b k ≡ v → length (ended v) ≡ n → out ≡ put xs at (ended v)
+      → (out ≡ put xs at (ended (read_verdict b k))) × (at + n ≡ at + length (ended (read_verdict b k)))
   verdict-put xs out at n v e l o =
       (o ∙ ap (λ (z : List ℕ). put xs at (ended z)) (sym e), ap (λ (m : ℕ). at + m) (sym (ap (λ (z : List ℕ). length (ended z)) e ∙ l)))
 

@@ -48,12 +48,12 @@ fn put_key(out: &mut [u8], at: usize, s: &[u8], i: usize, k: usize)
 }
 
 // Writes ACF or the error code, as the answer to a group of k details has it, and byte 10; answers where they end.
-fn put_verdict(out: &mut [u8], at: usize, sent: &[u8], from: usize, k: usize) -> usize
+fn put_verdict(out: &mut [u8], at: usize, answer: &[u8], k: usize) -> usize
     requires has_room { at + 5 ≤ length out.old }
-    requires whole { from + (k + 1) * record_size ≤ length sent.now }
-    ensures { (out.new ≡ put out.old at (ended (read_verdict (drop from sent.now) k))) × (result ≡ at + length (ended (read_verdict (drop from sent.now) k))) }
+    requires whole { (k + 1) * record_size ≤ length answer.now }
+    ensures { (out.new ≡ put out.old at (ended (read_verdict answer.now k))) × (result ≡ at + length (ended (read_verdict answer.now k))) }
 {
-    if fields::is_text(sent, from + layout::NOTICE.at, b"ACF") {
+    if fields::is_text(answer, layout::NOTICE.at, b"ACF") {
         fields::put_bytes(out, at, b"ACF\n");
         return at + 4;
     }
@@ -61,26 +61,20 @@ fn put_verdict(out: &mut [u8], at: usize, sent: &[u8], from: usize, k: usize) ->
         fields::put_bytes(out, at, b"BR17\n");
         return at + 5;
     }
-    fields::put_part(
-        out,
-        at,
-        sent,
-        from + FIRST_ERROR_CODE,
-        layout::ERROR_CODE.width,
-    );
+    fields::put_part(out, at, answer, FIRST_ERROR_CODE, layout::ERROR_CODE.width);
     fields::put_bytes(out, at + 4, b"\n");
     at + 5
 }
 
-// Where the answer to a group of k details ends.
-fn next_answer(sent: &[u8], from: usize, k: usize) -> usize
-    requires { from + (k + 1) * record_size ≤ length sent.now }
-    ensures { result ≡ from + answer_long (drop from sent.now) k }
+// How many bytes the answer to a group of k details has.
+fn answer_long(answer: &[u8], k: usize) -> usize
+    requires { (k + 1) * record_size ≤ length answer.now }
+    ensures { result ≡ answer_long answer.now k }
 {
-    if fields::is_text(sent, from + layout::NOTICE.at, b"ACF") {
-        return from + RECORD_SIZE;
+    if fields::is_text(answer, layout::NOTICE.at, b"ACF") {
+        return RECORD_SIZE;
     }
-    from + (k + 1) * RECORD_SIZE
+    (k + 1) * RECORD_SIZE
 }
 
 // Where the walk over a file's groups has come to in the output and in the answers. Both are indices: the definitions say where each answer starts by one.
@@ -116,7 +110,7 @@ fn put_group_line(r: Reached, out: &mut [u8], s: &[u8], i: usize, k: usize, sent
     );
     put_key(out, at + 29, s, i, k);
     put_in_record(out, at + 34, s, i, layout::NOTICE.at, layout::NOTICE.width);
-    put_verdict(out, at + 38, sent, from, k)
+    put_verdict(out, at + 38, &sent[from..], k)
 }
 
 // The line of a group.
@@ -129,7 +123,7 @@ fn group_turn(r: Reached, out: &mut [u8], g: &GroupAt, sent: &[u8]) -> Reached
     let k = file::detail_count(g);
     Reached {
         end: put_group_line(r, out, g.file, g.header, k, sent),
-        from: next_answer(sent, from, k),
+        from: from + answer_long(&sent[from..], k),
     }
 }
 

@@ -1,5 +1,4 @@
 -- `trace_lines::group_lines::put_verdict` meets its contract.
-use Prim.Native.Nat.{◌+◌}
 use mathlib.Core.Path.{refl, sym, ◌∙◌}
 use native.Mathlib.Omega.{arith}
 use Rattle.fields.specs.Text.{text}
@@ -11,15 +10,15 @@ pub returns-then-is_text : goal.returns-then-is_text
 unfolding ended
 returns-then-is_text c =
     let a = c.args in
-    verdict-put a.sent.now a.from a.k _ _ a.at 4 (text "ACF") (verdict-acf a.sent.now a.from a.k (sym c.is_text.ensures ∙ c.if-is_text.true)) refl c.put_bytes.ensures
+    verdict-put a.answer.now a.k _ _ a.at 4 (text "ACF") (verdict-acf a.answer.now a.k (sym c.is_text.ensures ∙ c.if-is_text.true)) refl c.put_bytes.ensures
 
 pub returns-then-k-eq0 : goal.returns-then-k-eq0
 unfolding ended
 returns-then-k-eq0 c =
     let a = c.args in
-    verdict-put a.sent.now a.from a.k _ _ a.at 5 (text "BR17") (verdict-none a.sent.now a.from a.k (sym c.is_text.ensures ∙ c.if-is_text.false) c.if-k-eq0.true) refl c.put_bytes-then-k-eq0.ensures
+    verdict-put a.answer.now a.k _ _ a.at 5 (text "BR17") (verdict-none a.answer.now a.k (sym c.is_text.ensures ∙ c.if-is_text.false) c.if-k-eq0.true) refl c.put_bytes-then-k-eq0.ensures
 
 pub returns : goal.returns
 returns c =
     let a = c.args in
-    verdict-put a.sent.now a.from a.k _ _ a.at 5 _ (verdict-code a.sent.now a.from a.k (sym c.is_text.ensures ∙ c.if-is_text.false) c.if-k-eq0.false) (length-code a.sent.now (a.from + 580) 4 (omega (arith, c.requires, c.if-k-eq0.false))) (code_put _ _ _ a.sent.now a.at (a.from + 580) 4 (omega (arith, c.requires)) (omega (arith, c.requires, c.if-k-eq0.false)) c.put_part.ensures c.put_bytes-2.ensures)
+    verdict-put a.answer.now a.k _ _ a.at 5 _ (verdict-code a.answer.now a.k (sym c.is_text.ensures ∙ c.if-is_text.false) c.if-k-eq0.false) (length-code a.answer.now 580 4 (omega (arith, c.requires, c.if-k-eq0.false))) (code_put _ _ _ a.answer.now a.at 580 4 (omega (arith, c.requires)) (omega (arith, c.requires, c.if-k-eq0.false)) c.put_part.ensures c.put_bytes-2.ensures)
