@@ -52,7 +52,8 @@ pub fn fresh(l: Ledger, s: Start) -> Called
     left(&lent, answer)
 }
 
-// Sets today to a later date.
+// Sets today to a later date. The lines that lend the ledger stand in each of the five calls: a function over the call as an `FnOnce` has no clause for what the
+// call leaves in an output that it captures (an `FnOnce` has no `step`), and three of the five write one.
 pub fn close_day(l: Ledger, d: Date) -> Called
     ensures { result ≡ called l (close d) }
 {

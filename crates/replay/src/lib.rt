@@ -94,7 +94,8 @@ fn run_wanted(ws: &mut [u64], out: &mut [u8], wanted: Wanted, src: &[u8], seen: 
     }
 }
 
-// Makes the entries of the first n bytes and keeps the bytes that are left at the start.
+// Makes the entries of the first n bytes and keeps the bytes that are left at the start. (The parts of `Buffers`, one by one: a caller lends them apart, and its contract
+// names each.)
 fn make(
     ws: &mut [u64],
     buf: &mut [u8],
