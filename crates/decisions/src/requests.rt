@@ -11,6 +11,8 @@ use ledger::{Bill, Identity, Latest, LedgerHeader, Product, RateCode, Update};
 use rules::Cause;
 use units::Cents;
 
+// A header, the place that was found and the bill there go side by side below: the definitions take the three, and a struct would be taken apart in each function.
+
 // What a bill has from a request that takes this Tracking ID.
 fn latest_of(r: Request, tracking: u64) -> Latest
     ensures { result ≡ latest_of r tracking }

@@ -9,13 +9,21 @@ ghost use Rattle.ledger.specs.Limits.{last_sequence};
 use crate::{Bill, Identity, Latest, Posted, Product, RateCode, State, Terms};
 use units::{Ccf, Cents, Date};
 
+// The five bytes of a rate code.
+impl From<RateCode> for [u8; 5] {
+    ghost from_gives = { λ c xs. xs ≡ code_bytes c };
+
+    fn from(c: RateCode) -> [u8; 5] {
+        [c.first, c.second, b'C', c.tens, c.ones]
+    }
+}
+
 // Writes a rate code.
 pub fn put_code(out: &mut [u8], at: usize, c: RateCode)
     requires { at + 5 ≤ length out.old }
     ensures { out.new ≡ put out.old at (code_bytes c) }
 {
-    let code = [c.first, c.second, 67, c.tens, c.ones];
-    fields::put_bytes(out, at, &code);
+    fields::put_bytes(out, at, &<[u8; 5]>::from(c));
 }
 
 impl Product {

@@ -79,7 +79,7 @@ fn slot(number: u64) -> usize
     (number % 509) as usize
 }
 
-// The slots that the numbers of two records share: two equal numbers always do.
+// The slots that the numbers of two records share: two equal numbers always do. (Sets as arrays of fixed size: there is no heap.)
 fn shared_slots<'a>(numbers: &'a [u64; FILE_RECORDS], n: usize) -> [bool; 509]
     requires { (n ≤ file_records) × (length numbers.now ≡ file_records) }
     ensures { (length result ≡ 509) × ((j k : ℕ) → j < n → k < n → (j ≡ k → ⊥) → get_or numbers.now j 0 ≡ get_or numbers.now k 0 → get_or result (number_slot (get_or numbers.now k 0)) false ≡ true) }

@@ -12,6 +12,7 @@ pub struct Field {
     pub width: usize,
 }
 
+// Each method asks that the record reaches the field: a type of records with their length would ask more of whoever holds a longer slice.
 impl Field {
     // The number that a record's field holds, where it holds digits only.
     pub fn number(self, r: &[u8]) -> Option<u64>

@@ -31,7 +31,7 @@ pub fn record_at<'a>(s: &'a [u8], i: usize) -> &'a [u8]
     &s[at..at + RECORD_SIZE]
 }
 
-// A field's number in each of the four tiers.
+// A field's number in each of the four tiers. (Four fields, and no array with an iterator's sum: the definitions name the four, and line 9's sum is theirs.)
 #[derive(Clone, Copy)]
 pub struct Tiers(pub u64, pub u64, pub u64, pub u64);
 

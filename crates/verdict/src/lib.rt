@@ -22,8 +22,7 @@ use units::{Ccf, Cents, Date, Rate};
 fn has_code(r: &GroupRecords, c: RateCode) -> bool
     ensures { result ≡ same_list (rate_code_in r.now.header.now) (code_bytes c) }
 {
-    let code = [c.first, c.second, 67, c.tens, c.ones];
-    layout::RATE_CODE.holds(r.header, &code)
+    layout::RATE_CODE.holds(r.header, &<[u8; 5]>::from(c))
 }
 
 // Line 6 for RSP.
