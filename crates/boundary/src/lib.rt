@@ -1,4 +1,4 @@
-// A call on words that may hold anything, and what it came to given to the caller's buffers. These go side by side, since no struct crosses the C interface.
+// A call on words that may hold anything, and what it came to given to the caller's buffers. The buffers go side by side: no struct of them crosses the C interface.
 #![tactic(auto)]
 
 ghost use Rattle.std.specs.Prelude.{◌≡◌, length};

@@ -14,6 +14,7 @@ use streams::{arguments, output};
 const INPUT_ROOM: usize = 577;
 
 // So many bytes stand at the start of the buffer, and the last read came to this: bytes came before a read that failed, too.
+// (The buffer is the caller's: what filled it can't hand it on with its length.)
 #[derive(Clone, Copy)]
 struct Input {
     length: usize,

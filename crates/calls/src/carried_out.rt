@@ -8,7 +8,7 @@ use group::Tally;
 use rules::Cause;
 use units::Cents;
 
-// The answer of a call that wrote a notice of two records.
+// The answer of a call that wrote a notice of two records. (Ok in a Result, here and below, as the calls return it.)
 pub fn noticed(change: i64) -> Result<Returned, Cause>
     ensures { result ≡ noticed change }
 {

@@ -14,7 +14,7 @@ use Rattle.rules.specs.Rules.{first}
 use Rattle.group.specs.parts.Turns.{if_written}
 use Rattle.causes.specs.declared.Request.{Request}
 use Rattle.causes.specs.declared.CalendarRequest.{CalendarRequest}
-use Rattle.causes.specs.Causes.{request, calendar, on_date, worked_out, schedule_causes}
+use Rattle.causes.specs.Causes.{request, calendar, on_date, schedule_causes}
 use Rattle.causes.proofs.CalendarLaws.{due-on, due-refused}
 use Rattle.calls.specs.declared.Called.{Called}
 use Rattle.calls.specs.Machine.{Outcome, step_in, called}

@@ -1,5 +1,6 @@
 // The calls on a lent ledger that is known to be sound: each does what the call by value does, and writes its notices if it is asked to.
 // `out`, `writes` and `room` go side by side: the contracts say of the output what stood in it and what stands, and a struct of the three would be made for each call.
+// That the ledger is sound is asked by a clause: a type of lent slices that hold one would be made anew after each call, where the same is shown.
 ghost use Rattle.std.specs.Prelude.{◌≡◌, true, ◌+◌, ◌≤◌, length, take};
 ghost use Rattle.rules.specs.Lists.{count};
 ghost use Rattle.ledger.specs.Sound.{sound_ledger};
@@ -80,7 +81,7 @@ pub fn file_in<T: Holder>(
     calls::carried_out::cleared(c)
 }
 
-// How many of the first n bills a close closes.
+// How many of the first n bills a close closes. (`lent` and n as in places::place, which says why.)
 fn closed_by<T: Holder>(lent: &[T], n: usize, old: Date, new: Date) -> u64
     requires { (T.holds lent.now ≡ true) × (n ≤ ledger_places) }
     ensures { result ≡ count (closes old new) (take n (T.held lent.now).bills) }

@@ -34,7 +34,7 @@ fn turn<T: Holder>(
     x.tally
 }
 
-// The groups of the first n records, in order, each on the ledger that the one before left.
+// The groups of the first n records, in order, each on the ledger that the one before left. (n stands beside the bytes, as the definitions take records by number.)
 pub fn take<T: Holder>(lent: &mut [T], out: &mut [u8], writes: bool, s: &[u8], n: usize) -> Tally
     requires file_fits { (n ≤ file_records) × (n * record_size ≤ length s.now) × (writes ≡ true → n * record_size ≤ length out.old) }
     requires holds { (T.holds lent.old ≡ true) × Ready (T.held lent.old) }

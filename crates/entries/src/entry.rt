@@ -44,7 +44,8 @@ impl Ended {
     }
 }
 
-// Makes an entry, whose body's bytes are s; its call is lent so much room.
+// Makes an entry, whose body's bytes are s; its call is lent so much room. That the words hold a sound ledger is asked by a clause, here, in run, tracing and
+// replay: a type of such words would be made anew after each call, where the same is shown.
 pub fn entry(
     ws: &mut [u64],
     out: &mut [u8],

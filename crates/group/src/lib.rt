@@ -75,7 +75,7 @@ pub fn verdict_at(
     verdict::verdict_of(&r, notification, b, today)
 }
 
-// The headers of groups that get BR14: an array with the count of records beside it, since memory is fixed. (Most entries of a journal are no file: they are not searched.)
+// The headers of groups that get BR14: an array with the count of records beside it, since memory is fixed. (A file of no records is not searched.)
 pub fn marks(s: &[u8], n: usize) -> [bool; FILE_RECORDS]
     requires { (n ≤ file_records) × (n * record_size ≤ length s.now) }
     ensures { ((k : ℕ) → k < n → get_or result k false ≡ mark_at s.now n k) × ((k : ℕ) → n ≤ k → get_or result k false ≡ false) }

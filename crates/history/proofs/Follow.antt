@@ -20,7 +20,7 @@ use Rattle.file.specs.File.{Group, file_groups, detail_of, asks_id, line3}
 use Rattle.file.proofs.WalkLaws.{has-append}
 use Rattle.rules.specs.Rules.{first}
 use Rattle.verdict.specs.Lines.{is_nothing, sent_charge}
-use Rattle.group.specs.Groups.{identity_of, sought_in, sought, verdict_by, settled, verdict_here, taken}
+use Rattle.group.specs.Groups.{identity_of, sought_in, verdict_by, settled, verdict_here, taken}
 use Rattle.calls.proofs.FileSound.{holds_kept, settled-facts, confirmation-up, tracking-up, count-step}
 use Rattle.causes.specs.declared.Request.{Request}
 use Rattle.causes.specs.declared.AccountRemoval.{AccountRemoval}

@@ -1,12 +1,10 @@
 -- Over a list of calls the history follows the ledger: the total, the changes, and what each call comes to. Assumes nothing.
-use Prim.Native.Nat.{◌+◌}
 use mathlib.Core.Path.{◌≡◌, refl, sym, ap, ◌∙◌}
 use mathlib.Core.List.{List, [], ◌∷◌, map}
 use lib.IntN.{ℤ, pos, ◌+ℤ◌, ◌-ℤ◌, +ℤ_assoc, +ℤ_comm, +ℤ_idr, -ℤ-+ℤ_cancel}
 use Rattle.ledger.specs.declared.Bill.{Bill}
 use Rattle.rules.specs.Lists.{sum}
 use Rattle.ledger.specs.Books.{Book, View, view, bill_terms, total_of}
-use Rattle.ledger.specs.Sound.{sound}
 use Rattle.ledger.proofs.SoundLaws.{facts-sound}
 use Rattle.rules.specs.Rules.{first}
 use Rattle.causes.specs.Causes.{Call, causes}

@@ -16,7 +16,7 @@ pub fn is_interrupted(e: &Error) -> bool
     e.kind() == ErrorKind::Interrupted
 }
 
-// One read, tried again where it was interrupted, at most a million times.
+// One read, tried again where it was interrupted, at most a million times. (streams `write_some` tries a write likewise, and says why they are two.)
 fn read_input<R: Read>(reader: &mut R, buf: &mut [u8]) -> io::Result<usize>
     ensures moved { Moved (length buf.old) result }
     ensures bytes { ReadConsumes (R.remaining reader.old) (R.remaining reader.new) result buf.new }

@@ -95,7 +95,7 @@ impl Posted {
 }
 
 impl Terms {
-    // A test of one field, by its name: no equality of two identities.
+    // It compares one field, so the equality of two identities can't stand for it.
     pub fn is_of_account(self, account: u64) -> bool
         ensures { result ≡ is_of_account account self }
     {

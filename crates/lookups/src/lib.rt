@@ -56,13 +56,13 @@ pub fn place_due(first: Option<Due>) -> Result<usize, Cause>
     first.map(|held| held.place).ok_or(Cause::NoSuchBill)
 }
 
-// The open bill of an account that is due first, of the first n.
+// The open bill of an account that is due first, of the first n. (`lent` and n as in places::place, which says why.)
 fn due_first<T: Holder>(lent: &[T], n: usize, account: u64, today: Date) -> Option<Due>
     requires { (T.holds lent.now ≡ true) × (n ≤ ledger_places) }
     ensures { result ≡ due_after account today 0 none_due (take n (T.held lent.now).bills) }
 {
     let mut first = None;
-    // No fold over the places: in words it makes the lookup a fifth slower (128 bills: 5.0 us, and 4.2 by this loop).
+    // No fold over the places: in words the lookup then takes a fifth longer than by this loop, which stood here before (128 bills: 5.0 us, and 4.2).
     for i in 0..n {
         let b = T::bill_at(lent, i);
         first = due_with(first, i, b, account, today);

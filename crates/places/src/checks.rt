@@ -56,12 +56,13 @@ fn stands_if_met<T: Holder>(lent: &[T], n: usize, id: Identity, met: bool) -> bo
     met && stands(lent, n, id)
 }
 
-// Whether no identity stands twice among the first n, with no set of std's, which takes the heap that a rule of the project forbids. Equal identities have one slot, so a place is held against those before it only where
-// one of them has its slot.
+// Whether no identity stands twice among the first n, with no set of std's, which takes the heap that a rule of the project forbids. Equal identities
+// have one slot, so a place is held against those before it only where one of them has its slot.
 pub fn all_distinct<T: Holder>(lent: &[T], n: usize) -> bool
     requires { (T.holds lent.now ≡ true) × (n ≤ ledger_places) }
     ensures { result ≡ distinct (take n (T.held lent.now).bills) }
 {
+    // An array has a usize for its length, and SLOTS is a u64, as the numbers that it divides.
     let mut met = [false; SLOTS as usize];
     for i in 0..n {
         let id = T::identity_at(lent, i);

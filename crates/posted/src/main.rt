@@ -35,9 +35,10 @@ fn post_input<R: Read, O: Write, E: Write>(
     ensures posts { Posts buffers.new.out result }
     ensures all { IfSome (R.remaining streams.old.input) (λ input. PostsAll input buffers.new.out result) }
 {
-    run::start(&mut buffers.ws);
-    let e = replay::read_all(streams, buffers, Wanted::Nothing);
-    table_of(&buffers.ws, &mut buffers.out, e)
+    let Buffers { ws, buf, out } = buffers;
+    run::start(ws);
+    let e = replay::read_all(streams, ws, buf, out, Wanted::Nothing);
+    table_of(ws, out, e)
 }
 
 // Reads standard input and writes its posted table to standard output.

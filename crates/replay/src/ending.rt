@@ -28,9 +28,10 @@ fn read_input<R: Read, O: Write, E: Write>(
     ensures all { IfSome (R.remaining streams.old.input)
         (λ input. EndsAll wanted input (O.contents streams.old.output) (O.contents streams.new.output) buffers.new.out result) }
 {
-    run::start(&mut buffers.ws);
-    let e = crate::read_all(streams, buffers, wanted);
-    stop_line(&mut buffers.out, e)
+    let Buffers { ws, buf, out } = buffers;
+    run::start(ws);
+    let e = crate::read_all(streams, ws, buf, out, wanted);
+    stop_line(out, e)
 }
 
 // Where that line goes.

@@ -35,7 +35,7 @@ pub enum Wanted {
 }
 
 // The memory that a program reads with: the ledger in words, the bytes that came, and those that are to be written.
-// Arrays, and no lent slices: their lengths stand in the type, and slices would bring them back into the clauses of each function that reads.
+// Its lengths stand in the type, for the programs that set it aside; a struct with lent slices could say them by no ghost field, since one stands beside no `&mut`.
 #[derive(Drop)]
 pub struct Buffers<const ROOM: usize> {
     pub ws: [u64; words::LEDGER_SIZE],
@@ -94,8 +94,7 @@ fn run_wanted(ws: &mut [u64], out: &mut [u8], wanted: Wanted, src: &[u8], seen: 
     }
 }
 
-// Makes the entries of the first n bytes and keeps the bytes that are left at the start. (The parts of `Buffers`, one by one: a caller lends them apart, and its contract
-// names each.)
+// Makes the entries of the first n bytes and keeps the bytes that are left at the start.
 fn make(
     ws: &mut [u64],
     buf: &mut [u8],
@@ -117,16 +116,19 @@ fn make(
     }
 }
 
-// Reads standard input in pieces and makes its entries. A billion entries have fewer bytes than there are turns.
-pub fn read_all<R: Read, O: Write, E: Write, const ROOM: usize>(
+// Reads standard input in pieces and makes its entries. A billion entries have fewer bytes than there are turns. (Slices, and not `Buffers`: arrays would ask a caller
+// that holds slices of these lengths to copy them.)
+pub fn read_all<R: Read, O: Write, E: Write>(
     streams: &mut Streams<R, O, E>,
-    buffers: &mut Buffers<ROOM>,
+    ws: &mut [u64],
+    buf: &mut [u8],
+    out: &mut [u8],
     wanted: Wanted,
 ) -> Result<End, Failed>
-    requires { (ledger_of buffers.old.ws ≡ first_ledger) × (ROOM ≤ piece_size) }
-    ensures reads { IfOk result (λ e. Reads wanted buffers.new.ws buffers.new.buf e) }
+    requires { (ledger_of ws.old ≡ first_ledger) × (length buf.old ≡ piece_size) × (length out.old ≤ piece_size) }
+    ensures reads { IfOk result (λ e. Reads wanted ws.new buf.new e) }
     ensures bytes { IfOk result (λ e. ReadsFrom wanted (R.remaining streams.old.input) (R.remaining streams.new.input)
-        (O.contents streams.old.output) (O.contents streams.new.output) buffers.new.ws buffers.new.buf e) }
+        (O.contents streams.old.output) (O.contents streams.new.output) ws.new buf.new e) }
     ensures written { IfSome (R.remaining streams.old.input) (λ input. Writes result (written_of wanted 0 first_book (parse 0 input).entries)
         (O.contents streams.old.output) (O.contents streams.new.output)) }
 {
@@ -135,20 +137,13 @@ pub fn read_all<R: Read, O: Write, E: Write, const ROOM: usize>(
     let mut total = 0;
     let mut full = false;
     for _turn in 0..70000000000000u64 {
-        let came = more(&mut streams.input, &mut buffers.buf, left, full);
+        let came = more(&mut streams.input, buf, left, full);
         let Ok(Some(n)) = came else {
             return pieces::end_of_input(&mut streams.error, came, seen, left, total);
         };
-        let p = make(
-            &mut buffers.ws,
-            &mut buffers.buf,
-            &mut buffers.out,
-            wanted,
-            n,
-            seen,
-        );
+        let p = make(ws, buf, out, wanted, n, seen);
         total += p.written;
-        let sent = streams.send(Output::printed(p.written), &buffers.out);
+        let sent = streams.send(Output::printed(p.written), out);
         let stopped = p.end.is_bad();
         if sent.is_err() | stopped {
             let end = End {

@@ -1,7 +1,7 @@
 -- What paper 2 of document 02 claims holds. Assumes nothing.
 use Prim.Native.Nat.{ℕ, zero, suc, ◌%◌, ◌≤◌, ◌<◌}
-use mathlib.Core.Path.{◌≡◌, refl, sym, ap, ◌∙◌}
-use mathlib.Core.Bool.{Bool, true, false}
+use mathlib.Core.Path.{◌≡◌, refl, ap, ◌∙◌}
+use mathlib.Core.Bool.{true}
 use mathlib.Core.List.{List, [], ◌∷◌}
 use native.Mathlib.Omega.{arith}
 use native.Mathlib.Nat.{le_of_suc-le-suc}
@@ -9,19 +9,17 @@ use lib.Dec.{eqb}
 use lib.ListN.{length, get_or}
 use Rattle.fields.proofs.BoolLaws.{cases}
 use Rattle.rules.specs.Lists.{has}
-use Rattle.rules.specs.Rules.{first}
 use Rattle.units.specs.Calendar.{year, is_date}
 use Rattle.units.specs.Days.{year_on}
 use Rattle.units.proofs.DateLaws.{date-last}
 use Rattle.ledger.specs.declared.Bill.{Bill}
 use Rattle.ledger.specs.declared.Ledger.{Ledger}
-use Rattle.ledger.specs.Bills.{blank_bill, removed_bill}
+use Rattle.ledger.specs.Bills.{blank_bill}
 use Rattle.ledger.specs.Books.{live, of_account, removed_of}
 use Rattle.ledger.specs.parts.Places.{map_first, removed_first}
-use Rattle.ledger.specs.Sound.{sound_ledger}
 use Rattle.ledger.proofs.SoundLaws.{ledger-count}
 use Rattle.causes.specs.declared.AccountRemoval.{AccountRemoval}
-use Rattle.causes.specs.Causes.{removal, removal_causes}
+use Rattle.causes.specs.Causes.{removal}
 use Rattle.calls.specs.declared.Called.{Called}
 use Rattle.calls.specs.Machine.{fresh, next_written, outcome, cause_in, step_in, called}
 use Rattle.calls.specs.Days.{quiet_answer}

@@ -1,5 +1,5 @@
 -- Line 6 at the borders of twelve months and sixty days. Assumes nothing.
-use Prim.Native.Nat.{ℕ, ◌+◌, ◌≤◌, ◌<◌}
+use Prim.Native.Nat.{ℕ, ◌+◌, ◌≤◌}
 use mathlib.Core.Path.{◌≡◌, ap}
 use mathlib.Core.Bool.{Bool, true, false, ◌&&◌, ◌||◌, and-false, false≢true}
 use mathlib.Core.List.{List, [], ◌∷◌}
@@ -8,10 +8,8 @@ use lib.Dec.{eqb}
 use borrow.Author.Tests.{lt-ltb, le-ltb, eq-eqb}
 use Rattle.rules.specs.Rules.{Rule, rule, first}
 use Rattle.units.specs.declared.Date.{Date}
-use Rattle.units.specs.Calendar.{is_date}
 use Rattle.units.specs.Days.{day_number, year_on, days_past}
 use Rattle.ledger.specs.declared.Terms.{Terms}
-use Rattle.ledger.specs.Bills.{is_open}
 use Rattle.records.specs.declared.Notification.TheVariants.{Response, Supplement}
 use Rattle.verdict.specs.Lines.{removed_long, line6}
 use Rattle.statements.specs.Papers.{SupDates}

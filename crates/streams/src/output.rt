@@ -15,7 +15,7 @@ pub enum Stream {
     Stderr,
 }
 
-// The first bytes of some output, so many, go to a stream; where there are none nothing is written.
+// The first bytes of some output, so many, go to a stream; where there are none nothing is written. (Their number and no slice: the bytes are lent when they are sent.)
 #[derive(Clone, Copy)]
 pub struct Output {
     pub stream: Stream,

@@ -128,6 +128,7 @@ fn group_turn(r: Reached, out: &mut [u8], g: &GroupAt, sent: &[u8]) -> Reached
 }
 
 // Writes a line for each group of a file of n records, read off the file and its answers, and answers where they end: at most 43 bytes a group.
+// (n stands beside the bytes, as the definitions take records by number.)
 pub fn put_group_lines(out: &mut [u8], at: usize, s: &[u8], n: usize, sent: &[u8]) -> usize
     requires whole { (n * record_size ≤ length s.now) × (n * record_size ≤ length sent.now) }
     requires has_room { at + 43 * n ≤ length out.old }

@@ -22,7 +22,8 @@ fn is_done(a: Result<Returned, Cause>) -> bool
     a.is_ok()
 }
 
-// Writes the lines of the entry of n bytes at the start of src, whose call answered a and wrote at the start of sent, and answers where they end.
+// Writes the lines of the entry of n bytes at the start of src, whose call answered a and wrote at the start of sent, and answers where they end. (src goes
+// on behind the entry: cut to its n bytes, it would need a clause on its length.)
 fn put_lines(
     out: &mut [u8],
     at: usize,

@@ -110,7 +110,7 @@ fn tier_1_rate(r: &GroupRecords) -> Option<Rate>
     Some(Rate(rate))
 }
 
-// Line 9.
+// Line 9. (Here and below `let .. else` takes the number or returns the line's code, the form that document 01 names.)
 fn line_9(r: &GroupRecords, consumption: Ccf, charge: Cents) -> Result<(), ErrorCode>
     ensures { result ≡ first (line9 r.now.detail.now consumption.0 charge.0) }
 {

@@ -1,5 +1,5 @@
 -- `clearing_c::clearing_ledger_table` meets its contract: the bytes that were written are stored.
-use mathlib.Core.Path.{◌≡◌, sym, ap, ◌∙◌}
+use mathlib.Core.Path.{◌≡◌, ap, ◌∙◌}
 use Rattle.std.proofs.Common.{rules}
 use Rattle.boundary.specs.Boundary.{number_of, number_left}
 use Rattle.clearing_c.proofs.clearing_ledger_table.Goals as goal

@@ -1,5 +1,5 @@
 -- `clearing_c::clearing_open_bill` meets its contract: the place that was found is stored.
-use mathlib.Core.Path.{◌≡◌, sym, ap, ◌∙◌}
+use mathlib.Core.Path.{◌≡◌, ap, ◌∙◌}
 use Rattle.std.proofs.Common.{rules}
 use Rattle.boundary.specs.Boundary.{number_of, number_left}
 use Rattle.clearing_c.proofs.clearing_open_bill.Goals as goal

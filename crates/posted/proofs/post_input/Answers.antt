@@ -10,7 +10,7 @@ use Rattle.posted.proofs.post_input.Goals as goal
 pub table_of-requires : goal.table_of-requires
 table_of-requires g c =
     let read = c.read_all-e in
-    let sound = λ (e : End) (r : Reads Nothing read.new.buffers.ws read.new.buffers.buf e). r.sound in
+    let sound = λ (e : End) (r : Reads Nothing read.new.ws read.new.buf e). r.sound in
     (IfOk-weaker _ _ _ sound read.ensures.reads, omega arith)
 
 pub returns-clause-posts : goal.returns-clause-posts

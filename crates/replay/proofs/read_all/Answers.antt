@@ -16,9 +16,9 @@ reads-of e r = r.reads
 pub loop-turn-init : goal.loop-turn-init
 loop-turn-init g c =
     record {
-      room = omega arith;
+      room = c.requires.1;
       reads = reading-start _ _ _ _ _ c.requires.0;
-      waits = λ z. waits_start c.args.buffers.now.buf;
+      waits = λ z. waits_start c.args.buf.now;
       small = omega arith;
     }
 
@@ -81,5 +81,5 @@ loop-turn-preserved g c =
       reads = rw c.send-sent.ensures.input (reading-more _ _ _ _ _ _ _ _ _ _ kept _ holds.0 _ _ _ _ _ p.ensures _ _ (subst (Comes _ _ _ _) is more.ensures.bytes)
           (sent _ p.result _ c.send-sent.result _ _ c.printed.ensures c.send-sent.ensures.to_output (sym c.is_err.ensures.value ∙ s.0)));
       waits = λ z. rw (sym c.is_bad-stopped.ensures ∙ s.1) at (p.ensures.waits (sym c.is_full-full.ensures ∙ z));
-      small = omega (arith, inv.small, p.ensures.room, p.auto.out, c.requires.1);
+      small = omega (arith, inv.small, p.ensures.room, p.auto.out, c.requires.2);
     }

@@ -13,4 +13,4 @@ pub record Inv (had left held holds : Option (List ℕ)) (t : Wanted) (ws buf : 
 
 abbrev pub invariant-loop-turn : goal.invariant-loop-turn
 invariant-loop-turn g l =
-    Inv (g.R.Read.remaining l.initial.streams.input) (g.R.Read.remaining l.streams.input) (g.O.Write.contents l.initial.streams.output) (g.O.Write.contents l.streams.output) l.wanted l.buffers.ws l.buffers.buf l.seen l.left l.total l.full l._turn
+    Inv (g.R.Read.remaining l.initial.streams.input) (g.R.Read.remaining l.streams.input) (g.O.Write.contents l.initial.streams.output) (g.O.Write.contents l.streams.output) l.wanted l.ws l.buf l.seen l.left l.total l.full l._turn

@@ -6,7 +6,6 @@ use native.Mathlib.Omega.{arith}
 use mir.Syntax.{w64}
 use mir.ValLaws.{to_z-of_z}
 use Rattle.group.proofs.ReadyLaws.{sound-ready}
-use Rattle.calls.proofs.BillLaws.{Decided}
 use Rattle.engine.proofs.LentCalls.{stopped-in, carried-in, sound-in, decided-in}
 use Rattle.engine.proofs.LentRemovals.{said-decided}
 use borrow.Author.Rules.{sfits_of}

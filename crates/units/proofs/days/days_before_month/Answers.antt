@@ -7,7 +7,7 @@ use lib.ListN.{get_or}
 use borrow.Author.Tests.{lt-ltb, le-ltb}
 use Rattle.units.specs.Calendar.{is_leap}
 use Rattle.units.specs.Days.{days_of_months}
-use Rattle.units.proofs.MonthLaws.{starts, month-starts, starts-most}
+use Rattle.units.proofs.MonthLaws.{starts, month-starts}
 use Rattle.units.proofs.days.days_before_month.Goals as goal
 
 -- after February: a day more in a leap year
@@ -19,9 +19,6 @@ returns-then-m-le2 c =
     let a = c.args in
     let k : a.m - 1 < 12 = omega arith in
     omega (arith, simp (le-ltb 1 (a.m - 1) (omega arith)) at (month-starts a.y (a.m - 1) k))
-
-pub overflow_add-result : goal.overflow_add-result
-overflow_add-result c = omega (arith, starts-most (c.args.m - 1) (omega arith))
 
 pub returns-then-leap : goal.returns-then-leap
 returns-then-leap c =

@@ -9,8 +9,5 @@ use Rattle.units.proofs.days.days_before_year.Goals as goal
 closed : (y : ℕ) → 1900 ≤ y → days_of_years (y - 1900) + 460 + (y - 1) / 100 ≡ (y - 1900) * 365 + (y - 1) / 4 + (y - 1) / 400
 closed y h = let e : 1899 + (y - 1900) ≡ y - 1 = omega arith in omega (arith, rw e at (years-closed (y - 1900)))
 
-pub overflow_sub-result-3 : goal.overflow_sub-result-3
-overflow_sub-result-3 c = omega (arith, closed c.args.y c.requires.0)
-
 pub returns : goal.returns
 returns c = omega (arith, closed c.args.y c.requires.0)
