@@ -21,12 +21,24 @@ pub fn put_digits(out: &mut [u8], at: usize, width: usize, n: u64)
     }
 }
 
-// Writes src into out from index `at` on.
+// How many bytes `put_bytes` moves at once: by way of an array, so that LLVM moves them as words. One copy of a long part is a call of `memmove`, which an archive
+// for C would then need from outside.
+const PIECE: usize = 32;
+
+// Writes src into out from index `at` on: whole pieces, and then what is left.
 pub fn put_bytes(out: &mut [u8], at: usize, src: &[u8])
     requires { at + length src.now ≤ length out.old }
     ensures { out.new ≡ put out.old at src.now }
 {
-    out[at..at + src.len()].copy_from_slice(src);
+    let whole = src.len() / PIECE;
+    for k in 0..whole {
+        let i = k * PIECE;
+        let mut piece = [0u8; PIECE];
+        piece.copy_from_slice(&src[i..i + PIECE]);
+        out[at + i..at + i + PIECE].copy_from_slice(&piece);
+    }
+    let i = whole * PIECE;
+    out[at + i..at + src.len()].copy_from_slice(&src[i..]);
 }
 
 // Writes n bytes of src from index `from` on into out from index `at` on.
