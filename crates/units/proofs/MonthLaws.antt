@@ -89,7 +89,7 @@ month-starts y k h =
     (λ e. rw e (eqb-true (days_by 29 k) (get_or starts k 0 + cond (ltb 1 k) 1 0) (below (start 1) 12 refl k h)))
     (λ e. rw e (eqb-true (days_by 28 k) (get_or starts k 0 + cond (ltb 1 k) 0 0) (below (start 0) 12 refl k h)))
 
-starts-most : (k : ℕ) → k < 12 → get_or starts k 0 ≤ 334
+pub starts-most : (k : ℕ) → k < 12 → get_or starts k 0 ≤ 334
 starts-most k h = leb-true (get_or starts k 0) 334 (below (λ j. leb (get_or starts j 0) 334) 12 refl k h)
 
 one-most : (a b : Bool) → cond a (cond b 1 0) 0 ≤ 1
