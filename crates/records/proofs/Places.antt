@@ -1,10 +1,10 @@
 -- Each field stands where document 01 says: what a record holds at a field's place is what stands at the document's positions. Assumes nothing.
-use Rattle.std.specs.Prelude.{ℕ, ◌≡◌, List}
+use Rattle.std.specs.Prelude.{ℕ, ◌≡◌, ◌+◌, List}
 use mathlib.Core.Path.{refl}
 use Rattle.fields.specs.Put.{part}
 use Rattle.records.specs.Layout.{company_in, rate_code_in, account_in, tracking_in, type_in, notice_in, transmission_in, confirmation_in, scheduled_in, record_count_in, balance_in, key_in, billing_in, sequence_in, consumption_in, detail_charge_in, from_in, tier_rate_in, previous_sequence_in, previous_consumption_in, previous_charge_in, applied_in, owed_in, error_code_in}
 use Rattle.records.specs.declared.layout.Field.{Field}
-use Rattle.records.specs.declared.layout.TheConstants.{COMPANY, RATE_CODE, ACCOUNT, TRACKING, TYPE, NOTICE, TRANSMISSION, CONFIRMATION, SCHEDULED, RECORD_COUNT, BALANCE, KEY, BILLING, SEQUENCE, CONSUMPTION, CHARGE, FROM, TIER_1_RATE, PREVIOUS_SEQUENCE, PREVIOUS_CONSUMPTION, PREVIOUS_CHARGE, APPLIED, OWED, ERROR_CODE}
+use Rattle.records.specs.declared.layout.TheConstants.{COMPANY, RATE_CODE, ACCOUNT, TRACKING, TYPE, NOTICE, TRANSMISSION, CONFIRMATION, SCHEDULED, RECORD_COUNT, BALANCE, KEY, BILLING, SEQUENCE, CONSUMPTION, CHARGE, FROM, TIER_1, TIER_2, TIER_3, TIER_4, TIER_1_RATE, TIER_RATE, PREVIOUS_SEQUENCE, PREVIOUS_CONSUMPTION, PREVIOUS_CHARGE, APPLIED, OWED, ERROR_CODE}
 
 -- what a record holds at a field's place
 abbrev at : Field → List ℕ → List ℕ
@@ -66,6 +66,13 @@ detail-places d =
       error_code = refl;
     }
 
--- the rate of tier 1
+-- the rate of each tier, and of tier 1
+tier-rate-places : (d : List ℕ)
+    → (part d (TIER_1 + TIER_RATE.at) TIER_RATE.width ≡ tier_rate_in d 88)
+    × (part d (TIER_2 + TIER_RATE.at) TIER_RATE.width ≡ tier_rate_in d 118)
+    × (part d (TIER_3 + TIER_RATE.at) TIER_RATE.width ≡ tier_rate_in d 148)
+    × (part d (TIER_4 + TIER_RATE.at) TIER_RATE.width ≡ tier_rate_in d 178)
+tier-rate-places d = (refl, refl, refl, refl)
+
 tier-1-rate-place : (d : List ℕ) → at TIER_1_RATE d ≡ tier_rate_in d 88
 tier-1-rate-place d = refl

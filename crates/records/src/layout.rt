@@ -128,7 +128,7 @@ pub const CHARGE: Field = Field { at: 66, width: 13 };
 
 pub const FROM: Field = Field { at: 79, width: 8 };
 
-// ---- where each of the four tiers starts, all four, the rate of the first, and where the other fields stand in a tier
+// ---- where each of the four tiers starts, all four, the rate of the first, and where each field stands in a tier
 pub const TIER_1: usize = 87;
 
 pub const TIER_2: usize = 117;
@@ -140,6 +140,8 @@ pub const TIER_4: usize = 177;
 pub const TIERS: Field = Field { at: 87, width: 120 };
 
 pub const TIER_1_RATE: Field = Field { at: 87, width: 7 };
+
+pub const TIER_RATE: Field = Field { at: 0, width: 7 };
 
 pub const TIER_CONSUMPTION: Field = Field { at: 7, width: 10 };
 
