@@ -1,6 +1,7 @@
 -- Lines, and the dates that they hold. Assumes nothing.
 use Prim.Native.Nat.{ℕ, zero, suc, ◌+◌, ◌-◌, ◌≤◌, ◌<◌}
 use mathlib.Core.Path.{◌≡◌, refl, sym, ap, ◌∙◌}
+use mathlib.Core.Bool.{false, ◌&&◌}
 use mathlib.Core.List.{List, [], ◌∷◌, map}
 use native.Mathlib.Omega.{arith}
 use native.Mathlib.Numerals.{add-one}
@@ -9,8 +10,8 @@ use lib.Dec.{eqb, ltb}
 use Rattle.std.specs.List.{position, position_or_len}
 use Rattle.std.specs.Option.{unwrap_or}
 use lib.ListN.{length, get_or, take, drop, set, length-take, length-drop, drop_of_length-le}
-use lib.Seq.{drop-drop, get_or-take}
-use borrow.Author.Tests.{eq-eqb, ne_eqb, ltb-false}
+use lib.Seq.{drop-cons, drop-drop, get_or-take}
+use borrow.Author.Tests.{eq-eqb, ne_eqb, ltb-false, le-ltb}
 use Rattle.fields.specs.Field.{field_of, value}
 use Rattle.fields.specs.Put.{put}
 use Rattle.fields.proofs.BoolLaws.{cases}
@@ -35,6 +36,11 @@ line-length (b ∷ s) = cases (eqb b 10) (λ e. rw e (omega arith)) (λ e. rw e 
 line-prefix : (s : List ℕ) → position_or_len (λ b. eqb b 10) s ≡ length (first_line s)
 line-prefix [] = refl
 line-prefix (b ∷ s) = cases (eqb b 10) (λ e. rw e) (λ e. rw e (omega (arith, line-prefix s)))
+
+-- past a byte that does not end it
+pub line-more : (s : List ℕ) (i : ℕ) → i < length s → (get_or s i 0 ≡ 10 → ⊥)
+    → length (first_line (drop i s)) ≡ suc (length (first_line (drop (i + 1) s)))
+line-more s i h e = rw (add-one i, drop-cons s i 0 h, ne_eqb (get_or s i 0) 10 e)
 
 -- at the first byte 10, or where the bytes end
 pub line-found : (s : List ℕ) → unwrap_or (position (λ b. eqb b 10) s) (length s) ≡ length (first_line s)
@@ -105,10 +111,18 @@ module _ {s hs₀ hs : List ℕ} {at n : ℕ} (t : ReadTo s hs₀ hs at n) where
         rest = ap (λ (j : ℕ). drop j all) (add-one n) ∙ g.2;
       }
 
-  -- the bytes came to an end
-  pub read_all : length s ≤ at → (n ≡ length (take (length hs₀) (holidays_of s))) × (hs ≡ put hs₀ 0 (take (length hs₀) (holidays_of s)))
+  -- the bytes or the room came to an end
+  pub read_all : (ltb at (length s) && ltb n (length hs)) ≡ false
+      → (n ≡ length (take (length hs₀) (holidays_of s))) × (hs ≡ put hs₀ 0 (take (length hs₀) (holidays_of s)))
   read_all h =
       let src : List ℕ = take (length hs₀) (holidays_of s) in
+      let m = length-take (length hs₀) (holidays_of s) in
       let all : length src ≤ n =
-      omega (arith, length-take (length hs₀) (holidays_of s), ap length (t.rest ∙ ap holidays_of (drop_of_length-le s h) ∙ none), length-drop n (holidays_of s)) in
+      cases (ltb at (length s))
+      (λ e. omega (arith, t.copied.kept, ltb-false n (length hs) (rw e at h)))
+      (λ e. omega (arith, ap length (t.rest ∙ ap holidays_of (drop_of_length-le s (ltb-false at (length s) e)) ∙ none), length-drop n (holidays_of s))) in
       (omega (arith, t.copied.fits), copied_all t.copied all)
+
+  -- the bytes did
+  pub read_ended : length s ≤ at → (n ≡ length (take (length hs₀) (holidays_of s))) × (hs ≡ put hs₀ 0 (take (length hs₀) (holidays_of s)))
+  read_ended h = read_all (rw (le-ltb at (length s) h))

@@ -2,7 +2,7 @@
 use mathlib.Core.Path.{◌∙◌}
 use native.Mathlib.Omega.{arith}
 use Rattle.std.proofs.lemmas.List.{set-get_or}
-use Rattle.holidays.proofs.LineLaws.{end-within, read_none, read_more, read_all}
+use Rattle.holidays.proofs.LineLaws.{end-within, read_none, read_more, read_ended}
 use Rattle.holidays.proofs.read_holidays.Goals as goal
 
 pub loop-n-init : goal.loop-n-init
@@ -10,7 +10,7 @@ loop-n-init c = read_none _ _
 
 pub returns-then-s-at : goal.returns-then-s-at
 returns-then-s-at c =
-    let r = read_all c.loop-n.invariant c.if-s-at.true in
+    let r = read_ended c.loop-n.invariant c.if-s-at.true in
     record { answer = r.0; dates = set-get_or _ _ _ ∙ r.1 }
 
 pub slice_bounds-date_in-end : goal.slice_bounds-date_in-end
