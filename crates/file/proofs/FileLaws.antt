@@ -46,17 +46,29 @@ module _ (r t : List ℕ) (h : length r ≡ 321) where
       let e : length (r ++ t) / 321 ≡ suc (length t / 321) = omega (arith, length-append r t) in
       ap (records_from (r ++ t) 0) e ∙ ap₂ (λ (x : List ℕ) (xs : List (List ℕ)). x ∷ xs) (take_at r t 321 h) (records-past 0 (length t / 321))
 
-  pub good-step : good_record r ≡ true → every good_record (records (r ++ t)) ≡ every good_record (records t)
-  good-step e = ap (every good_record) records-first ∙ rw e
+  pub good-first : good_record r ≡ true → every good_record (records (r ++ t)) ≡ every good_record (records t)
+  good-first e = ap (every good_record) records-first ∙ rw e
 
-  pub good-stop : good_record r ≡ false → every good_record (records (r ++ t)) ≡ false
-  good-stop e = ap (every good_record) records-first ∙ rw e
+  pub stop-first : good_record r ≡ false → every good_record (records (r ++ t)) ≡ false
+  stop-first e = ap (every good_record) records-first ∙ rw e
 
-pub good-end : (s : List ℕ) → length s < 321 → every good_record (records s) ≡ true
+pub good-none : (s : List ℕ) → length s < 321 → every good_record (records s) ≡ true
 unfolding records
-good-end s h =
+good-none s h =
     let e : length s / 321 ≡ 0 = omega arith in
     ap (λ (k : ℕ). every good_record (records_from s 0 k)) e ∙ ap (every good_record) (records-end s 0 0 (omega arith))
+
+-- the records from record i of n on
+module _ (s : List ℕ) (i n : ℕ) (h : i < n) where
+  pub good-step : good_record (record_at s i) ≡ true
+      → every good_record (records_from s i (n - i)) ≡ every good_record (records_from s (i + 1) (n - (i + 1)))
+  good-step e = ap (every good_record) (records-step s i n h) ∙ rw e
+
+  pub good-stop : good_record (record_at s i) ≡ false → every good_record (records_from s i (n - i)) ≡ false
+  good-stop e = ap (every good_record) (records-step s i n h) ∙ rw e
+
+pub good-end : (s : List ℕ) (i n : ℕ) → n ≤ i → every good_record (records_from s i (n - i)) ≡ true
+good-end s i n h = ap (every good_record) (records-end s i n h)
 
 -- all records, as a walk from record 0 on has them
 pub from_start : (s : List ℕ) (n : ℕ) → records_from s 0 (n - 0) ≡ records_from s 0 n
@@ -90,6 +102,17 @@ module _ (s : List ℕ) (i n : ℕ) (h : i < n) where
   unfolding leading
   leading-detail e = ap leading (records-step s i n h) ∙ rw e (omega arith)
 
+  -- how the counts go on
+  pub length-header : is_header (record_at s i) ≡ true → length (groups (records_from s i (n - i))) ≡ 1 + length (groups (records_from s (i + 1) (n - (i + 1))))
+  length-header e = ap (λ (gs : List Group). length gs) (groups-header e) ∙ omega arith
+
+  pub length-detail : is_header (record_at s i) ≡ false → length (groups (records_from s i (n - i))) ≡ length (groups (records_from s (i + 1) (n - (i + 1))))
+  length-detail e = ap (λ (gs : List Group). length gs) (groups-detail e)
+
+  pub count-detail : (p : Group → Bool) → is_header (record_at s i) ≡ false
+      → count p (groups (records_from s i (n - i))) ≡ count p (groups (records_from s (i + 1) (n - (i + 1))))
+  count-detail p e = ap (count p) (groups-detail e)
+
 pub groups-end : (s : List ℕ) (i n : ℕ) → n ≤ i → groups (records_from s i (n - i)) ≡ []
 unfolding groups
 groups-end s i n h = ap groups (records-end s i n h)
@@ -97,6 +120,11 @@ groups-end s i n h = ap groups (records-end s i n h)
 pub leading_end : (s : List ℕ) (i n : ℕ) → n ≤ i → leading (records_from s i (n - i)) ≡ 0
 unfolding leading
 leading_end s i n h = ap leading (records-end s i n h)
+
+-- whether a group asks for a Tracking ID
+pub asks : (s : List ℕ) (i n : ℕ) (b : Bool) → is_sup (record_at s i) ≡ b → asks_id (group_at s i n) ≡ b
+unfolding group_at
+asks s i n b e = e
 
 -- how the counts go on past a record r in front of what is left, t
 module _ (r t : List ℕ) (h : length r ≡ 321) where
@@ -106,22 +134,22 @@ module _ (r t : List ℕ) (h : length r ≡ 321) where
   abbrev here : List Group
   here = groups (records (r ++ t))
 
-  pub length-header : is_header r ≡ true → length here ≡ 1 + length rest
+  pub length-header-first : is_header r ≡ true → length here ≡ 1 + length rest
   unfolding groups
-  length-header e = ap (λ (rs : List (List ℕ)). length (groups rs)) (records-first r t h) ∙ rw e (omega arith)
+  length-header-first e = ap (λ (rs : List (List ℕ)). length (groups rs)) (records-first r t h) ∙ rw e (omega arith)
 
-  pub length-detail : is_header r ≡ false → length here ≡ length rest
+  pub length-detail-first : is_header r ≡ false → length here ≡ length rest
   unfolding groups
-  length-detail e = ap (λ (rs : List (List ℕ)). length (groups rs)) (records-first r t h) ∙ rw e
+  length-detail-first e = ap (λ (rs : List (List ℕ)). length (groups rs)) (records-first r t h) ∙ rw e
 
   pub count-header : (b : Bool) → is_header r ≡ true → is_sup r ≡ b → count asks_id here ≡ cond b 1 0 + count asks_id rest
   unfolding groups
   count-header true e f = ap (λ (rs : List (List ℕ)). count asks_id (groups rs)) (records-first r t h) ∙ rw (e, f) (omega arith)
   count-header false e f = ap (λ (rs : List (List ℕ)). count asks_id (groups rs)) (records-first r t h) ∙ rw (e, f) (omega arith)
 
-  pub count-detail : is_header r ≡ false → count asks_id here ≡ count asks_id rest
+  pub count-detail-first : (p : Group → Bool) → is_header r ≡ false → count p here ≡ count p rest
   unfolding groups
-  count-detail e = ap (λ (rs : List (List ℕ)). count asks_id (groups rs)) (records-first r t h) ∙ rw e
+  count-detail-first p e = ap (λ (rs : List (List ℕ)). count p (groups rs)) (records-first r t h) ∙ rw e
 
 -- nothing is left
 pub none-left : (t : List ℕ) → length t < 321 → groups (records t) ≡ []

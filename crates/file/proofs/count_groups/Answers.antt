@@ -10,18 +10,18 @@ use Rattle.std.specs.declared.slice.ChunksExact.{ChunksExact}
 use Rattle.rules.specs.Lists.{count}
 use Rattle.records.specs.Layout.{is_sup}
 use Rattle.file.specs.File.{is_header, asks_id}
-use Rattle.file.proofs.FileLaws.{length-header, length-detail, count-header, count-detail, first-records, none-left}
+use Rattle.file.proofs.FileLaws.{length-header-first, length-detail-first, count-header, count-detail-first, first-records, none-left}
 use Rattle.file.proofs.count_groups.Invariants.{Inv}
 use Rattle.file.proofs.count_groups.Goals as goal
 
 -- after a header, which asks for a Tracking ID or not, and after a detail
 module _ {s : List ℕ} {n g k : ℕ} (r t : List ℕ) (h : length r ≡ 321) (v : Inv s n g k (r ++ t)) where
   past-header : (b : Bool) → is_header r ≡ true → is_sup r ≡ b → Inv s n (g + 1) (cond b (k + 1) k) t
-  past-header true e f = omega (arith, length-append r t, length-header r t h e, count-header r t h true e f)
-  past-header false e f = omega (arith, length-append r t, length-header r t h e, count-header r t h false e f)
+  past-header true e f = omega (arith, length-append r t, length-header-first r t h e, count-header r t h true e f)
+  past-header false e f = omega (arith, length-append r t, length-header-first r t h e, count-header r t h false e f)
 
   past-detail : is_header r ≡ false → Inv s n g k t
-  past-detail e = omega (arith, length-append r t, length-detail r t h e, count-detail r t h e)
+  past-detail e = omega (arith, length-append r t, length-detail-first r t h e, count-detail-first r t h asks_id e)
 
 start : (s : List ℕ) (n : ℕ) → n * 321 ≤ length s → Inv s n 0 0 (take (n * 321) s)
 start s n h =
