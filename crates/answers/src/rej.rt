@@ -59,7 +59,7 @@ fn put_detail(out: &mut [u8], at: usize, d: &[u8], sup: bool, x: Rej)
     put_from(out, at, d, sup);
     layout::TIERS_TO_OWED.copy(out, at, d);
     layout::ERROR_LETTERS.put_text(out, at, b"BR");
-    layout::ERROR_NUMBER.put_number(out, at, u64::from(x.code));
+    layout::ERROR_NUMBER.put_number(out, at, x.code);
     notices::put_end(out, at, layout::REJ_FILLER);
 }
 

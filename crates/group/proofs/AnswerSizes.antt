@@ -17,7 +17,6 @@ use Rattle.file.specs.File.{leading}
 use Rattle.file.specs.parts.Walk.{records_after, group_at}
 use Rattle.file.proofs.FileLaws.{header_is, leading-within, length-details}
 use Rattle.std.specs.Prelude.{Result, Ok, Err}
-use Rattle.rules.specs.declared.ErrorCode.{ErrorCode}
 
 -- the first k of m records
 take-records : (s : List ℕ) (i k m : ℕ) → k ≤ m → take k (records_from s i m) ≡ records_from s i k
@@ -31,12 +30,12 @@ unfolding group_at
 details-are s i n k e = ap (λ (j : ℕ). take j (records_after s i n)) (sym e) ∙ take-records s (i + 1) k (n - (i + 1)) (omega (arith, leading-within s i n))
 
 -- ---- the answer to the group of record i
-module _ (v : Result Posted ErrorCode) (x : LedgerHeader) (b : Bill) (s : List ℕ) (i n : ℕ) (h : i < n) (fits : n * 321 ≤ length s) where
+module _ (v : Result Posted ℕ) (x : LedgerHeader) (b : Bill) (s : List ℕ) (i n : ℕ) (h : i < n) (fits : n * 321 ≤ length s) where
   pub answer-size : length (answer_at v x b (group_at s i n)) ≡ records_by v (group_at s i n) * 321
   unfolding answer_at
   answer-size = go v
     where
-      go : (w : Result Posted ErrorCode) → length (answer_at w x b (group_at s i n)) ≡ records_by w (group_at s i n) * 321
+      go : (w : Result Posted ℕ) → length (answer_at w x b (group_at s i n)) ≡ records_by w (group_at s i n) * 321
       go (Ok amounts) =
           ap (λ (r : List ℕ). length (answer_at (Ok amounts) x b (record { header = r; details = (group_at s i n).details }))) (header_is s i n)
           ∙ length-acf (record_at s i) (omega (arith, long-record s i (omega arith))) (record { terms = b.terms; tracking = x.tracking; today = x.today; confirmation = x.confirmation })
@@ -48,7 +47,7 @@ module _ (v : Result Posted ErrorCode) (x : LedgerHeader) (b : Bill) (s : List �
   pub records-few : records_by v (group_at s i n) ≤ 1 + leading (records_after s i n)
   records-few = go v
     where
-      go : (w : Result Posted ErrorCode) → records_by w (group_at s i n) ≤ 1 + leading (records_after s i n)
+      go : (w : Result Posted ℕ) → records_by w (group_at s i n) ≤ 1 + leading (records_after s i n)
       go (Ok amounts) = omega arith
       go (Err m) = omega (arith, length-details s i n)
 
@@ -62,7 +61,7 @@ module _ (v : Result Posted ErrorCode) (x : LedgerHeader) (b : Bill) (s : List �
   pub sized-acf : (amounts : Posted) → v ≡ Ok amounts → Sized 321
   sized-acf amounts e = sized 321 (rw e)
 
-  pub sized-rej : (m : ErrorCode) → v ≡ Err m → (k : ℕ) → k ≡ leading (records_after s i n) → Sized ((k + 1) * 321)
+  pub sized-rej : (m : ℕ) → v ≡ Err m → (k : ℕ) → k ≡ leading (records_after s i n) → Sized ((k + 1) * 321)
   sized-rej m e k l = sized ((k + 1) * 321) (rw e (ap (λ (j : ℕ). (j + 1) * 321) (l ∙ sym (length-details s i n))))
 
   pub answer-long : length (answer_at v x b (group_at s i n)) ≤ (1 + leading (records_after s i n)) * 321

@@ -26,7 +26,7 @@ use Rattle.file.proofs.WalkLaws.{before-header, before-detail}
 use Rattle.group.specs.declared.Tally.{Tally}
 use Rattle.group.specs.declared.TurnResult.{TurnResult}
 use Rattle.group.specs.Groups.{identity_of, verdict_on, verdict_by, verdict_here, settled, answer, taken, answers, verdicts, is_accepted, is_rejected}
-use Rattle.group.specs.parts.Turns.{identity_at, sought_by, in_widths, InWidthsAt, Ready, no_tally, if_written, answer_at, WithinFile, TurnLeaves, FitForTurn, TurnLeavesOn, FileTaken}
+use Rattle.group.specs.parts.Turns.{identity_at, sought_by, in_widths, InWidthsAt, Ready, no_tally, if_written, numbered, answer_at, WithinFile, TurnLeaves, FitForTurn, TurnLeavesOn, FileTaken}
 use Rattle.group.proofs.OutputLaws.{Out, out-start, out-more}
 use Rattle.group.proofs.FoundLaws.{every_held, spots, spot-calm}
 use Rattle.group.proofs.DecideLaws.{by-duplicate}
@@ -254,7 +254,7 @@ module _ (s : List ℕ) (n : ℕ) (l : Ledger) (writes : Bool) (out₀ : List �
       groups-are = groups-header s i n h e
 
       abbrev told : List ℕ
-      told = answer_at now (header_of k) (bill_at k p) g
+      told = answer_at (numbered now) (header_of k) (bill_at k p) g
 
       books-step : taken (before s n i) kb (rest s n i) ≡ taken (before s n (i + 1)) (book after_turn) (rest s n (i + 1))
       unfolding taken
@@ -283,7 +283,7 @@ module _ (s : List ℕ) (n : ℕ) (l : Ledger) (writes : Bool) (out₀ : List �
           (sym (ap₂ (λ (x : List Group) (y : Book). answers x y (rest s n (i + 1))) (before-header s n i e) book-is))
 
       long : length told ≤ (1 + leading (records_after s i n)) * 321
-      long = answer-long now (header_of k) (bill_at k p) s i n h b
+      long = answer-long (numbered now) (header_of k) (bill_at k p) s i n h b
 
       pub walk-group : Walk s n l writes out₀ after_turn out' r.tally (i + 1)
       walk-group =

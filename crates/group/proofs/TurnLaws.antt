@@ -20,7 +20,7 @@ use Rattle.rules.proofs.ListLaws.{sum-set}
 use Rattle.file.specs.File.{Group, asks_id, line1}
 use Rattle.file.specs.parts.Walk.{group_at}
 use Rattle.group.specs.Groups.{identity_of, sought, lines_by, verdict_on, verdict_by, settled, answer}
-use Rattle.group.specs.parts.Turns.{identity_at, sought_by, bill_by, header_by, answer_at, came_by, went_by}
+use Rattle.group.specs.parts.Turns.{identity_at, sought_by, bill_by, header_by, numbered, answer_at, came_by, went_by}
 use Rattle.group.proofs.FoundLaws.{Held, nowhere, somewhere, held, sought-is}
 use Rattle.group.proofs.DecideLaws.{by-bill, same_name}
 use Rattle.group.proofs.AcceptedLaws.{nothing-rejects, accepted-clear}
@@ -117,11 +117,11 @@ module _ (l : Ledger) (long : length l.bills ≡ 128) (few : l.count ≤ 128) (s
           )
 
   -- its answer
-  pub answer-is : answer_at v (header_of l) (bill_at l p) g ≡ answer (view (book l)) g v
+  pub answer-is : answer_at (numbered v) (header_of l) (bill_at l p) g ≡ answer (view (book l)) g v
   unfolding answer_at answer
   answer-is = go (comes t l g)
     where
-      go : Comes t l g → answer_at v (header_of l) (bill_at l p) g ≡ answer (view (book l)) g v
+      go : Comes t l g → answer_at (numbered v) (header_of l) (bill_at l p) g ≡ answer (view (book l)) g v
       go (rejects m x) = rw x
       go (posts j amounts h x y u z) = rw (x, posts-at j amounts h x y, u)
 

@@ -14,7 +14,7 @@ use Rattle.file.specs.parts.Walk.{group_at}
 use Rattle.file.proofs.FileLaws.{header_is}
 use Rattle.group.specs.declared.Tally.{Tally}
 use Rattle.group.specs.Groups.{verdict_on}
-use Rattle.group.specs.parts.Turns.{sought_by, ids_by, bill_by, if_written, answer_at, tallied, TurnLeaves}
+use Rattle.group.specs.parts.Turns.{sought_by, ids_by, bill_by, if_written, numbered, answer_at, tallied, TurnLeaves}
 use Rattle.std.specs.Prelude.{Option, Result}
 use Rattle.ledger.specs.declared.Terms.{Terms}
 use Rattle.ledger.specs.declared.Posted.{Posted}
@@ -32,8 +32,8 @@ module _ (out₀ out : List ℕ) (writes : Bool) (c : Tally) (s : List ℕ) (i n
   abbrev now : Result Posted ErrorCode
   now = verdict_on t h.today (sought_by f b) g
 
-  pub turn-done : (sup : Bool) → sup ≡ is_sup (record_at s i) → (v : Result Posted ErrorCode) → v ≡ now → (size : ℕ) → size ≡ length (answer_at v h b g)
-      → out ≡ put out₀ c.written (if_written writes (answer_at v h b g)) → (d : Tally) → d ≡ tallied c v b size → (ids : ℕ) → ids ≡ ids_by v sup
+  pub turn-done : (sup : Bool) → sup ≡ is_sup (record_at s i) → (v : Result Posted ErrorCode) → v ≡ now → (m : Result Posted ℕ) → m ≡ numbered v
+      → (size : ℕ) → size ≡ length (answer_at m h b g) → out ≡ put out₀ c.written (if_written writes (answer_at m h b g)) → (d : Tally) → d ≡ tallied c v b size → (ids : ℕ) → ids ≡ ids_by v sup
       → (k : Bill) → k ≡ bill_by v sup b
       → TurnLeaves now g h b c writes out₀ out
       (record {
@@ -44,12 +44,12 @@ module _ (out₀ out : List ℕ) (writes : Bool) (c : Tally) (s : List ℕ) (i n
             };
         tally = d;
       })
-  turn-done sup se v ve size ze oe d de ids ie k ke =
+  turn-done sup se v ve m me size ze oe d de ids ie k ke =
       let a : sup ≡ asks_id g = se ∙ ap is_sup (sym (header_is s i n)) in
       let x : ids ≡ ids_by now (asks_id g) = ie ∙ ap₂ ids_by ve a in
       record {
         header = rw x;
         bill = ke ∙ ap₂ (λ (w : Result Posted ErrorCode) (p : Bool). bill_by w p b) ve a;
-        tally = de ∙ rw (ze, ve);
-        bytes = oe ∙ ap (λ (w : Result Posted ErrorCode). put out₀ c.written (if_written writes (answer_at w h b g))) ve;
+        tally = de ∙ rw (ze, me, ve);
+        bytes = oe ∙ ap (λ (w : Result Posted ℕ). put out₀ c.written (if_written writes (answer_at w h b g))) (me ∙ ap numbered ve);
       }

@@ -17,6 +17,7 @@ use Rattle.notices.specs.Answers.{acf, rej}
 use Rattle.ledger.specs.declared.Posted.{Posted}
 use Rattle.rules.specs.declared.ErrorCode.{ErrorCode}
 use Rattle.rules.specs.declared.ErrorCode.TheVariants.{Br14, Br17, Br19}
+use Rattle.rules.specs.Numbers.{code_number}
 
 -- ---- the bill that a group names
 -- the account of its header and the Bill Key of its detail
@@ -79,7 +80,7 @@ unfoldable pub answer : View → Group → Result Posted ErrorCode → List ℕ
 answer v g (Ok amounts) =
     acf g.header
     (record { terms = terms_of (sought v g); tracking = v.tracking; today = v.today; confirmation = v.confirmation })
-answer v g (Err n) = rej g.header g.details (record { code = n; today = v.today; confirmation = v.confirmation })
+answer v g (Err n) = rej g.header g.details (record { code = code_number n; today = v.today; confirmation = v.confirmation })
 
 -- ---- the groups of a file in order: those before were taken, and gs are to come
 abbrev pub verdict_here : List Group → Book → Group → List Group → Result Posted ErrorCode
@@ -102,10 +103,10 @@ verdicts before l [] = []
 verdicts before l (g ∷ gs) =
     verdict_here before l g gs ∷ verdicts (before ++ (g ∷ [])) (settled l g (verdict_here before l g gs)) gs
 
--- "accepted, rejected (together the number of groups)"
-abbrev pub is_accepted : Result Posted ErrorCode → Bool
+-- "accepted, rejected (together the number of groups)", whatever the code is
+abbrev pub is_accepted : {E : Type 0} → Result Posted E → Bool
 is_accepted (Ok amounts) = true
 is_accepted (Err n) = false
 
-abbrev pub is_rejected : Result Posted ErrorCode → Bool
+abbrev pub is_rejected : {E : Type 0} → Result Posted E → Bool
 is_rejected v = not (is_accepted v)

@@ -12,7 +12,6 @@ use notices::acf::Acf;
 use notices::rej::Rej;
 use records::RECORD_SIZE;
 use records::group::GroupAt;
-use rules::ErrorCode;
 
 // What the ACF to a group says, where b is the bill at its place.
 fn acf_of(b: Bill, h: LedgerHeader) -> Acf
@@ -36,15 +35,15 @@ fn write_acf(out: &mut [u8], at: usize, g: &GroupAt, a: Acf)
     answers::acf::write(out, at, records::record_at(g.file, g.header), a);
 }
 
-// Writes the answer to the group g, where b is the bill at its place, if notices are written, and says how long it is. (`writes` and no closure in its place: the
-// length is told where nothing is written too, and a closure's contract would have to say what it writes at each place, as this one does.
-// Seven parameters: `turn` alone calls it, and would alone make a struct of some of them.)
+// Writes the answer to the group g, where b is the bill at its place, if notices are written, and says how long it is. A rejection comes with the number that stands
+// behind BR, any number. (`writes` and no closure in its place: the length is told where nothing is written too, and a closure's contract would have to say what it
+// writes at each place, as this one does. Seven parameters: `turn` alone calls it, and would alone make a struct of some of them.)
 pub fn answer(
     out: &mut [u8],
     at: usize,
     writes: bool,
     g: &GroupAt,
-    v: Result<Posted, ErrorCode>,
+    v: Result<Posted, u64>,
     b: Bill,
     h: LedgerHeader,
 ) -> usize

@@ -6,7 +6,6 @@ ghost use Rattle.group.specs.parts.Turns.{came_by, went_by, no_tally, tallied, W
 
 use crate::Tally;
 use ledger::{Bill, Posted};
-use rules::ErrorCode;
 
 // No group yet.
 pub fn none() -> Tally
@@ -21,8 +20,8 @@ pub fn none() -> Tally
     }
 }
 
-// One group more, whose answer has so many bytes and before which b stood at its place.
-pub fn add(c: Tally, v: Result<Posted, ErrorCode>, b: Bill, size: usize) -> Tally
+// One group more, whose answer has so many bytes and before which b stood at its place. (A rejection counts whatever its code is.)
+pub fn add<E: Copy>(c: Tally, v: Result<Posted, E>, b: Bill, size: usize) -> Tally
     requires { WithinFile c × (size ≤ file_size) × (came_by v ≤ 10 ^ 13) × (went_by v b ≤ 10 ^ 13) }
     ensures { result ≡ tallied c v b size }
 {

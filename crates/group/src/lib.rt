@@ -10,7 +10,7 @@ ghost use Rattle.units.specs.Calendar.{is_date};
 ghost use Rattle.file.specs.parts.Walk.{group_at, mark_at};
 ghost use Rattle.verdict.specs.parts.Dated.{Dated};
 ghost use Rattle.group.specs.Groups.{verdict_on};
-ghost use Rattle.group.specs.parts.Turns.{identity_in, identity_at, sought_by, InWidthsAt, CanPost, ids_by, bill_by, WithinFile, TurnLeaves};
+ghost use Rattle.group.specs.parts.Turns.{identity_in, identity_at, sought_by, InWidthsAt, CanPost, ids_by, bill_by, numbered, WithinFile, TurnLeaves};
 
 use ledger::{Bill, Identity, LedgerHeader, Posted, Terms, Update};
 use records::group::{GroupAt, GroupRecords};
@@ -114,6 +114,13 @@ fn post(v: Result<Posted, ErrorCode>, sup: bool, b: Bill) -> Bill
     }
 }
 
+// The verdict, with the number that stands behind BR in place of its code.
+fn numbered(v: Result<Posted, ErrorCode>) -> Result<Posted, u64>
+    ensures { result ≡ numbered v }
+{
+    v.map_err(u64::from)
+}
+
 // One group's turn, where b stands at the place that was found: its answer is written, if notices are.
 // (Eight parameters: `TurnLeaves` says of each what it is, and a struct of some would be made by engine `turn` alone.)
 pub fn turn(
@@ -132,7 +139,7 @@ pub fn turn(
 {
     let sup = file::sup_at(g);
     let v = verdict_at(g, duplicate, sought_by(f, b), h.today);
-    let size = answer::answer(out, c.written, writes, g, v, b, h);
+    let size = answer::answer(out, c.written, writes, g, numbered(v), b, h);
     let tally = counts::add(c, v, b, size);
     let header = LedgerHeader {
         tracking: h.tracking + ids_used(v, sup),

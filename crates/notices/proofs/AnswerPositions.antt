@@ -24,7 +24,6 @@ use Rattle.notices.specs.Positions.{SentAt, AcfAt, RejHeaderAt, RejDetailAt, Rej
 use Rattle.notices.proofs.NoticeLengths.{length-spaces-from}
 use Rattle.notices.proofs.AnswerLaws.{length-within, length-tracking, length-balance, length-acf, length-rej-header, length_from, length-rej-detail}
 use Rattle.notices.proofs.PositionLaws.{spaces-at, alike_then, widths_then, alike_at}
-use Rattle.rules.specs.Numbers.{code_number}
 
 -- a part is two parts, one after the other
 part-add : (s : List ℕ) (i n m : ℕ) → part s i (n + m) ≡ part s i n ++ part s (i + n) m
@@ -113,7 +112,7 @@ module _ (r : List ℕ) (x : Rej) (whole : 321 ≤ length r) where
 
   module _ (sup : Bool) where
     abbrev rej_rest : List (List ℕ)
-    rej_rest = positions r 42 79 ∷ from_back sup (from_in r) ∷ positions r 88 259 ∷ (text "BR" ++ digits 2 (code_number x.code)) ∷ spaces_from 264 ∷ []
+    rej_rest = positions r 42 79 ∷ from_back sup (from_in r) ∷ positions r 88 259 ∷ (text "BR" ++ digits 2 x.code) ∷ spaces_from 264 ∷ []
 
     abbrev rej_widths : List ℕ
     rej_widths = 38 ∷ 8 ∷ 172 ∷ 4 ∷ 58 ∷ []
@@ -125,7 +124,7 @@ module _ (r : List ℕ) (x : Rej) (whole : 321 ≤ length r) where
         length_from r whole sup,
         (
           length-within r whole 87 172 (omega arith),
-          (length-append (text "BR") (digits 2 (code_number x.code)) ∙ ap (λ (k : ℕ). 2 + k) (length_digits 2 _), (length-spaces-from 264, tt)),
+          (length-append (text "BR") (digits 2 x.code) ∙ ap (λ (k : ℕ). 2 + k) (length_digits 2 _), (length-spaces-from 264, tt)),
         ),
       ),
     )
@@ -135,7 +134,7 @@ module _ (r : List ℕ) (x : Rej) (whole : 321 ≤ length r) where
     unfolding rej_detail rej_alike
     one_code =
         let p : List ℕ = rej_alike r x ++ positions r 42 79 ++ from_back sup (from_in r) ++ positions r 88 259 in
-        ap (λ (b : List ℕ). b ++ spaces_from 264) (append_assoc p (text "BR") (digits 2 (code_number x.code)))
+        ap (λ (b : List ℕ). b ++ spaces_from 264) (append_assoc p (text "BR") (digits 2 x.code))
 
     pub rej-detail-at : RejDetailAt sup r x (rej_detail sup r x)
     rej-detail-at =

@@ -8,7 +8,6 @@ use Rattle.records.specs.Layout.{tracking_in, type_in, balance_in, from_in, is_s
 use Rattle.notices.specs.Notices.{spaces, zeros, spaces_from}
 use Rattle.notices.specs.declared.acf.Acf.{Acf}
 use Rattle.notices.specs.declared.rej.Rej.{Rej}
-use Rattle.rules.specs.Numbers.{code_number}
 
 -- ---- ACF: "one header, the sender's", here h
 -- Tracking ID: replaced "on a SUP"
@@ -56,7 +55,7 @@ rej_detail sup d x =
     ++ from_back sup (from_in d)
     ++ positions d 88 259
     ++ text "BR"
-    ++ digits 2 (code_number x.code)
+    ++ digits 2 x.code
     ++ spaces_from 264
 
 unfoldable pub rej_details : Bool → List (List ℕ) → Rej → List ℕ

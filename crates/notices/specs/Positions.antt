@@ -14,7 +14,6 @@ use Rattle.notices.specs.declared.acf.Acf.{Acf}
 use Rattle.notices.specs.declared.rej.Rej.{Rej}
 use Rattle.notices.specs.Notices.{spaces, zeros, bil_alike, product_fill, cxl_alike}
 use Rattle.notices.specs.Answers.{acf_tracking, acf_scheduled, acf_balance, from_back}
-use Rattle.rules.specs.Numbers.{code_number}
 
 -- ---- what the records of all four notices share
 -- "1-41 alike": what Company, rate code, account, Tracking ID, type and Notification Code hold; "Transmission Date is today"
@@ -105,7 +104,7 @@ pub record RejDetailAt (sup : Bool) (d : List ℕ) (x : Rej) (r : List ℕ) : Ty
   pub key_to_charge : positions r 42 79 ≡ positions d 42 79
   pub from : from_in r ≡ from_back sup (from_in d)
   pub tiers_to_owed : positions r 88 259 ≡ positions d 88 259
-  pub error_code : error_code_in r ≡ text "BR" ++ digits 2 (code_number x.code)
+  pub error_code : error_code_in r ≡ text "BR" ++ digits 2 x.code
   pub rest : SpacesFromAt 264 r
 
 -- a group's header h and its details ds

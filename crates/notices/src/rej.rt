@@ -1,11 +1,11 @@
 // REJ: what sends a group back, with the code that rejects it. Crate answers writes it.
-use rules::ErrorCode;
 use units::Date;
 
-// What a REJ holds besides the sender's records: the error code, today and the Confirmation Number.
+// What a REJ holds besides the sender's records: the code, a number that stands behind BR, today and the Confirmation Number. (A number and no ErrorCode: any
+// code that a caller has is written.)
 #[derive(Clone, Copy)]
 pub struct Rej {
-    pub code: ErrorCode,
+    pub code: u64,
     pub today: Date,
     pub confirmation: u64,
 }

@@ -32,6 +32,7 @@ use Rattle.std.specs.Prelude.{Result, Ok, Err, ⊤}
 use Rattle.ledger.specs.declared.Posted.{Posted}
 use Rattle.rules.specs.declared.Cause.{Cause}
 use Rattle.rules.specs.declared.ErrorCode.{ErrorCode}
+use Rattle.rules.specs.Numbers.{code_number}
 
 -- ---- bytes that are so many records
 abbrev Records : List ℕ → Type 0
@@ -84,7 +85,7 @@ answer-records v g (Ok amounts) f =
     let a : Acf = record { terms = terms_of (sought v g); tracking = v.tracking; today = v.today; confirmation = v.confirmation } in
     (1, length-acf g.header (omega (arith, f.header)) a)
 answer-records v g (Err n) f =
-    rej-records g.header g.details (record { code = n; today = v.today; confirmation = v.confirmation }) f.header f.details
+    rej-records g.header g.details (record { code = code_number n; today = v.today; confirmation = v.confirmation }) f.header f.details
 
 answers-records : (before gs : List Group) (l : Book) → All Formed gs → Records (answers before l gs)
 unfolding answers

@@ -84,8 +84,8 @@ long-rej h ds x w a =
     ∙ omega (arith, length-rej-header h (omega arith) x, long-details (is_sup h) ds x a)
 
 -- ---- a group's verdict as it is read
-rej-verdict : (h : List ℕ) (ds : List (List ℕ)) (x : Rej) (ys : List ℕ) → length h ≡ 321 → All Whole ds → (ds ≡ [] → x.code ≡ Br17)
-    → read_verdict (rej h ds x ++ ys) (length ds) ≡ text "BR" ++ digits 2 (code_number x.code)
+rej-verdict : (h : List ℕ) (ds : List (List ℕ)) (x : Rej) (ys : List ℕ) → length h ≡ 321 → All Whole ds → (ds ≡ [] → x.code ≡ 17)
+    → read_verdict (rej h ds x ++ ys) (length ds) ≡ text "BR" ++ digits 2 x.code
 unfolding read_verdict rej_details tail digits
 rej-verdict h [] x ys w a f = rw (rej-told h [] x ys w, f refl)
 rej-verdict h (d ∷ ds) x ys w a f =
@@ -108,12 +108,13 @@ module _ (g : Group) (ys : List ℕ) (f : Formed g) where
   unfolding read_line group_line read_verdict
   acf-line x amounts = rw (acf-confirmation g.header x ys f.header, acf-told g.header x ys f.header)
 
-  rej-line : (x : Rej) → (g.details ≡ [] → x.code ≡ Br17) → read_line (rej g.header g.details x ++ ys) g ≡ group_line x.confirmation g (Err x.code)
+  rej-line : (c : ErrorCode) (x : Rej) → x.code ≡ code_number c → (g.details ≡ [] → c ≡ Br17) → read_line (rej g.header g.details x ++ ys) g ≡ group_line x.confirmation g (Err c)
   unfolding read_line group_line
-  rej-line x z =
+  rej-line c x e z =
       rw (
         rej-confirmation g.header g.details x ys f.header,
-        rej-verdict g.header g.details x ys f.header f.details z,
+        rej-verdict g.header g.details x ys f.header f.details (λ (n : g.details ≡ []). e ∙ ap code_number (z n)),
+        e,
       )
 
   acf-dropped : (x : Acf) → drop (answer_long (acf g.header x ++ ys) (length g.details)) (acf g.header x ++ ys) ≡ ys
@@ -130,7 +131,7 @@ module _ (g : Group) (ys : List ℕ) (f : Formed g) where
   line_read : (v : View) (c : Result Posted ErrorCode) → (g.details ≡ [] → c ≡ Err Br17) → read_line (answer v g c ++ ys) g ≡ group_line v.confirmation g c
   unfolding answer
   line_read v (Ok amounts) z = acf-line _ amounts
-  line_read v (Err n) z = rej-line _ (λ e. let q : Err n ≡ Err Br17 = z e in cc)
+  line_read v (Err n) z = rej-line n _ refl (λ e. let q : Err n ≡ Err Br17 = z e in cc)
 
   answer-dropped : (v : View) (c : Result Posted ErrorCode) → drop (answer_long (answer v g c ++ ys) (length g.details)) (answer v g c ++ ys) ≡ ys
   unfolding answer

@@ -22,4 +22,4 @@ post-bill-requires c =
 
 pub returns : goal.returns
 returns c =
-    turn-done c.args.out.now _ c.args.writes c.args.c c.args.g.now.file.now c.args.g.now.header c.args.g.now.records c.args.duplicate c.args.h c.args.f c.args.b _ c.sup_at-sup.ensures _ (verdict-now _ _ c.args.f c.args.b _ _ _ c.sought_by.ensures c.verdict_at-v.ensures) _ c.answer-size.ensures.1 c.answer-size.ensures.0 _ c.add-tally.ensures _ c.ids_used.ensures.0 _ c.post-bill.ensures
+    turn-done c.args.out.now _ c.args.writes c.args.c c.args.g.now.file.now c.args.g.now.header c.args.g.now.records c.args.duplicate c.args.h c.args.f c.args.b _ c.sup_at-sup.ensures _ (verdict-now _ _ c.args.f c.args.b _ _ _ c.sought_by.ensures c.verdict_at-v.ensures) _ c.numbered.ensures _ c.answer-size.ensures.1 c.answer-size.ensures.0 _ c.add-tally.ensures _ c.ids_used.ensures.0 _ c.post-bill.ensures

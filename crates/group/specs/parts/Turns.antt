@@ -24,6 +24,7 @@ use Rattle.ledger.specs.Limits.{ledger_places, last_sequence, used_up}
 use Rattle.ledger.specs.declared.Terms.{Terms}
 use Rattle.ledger.specs.declared.Posted.{Posted}
 use Rattle.rules.specs.declared.ErrorCode.{ErrorCode}
+use Rattle.rules.specs.Numbers.{code_number}
 
 -- ---- the bill that a group names
 -- the identity that a header and a detail name
@@ -80,23 +81,29 @@ CanPost (Err n) b = Unit {0}
 abbrev pub if_written : Bool → List ℕ → List ℕ
 if_written writes ys = cond writes ys []
 
-unfoldable pub answer_at : Result Posted ErrorCode → LedgerHeader → bill.Bill → Group → List ℕ
+-- a verdict, with the number that stands behind BR in place of its code
+abbrev pub numbered : Result Posted ErrorCode → Result Posted ℕ
+numbered (Ok amounts) = Ok amounts
+numbered (Err c) = Err (code_number c)
+
+-- the answer that a group gets, by its verdict: a rejection has any number
+unfoldable pub answer_at : Result Posted ℕ → LedgerHeader → bill.Bill → Group → List ℕ
 answer_at (Ok amounts) h b g =
     acf g.header (record { terms = b.terms; tracking = h.tracking; today = h.today; confirmation = h.confirmation })
 answer_at (Err n) h b g = rej g.header g.details (record { code = n; today = h.today; confirmation = h.confirmation })
 
 -- how many records it has: a REJ gives every detail back
-abbrev pub records_by : Result Posted ErrorCode → Group → ℕ
+abbrev pub records_by : Result Posted ℕ → Group → ℕ
 records_by (Ok amounts) g = 1
 records_by (Err n) g = length g.details + 1
 
 -- ---- the counts
--- the charge that a group posts, and the one that it replaces
-abbrev pub came_by : Result Posted ErrorCode → ℕ
+-- the charge that a group posts, and the one that it replaces: the code of a rejection is not read
+abbrev pub came_by : {E : Type 0} → Result Posted E → ℕ
 came_by (Ok amounts) = (charge_of amounts).0
 came_by (Err n) = 0
 
-abbrev pub went_by : Result Posted ErrorCode → bill.Bill → ℕ
+abbrev pub went_by : {E : Type 0} → Result Posted E → bill.Bill → ℕ
 went_by (Ok amounts) b = bill_charge b
 went_by (Err n) b = 0
 
@@ -105,7 +112,7 @@ abbrev pub no_tally : Tally
 no_tally = record { accepted = 0; rejected = 0; written = 0; came = 0; went = 0 }
 
 -- after one more, whose answer has so many bytes
-abbrev pub tallied : Tally → Result Posted ErrorCode → bill.Bill → ℕ → Tally
+abbrev pub tallied : {E : Type 0} → Tally → Result Posted E → bill.Bill → ℕ → Tally
 tallied c v b size =
     record {
       accepted = c.accepted + cond (is_accepted v) 1 0;
@@ -127,8 +134,8 @@ pub record WithinFile (c : Tally) : Type 0 where
 pub record TurnLeaves (v : Result Posted ErrorCode) (g : Group) (h : LedgerHeader) (b : bill.Bill) (c : Tally) (writes : Bool) (out₀ out : List ℕ) (r : TurnResult) : Type 0 where
   pub header : r.update.header ≡ header_by v (asks_id g) h
   pub bill : r.update.bill ≡ bill_by v (asks_id g) b
-  pub tally : r.tally ≡ tallied c v b (length (answer_at v h b g))
-  pub bytes : out ≡ put out₀ c.written (if_written writes (answer_at v h b g))
+  pub tally : r.tally ≡ tallied c v b (length (answer_at (numbered v) h b g))
+  pub bytes : out ≡ put out₀ c.written (if_written writes (answer_at (numbered v) h b g))
 
 -- ---- the same on a struct, wherever it is held
 -- what a turn asks of it

@@ -1,7 +1,7 @@
 -- `answers::rej::put_detail` meets its contract: seven writes, one after the other.
 use native.Mathlib.Omega.{arith}
 use Rattle.fields.proofs.PutLaws.{first, next}
-use mathlib.Core.Path.{refl, sym}
+use mathlib.Core.Path.{refl}
 use Rattle.fields.proofs.DigitLaws.{length_digits}
 use Rattle.notices.specs.Answers.{rej_detail}
 use Rattle.notices.proofs.NoticeLengths.{length-spaces-from}
@@ -18,4 +18,4 @@ returns c =
     let w4 = next w3 _ c.copy-2.ensures (length-within a.d.now c.requires.1 87 172 (omega arith)) in
     let w5 = next w4 _ c.put_text.ensures refl in
     let w6 = next w5 _ c.put_number.ensures (length_digits 2 _) in
-    rw (sym c.from.ensures) (next w6 _ c.put_end.ensures (length-spaces-from 264)).same
+    (next w6 _ c.put_end.ensures (length-spaces-from 264)).same
