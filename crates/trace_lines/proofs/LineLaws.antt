@@ -21,9 +21,7 @@ use Rattle.table.specs.Table.{cell, ended}
 use Rattle.table.proofs.TableLaws.{length-cell, length-number}
 use Rattle.trace_lines.specs.Lines.{call_name, sign_of, change_text, figure_cells, answer_cells, call_line}
 use Rattle.std.specs.Prelude.{Result, Ok, Err}
-use Rattle.rules.specs.declared.Cause.{Cause}
 use Rattle.calls.specs.declared.Returned.{Returned}
-use Rattle.rules.specs.Numbers.{cause_number}
 
 -- ---- the sign, by the test that the code makes
 sign-by : (x : ℤ) (b : Bool) → lt_z x (pos 0) ≡ b → sign_of x ≡ cond b (text "-") (text "0")
@@ -93,12 +91,12 @@ pub length-figures : (cause : ℕ) (change : ℤ) (accepted rejected closed : �
 unfolding figure_cells
 length-figures cause change accepted rejected closed = simp (length-append, length-cell, length_digits, length-change, length_last)
 
-pub length-answer : (a : Result Returned Cause) → length (answer_cells a) ≡ 33
+pub length-answer : (a : Result Returned ℕ) → length (answer_cells a) ≡ 33
 length-answer (Ok r) = length-figures 0 r.change r.accepted r.rejected r.closed
-length-answer (Err c) = length-figures (cause_number c) (pos 0) 0 0 0
+length-answer (Err n) = length-figures n (pos 0) 0 0 0
 
 -- ---- a line from its three parts
-pub line-put : (xs o₁ o₂ o₃ : List ℕ) (at number tag e : ℕ) (a : Result Returned Cause) → at ≤ length xs → o₁ ≡ put xs at (cell (digits 10 number))
+pub line-put : (xs o₁ o₂ o₃ : List ℕ) (at number tag e : ℕ) (a : Result Returned ℕ) → at ≤ length xs → o₁ ≡ put xs at (cell (digits 10 number))
     → o₂ ≡ put o₁ (at + 11) (cell (call_name tag)) → e ≡ at + 11 + length (cell (call_name tag)) → o₃ ≡ put o₂ e (answer_cells a)
     → (o₃ ≡ put xs at (call_line number tag a)) × (e + 33 ≡ at + length (call_line number tag a)) × (e + 33 ≤ at + 52)
 unfolding call_line

@@ -33,7 +33,7 @@ use Rattle.journal.proofs.HeadLaws.{tag_in, length_in, whole_is, whole-holds, wh
 use Rattle.journal.proofs.JournalLaws.{parse-cut, parse-bad, parse-whole}
 use Rattle.journal.proofs.BeginLaws.{whole-taken}
 use Rattle.journal.proofs.MadeLaws.{Taken, made-book}
-use Rattle.trace_lines.specs.Lines.{tag_of, call_line, group_lines}
+use Rattle.trace_lines.specs.Lines.{tag_of, call_line, numbered, group_lines}
 use Rattle.trace_lines.specs.Trace.{answer_to, entry_answer, lines_under, entry_lines, trace_lines}
 use Rattle.std.specs.Prelude.{Result, Ok, Err, ⊤}
 use Rattle.rules.specs.declared.Cause.{Cause}
@@ -158,7 +158,7 @@ module _ (l : Ledger) (h : sound_ledger l ≡ true) (seen number : ℕ) (s : Lis
     bytes = part s 3 (n - 3)
 
     pub trace-more : ahead
-        ≡ call_line number (tag_in s) (entry_called 64200 l b bytes).answer
+        ≡ call_line number (tag_in s) (numbered (entry_called 64200 l b bytes).answer)
         ++ lines_under (book l) b bytes
         ++ trace_lines (number + 1) (book (entry_called 64200 l b bytes).ledger) (parse (seen + 1) (drop n s)).entries
     unfolding trace_lines entry_lines
@@ -167,9 +167,9 @@ module _ (l : Ledger) (h : sound_ledger l ≡ true) (seen number : ℕ) (s : Lis
         let t : Taken b = whole-taken seen s b n e in
         let under : List ℕ = lines_under (book l) b bytes in
         ap (λ (p : Parsed). trace_lines number (book l) p.entries) (parse-whole seen s b n e)
-        ∙ ap (λ (m : ℕ). call_line number m (entry_answer (book l) b bytes) ++ under ++ trace_lines (number + 1) (after_entry b bytes (book l)) rest) (tag_is seen s b n e)
-        ∙ ap (λ (a : Result Returned Cause). call_line number (tag_in s) a ++ under ++ trace_lines (number + 1) (after_entry b bytes (book l)) rest) (sym (answer-in l h b bytes t))
-        ∙ ap (λ (k : Book). call_line number (tag_in s) (entry_called 64200 l b bytes).answer ++ under ++ trace_lines (number + 1) k rest) (sym (made-book l h b bytes t))
+        ∙ ap (λ (m : ℕ). call_line number m (numbered (entry_answer (book l) b bytes)) ++ under ++ trace_lines (number + 1) (after_entry b bytes (book l)) rest) (tag_is seen s b n e)
+        ∙ ap (λ (a : Result Returned Cause). call_line number (tag_in s) (numbered a) ++ under ++ trace_lines (number + 1) (after_entry b bytes (book l)) rest) (sym (answer-in l h b bytes t))
+        ∙ ap (λ (k : Book). call_line number (tag_in s) (numbered (entry_called 64200 l b bytes).answer) ++ under ++ trace_lines (number + 1) k rest) (sym (made-book l h b bytes t))
 
 -- what was put at the start of a list begins it: the answers that a file's call wrote at the start of its output
 pub put-begins : (xs ys : List ℕ) → put xs 0 ys ≡ ys ++ drop (0 + length ys) xs

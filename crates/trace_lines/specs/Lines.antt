@@ -55,17 +55,22 @@ figure_cells cause change accepted rejected closed =
     ++ ended (digits 3 closed)
 
 -- "00 if the call was carried out, else document 01's number"; "000 where a call has no such figure, and for a refused call"
-abbrev pub answer_cells : Result Returned Cause → List ℕ
+abbrev pub answer_cells : Result Returned ℕ → List ℕ
 answer_cells (Ok r) = figure_cells 0 r.change r.accepted r.rejected r.closed
-answer_cells (Err c) = figure_cells (cause_number c) (pos 0) 0 0 0
+answer_cells (Err n) = figure_cells n (pos 0) 0 0 0
 
 -- the line of a call with this tag: number of the entry (10 digits, from 1), call, cause, change, accepted, rejected, closed
-unfoldable pub call_line : ℕ → ℕ → Result Returned Cause → List ℕ
+unfoldable pub call_line : ℕ → ℕ → Result Returned ℕ → List ℕ
 call_line number tag a = cell (digits 10 number) ++ cell (call_name tag) ++ answer_cells a
+
+-- an answer, with the number of its cause in place of the cause
+abbrev pub numbered : Result Returned Cause → Result Returned ℕ
+numbered (Ok r) = Ok r
+numbered (Err c) = Err (cause_number c)
 
 -- the line of an entry: its number, its body, its bytes, its answer
 abbrev pub entry_line : ℕ → Body → List ℕ → Result Returned Cause → List ℕ
-entry_line number b bytes a = call_line number (tag_of b bytes) a
+entry_line number b bytes a = call_line number (tag_of b bytes) (numbered a)
 
 -- ---- a group's line: group,000000003,123456780019,0007,SUP,BR09
 -- the Bill Key as sent (42-45 of the group's first detail; four spaces for a group without detail)

@@ -10,7 +10,6 @@ ghost use Rattle.table.specs.Table.{cell, ended};
 ghost use Rattle.trace_lines.specs.Lines.{call_name, sign_of, change_text, figure_cells, answer_cells, call_line};
 
 use calls::Returned;
-use rules::Cause;
 
 // Numbers, signs and names are put at fixed widths into the lent output: `write!` would need a writer over the slice, which keeps no index for a line's other cells.
 // Writes 0 or -, 1 byte.
@@ -57,7 +56,7 @@ fn put_figures(out: &mut [u8], at: usize, cause: u64, r: Returned)
 }
 
 // Writes what a call answered, 33 bytes.
-fn put_answer(out: &mut [u8], at: usize, answer: Result<Returned, Cause>)
+fn put_answer(out: &mut [u8], at: usize, answer: Result<Returned, u64>)
     requires { at + 33 ≤ length out.old }
     ensures { out.new ≡ put out.old at (answer_cells answer) }
 {
@@ -71,7 +70,7 @@ fn put_answer(out: &mut [u8], at: usize, answer: Result<Returned, Cause>)
                 rejected: 0,
                 closed: 0,
             };
-            put_figures(out, at, u64::from(cause), zeros)
+            put_figures(out, at, cause, zeros)
         }
     }
 }
@@ -93,13 +92,13 @@ fn put_call(out: &mut [u8], at: usize, tag: u8) -> usize
     at + name.len()
 }
 
-// Writes the line of an entry with this number and tag, at most 52 bytes, and answers where it ends.
+// Writes the line of an entry with this number and tag, at most 52 bytes, and answers where it ends. A refused call has the number of its cause, any number.
 pub fn put_entry_line(
     out: &mut [u8],
     at: usize,
     number: u64,
     tag: u8,
-    answer: Result<Returned, Cause>,
+    answer: Result<Returned, u64>,
 ) -> usize
     requires { at + 52 ≤ length out.old }
     ensures { (out.new ≡ put out.old at (call_line number tag answer)) × (result ≡ at + length (call_line number tag answer)) × (result ≤ at + 52) }

@@ -27,7 +27,7 @@ use Rattle.journal.specs.EntryCalls.{entry_called, entry_written}
 use Rattle.journal.proofs.HeadLaws.{tag_in, whole-holds, whole-bytes}
 use Rattle.journal.proofs.BeginLaws.{whole-taken}
 use Rattle.entries.specs.parts.Running.{entry_at}
-use Rattle.trace_lines.specs.Lines.{tag_of, call_line, group_lines}
+use Rattle.trace_lines.specs.Lines.{tag_of, call_line, numbered, group_lines}
 use Rattle.trace_lines.specs.parts.ReadAnswers.{Lined}
 use Rattle.trace_lines.specs.Trace.{answer_to, entry_answer, lines_under, entry_lines}
 use Rattle.trace_lines.proofs.TraceLaws.{answer-in, Carried, file-done, file-refused, tag_is}
@@ -63,14 +63,14 @@ module _ (number : ℕ) (src : List ℕ) (n : ℕ) (a : Result Returned Cause) (
   bytes = part src 3 (n - 3)
 
   abbrev first-line : List ℕ
-  first-line = call_line number (tag_in src) a
+  first-line = call_line number (tag_in src) (numbered a)
 
   module _ (b : Body) (e : head_of seen src ≡ Whole b n) (q : a ≡ (entry_called 64200 l b bytes).answer) where
     answered : a ≡ entry_answer (book l) b bytes
     answered = q ∙ answer-in l h b bytes (whole-taken seen src b n e)
 
-    line-is : call_line number (tag_of b bytes) (entry_answer (book l) b bytes) ≡ first-line
-    line-is = ap₂ (call_line number) (tag_is seen src b n e) (sym answered)
+    line-is : call_line number (tag_of b bytes) (numbered (entry_answer (book l) b bytes)) ≡ first-line
+    line-is = ap₂ (λ (tag : ℕ) (x : Result Returned Cause). call_line number tag (numbered x)) (tag_is seen src b n e) (sym answered)
 
     pub only-line : (eqb (tag_in src) 2 && is_done a) ≡ false → first-line ≡ entry_lines (book l) number (entry_at src b n)
     unfolding entry_lines
@@ -125,7 +125,7 @@ module _ (number : ℕ) (src : List ℕ) (n : ℕ) (a : Result Returned Cause) (
 -- ---- what was written of an entry
 module _ (number : ℕ) (src : List ℕ) (n : ℕ) (a : Result Returned Cause) (sent out₀ : List ℕ) (at : ℕ) (fits : at ≤ length out₀) where
   abbrev line : List ℕ
-  line = call_line number (tag_in src) a
+  line = call_line number (tag_in src) (numbered a)
 
   pub lines-only : (out : List ℕ) (end : ℕ) (d : Bool) → d ≡ is_done a → (eqb (tag_in src) 2 && d) ≡ false
       → out ≡ put out₀ at line → end ≡ at + length line → end ≤ at + 52 → LinesOf number src n a sent out₀ at out end

@@ -4,6 +4,7 @@
 ghost use Rattle.std.specs.Prelude.{◌≡◌, true, ◌+◌, ◌-◌, ◌≤◌, length};
 ghost use Rattle.ledger.specs.Sound.{sound_ledger};
 ghost use Rattle.words.specs.Layout.{ledger_of};
+ghost use Rattle.trace_lines.specs.Lines.{numbered};
 ghost use Rattle.tracing.specs.parts.Tracing.{is_done, LinesOf, TracesIn, entry_room};
 ghost use Rattle.records.specs.Limits.{file_size};
 
@@ -22,6 +23,13 @@ fn is_done(a: Result<Returned, Cause>) -> bool
     a.is_ok()
 }
 
+// What a call answered, with the number of its cause in place of the cause.
+fn numbered(a: Result<Returned, Cause>) -> Result<Returned, u64>
+    ensures { result ≡ numbered a }
+{
+    a.map_err(u64::from)
+}
+
 // Writes the lines of the entry of n bytes at the start of src, whose call answered a and wrote at the start of sent, and answers where they end. (src goes
 // on behind the entry: cut to its n bytes, it would need a clause on its length.)
 fn put_lines(
@@ -38,7 +46,7 @@ fn put_lines(
     ensures { LinesOf number src.now n a sent.now out.old at out.new result }
 {
     let tag = src[0];
-    let end = trace_lines::put_entry_line(out, at, number, tag, a);
+    let end = trace_lines::put_entry_line(out, at, number, tag, numbered(a));
     let with_groups = (tag == 2) & is_done(a);
     if with_groups {
         let records = (n - 3) / records::RECORD_SIZE;
