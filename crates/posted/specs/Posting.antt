@@ -8,17 +8,17 @@ use Rattle.table.specs.Table.{table_of}
 use Rattle.journal.specs.Journal.{ends_bad}
 use Rattle.report.specs.Report.{posted_of, Claimed}
 use Rattle.streams.specs.declared.pieces.End.{End}
-use Rattle.streams.specs.declared.output.Failed.{Failed}
+use Rattle.streams.specs.declared.pieces.Unfinished.{Unfinished}
 use Rattle.streams.specs.declared.output.Output.{Output}
 use Rattle.streams.specs.declared.output.Stream.TheVariants.{Stdout}
 
 -- the table of the ledger in words, or nothing where a read failed
-abbrev pub table_by : Result End Failed → List ℕ → List ℕ
+abbrev pub table_by : Result End Unfinished → List ℕ → List ℕ
 table_by (Ok e) ws = table_of (book (ledger_of ws)) (ends_bad e.stopped e.left e.seen)
 table_by (Err x) ws = []
 
 -- it goes to standard output
-pub record TableWritten (e : Result End Failed) (ws before after : List ℕ) (o : Output) : Type 0 where
+pub record TableWritten (e : Result End Unfinished) (ws before after : List ℕ) (o : Output) : Type 0 where
   pub stream : o.stream ≡ Stdout
   pub bytes : after ≡ put before 0 (table_by e ws)
   pub size : o.length ≡ length (table_by e ws)

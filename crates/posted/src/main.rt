@@ -10,12 +10,12 @@ ghost use Rattle.posted.specs.Posting.{TableWritten, Posts, PostsAll};
 use entries::run;
 use replay::{Buffers, Wanted};
 use std::io::{Read, Write};
-use streams::output::{Failed, Output, Streams};
-use streams::pieces::End;
+use streams::output::{Output, Streams};
+use streams::pieces::{End, Unfinished};
 use streams::{arguments, output};
 
 // What is written at the end: to standard output, the table of the ledger in words, in `out`; nothing where a read failed.
-fn table_of(ws: &[u64], out: &mut [u8], e: Result<End, Failed>) -> Output
+fn table_of(ws: &[u64], out: &mut [u8], e: Result<End, Unfinished>) -> Output
     requires { OnOk e (sound_ledger (ledger_of ws.now) ≡ true) × (length out.old ≡ table_room) }
     ensures { TableWritten e ws.now out.old out.new result }
 {

@@ -14,6 +14,7 @@ use Rattle.replay.specs.declared.Wanted.{Wanted}
 use Rattle.std.proofs.Common.{◌++◌, Option, None, Some, subst, is_ok, append-nil, length-append, Result, Ok, Err, IfOk, IfSome}
 use Rattle.streams.specs.declared.output.Failed.{Failed}
 use Rattle.streams.specs.declared.pieces.End.{End}
+use Rattle.streams.specs.declared.pieces.Unfinished.{Unfinished}
 use Rattle.replay.specs.Reading.{written_of, Reads, ReadsFrom}
 use Rattle.replay.proofs.WholeLaws.{all-read}
 use Rattle.replay.proofs.ReadingLaws.{first_more}
@@ -27,15 +28,15 @@ use Rattle.streams.specs.Written.{Writes, AppendsFirst}
 use Rattle.replay.specs.Ending.{stop_by, StopLine, StopLineWritten, StopLineSize, EndsAll, last_to, WritesWanted}
 
 -- whether the reading ended bad, and nothing failed
-abbrev pub ends_by : Result End Failed → Bool
+abbrev pub ends_by : Result End Unfinished → Bool
 ends_by (Ok e) = ends_bad e.stopped e.left e.seen
 ends_by (Err x) = false
 
-stop-by : (e : Result End Failed) → stop_line (ends_by e) ≡ stop_by e
+stop-by : (e : Result End Unfinished) → stop_line (ends_by e) ≡ stop_by e
 stop-by (Ok e) = refl
 stop-by (Err x) = refl
 
-pub stop-line : (e : Result End Failed) (bad : Bool) (n : ℕ) (before after : List ℕ) → bad ≡ ends_by e
+pub stop-line : (e : Result End Unfinished) (bad : Bool) (n : ℕ) (before after : List ℕ) → bad ≡ ends_by e
     → n ≡ 0 + length (stop_line bad) → after ≡ put before 0 (stop_line bad)
     → StopLine e before after n
 stop-line e bad n before after b s q =
@@ -48,25 +49,25 @@ stop-line e bad n before after b s q =
       within = omega (arith, size, ap length bytes, put-longer before (stop_by e));
     }
 
-pub line-written : (t : Wanted) (ws buf out₀ out : List ℕ) (e : Result End Failed) (n : ℕ) → IfOk e (λ e. Reads t ws buf e) → StopLine e out₀ out n
+pub line-written : (t : Wanted) (ws buf out₀ out : List ℕ) (e : Result End Unfinished) (n : ℕ) → IfOk e (λ e. Reads t ws buf e) → StopLine e out₀ out n
     → StopLineWritten out n
 line-written t ws buf out₀ out e n x w = by e refl x
   where
     line : take n out ≡ stop_by e
     line = ap (take n) w.bytes ∙ front-put out₀ (stop_by e) n w.size
 
-    by : (r : Result End Failed) → e ≡ r → IfOk r (λ e. Reads t ws buf e) → StopLineWritten out n
+    by : (r : Result End Unfinished) → e ≡ r → IfOk r (λ e. Reads t ws buf e) → StopLineWritten out n
     by (Ok k) q x = record { failed = false; bytes = x.bytes; line = line ∙ ap stop_by q ∙ ap stop_line x.bad; within = w.within }
     by (Err f) q x = record { failed = true; bytes = []; line = line ∙ ap stop_by q; within = w.within }
 
 -- where the reader's bytes are known, it is the line of all of them
-pub ends-all : (t : Wanted) (known left held holds : Option (List ℕ)) (ws buf out₀ out : List ℕ) (e : Result End Failed) (n : ℕ)
+pub ends-all : (t : Wanted) (known left held holds : Option (List ℕ)) (ws buf out₀ out : List ℕ) (e : Result End Unfinished) (n : ℕ)
     → IfOk e (λ e. ReadsFrom t known left held holds ws buf e)
     → IfSome known (λ input. Writes e (written_of t 0 first_book (parse 0 input).entries) held holds) → StopLine e out₀ out n
     → IfSome known (λ input. EndsAll t input held holds out n)
 ends-all t None left held holds ws buf out₀ out e n x s w = tt
 ends-all t (Some input) left held holds ws buf out₀ out (Err f) n x s w =
-    record { went = Err f; written = s; line = ap (take n) w.bytes ∙ front-put out₀ (stop_line false) n w.size }
+    record { went = Err f.failed; written = s; line = ap (take n) w.bytes ∙ front-put out₀ (stop_line false) n w.size }
 ends-all t (Some input) left held holds ws buf out₀ out (Ok k) n x s w =
     let same = all-read input x.reads.bytes left x.came (λ z. x.ended (x.reads.stopped ∙ z)) in
     record {

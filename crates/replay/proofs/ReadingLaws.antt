@@ -32,6 +32,7 @@ use Rattle.input.specs.Filled.{Filled, Comes}
 use Rattle.replay.specs.declared.Wanted.{Wanted}
 use Rattle.replay.specs.declared.Wanted.TheVariants.{Nothing, Notices, Lines}
 use Rattle.streams.specs.declared.pieces.End.{End}
+use Rattle.streams.specs.declared.pieces.Unfinished.{Unfinished}
 use Rattle.replay.specs.declared.Piece.{Piece}
 use Rattle.entries.specs.declared.entry.Ended.{Ended}
 use Rattle.entries.specs.declared.entry.Ended.TheVariants.{Cut, Bad, Full}
@@ -281,7 +282,7 @@ reading-ended t had left held holds ws buf seen have total stopped x w none =
     }
 
 -- the input has ended
-pub input-ended : (t : Wanted) (had left left₁ held holds : Option (List ℕ)) (ws buf : List ℕ) (seen have total : ℕ) (f : Filled) (e : Result End Failed)
+pub input-ended : (t : Wanted) (had left left₁ held holds : Option (List ℕ)) (ws buf : List ℕ) (seen have total : ℕ) (f : Filled) (e : Result End Unfinished)
     → e ≡ end_of_input f seen have total → Reading t had left held holds ws buf seen have total → length buf ≡ 262144 → Comes have buf left left₁ f
     → (f ≡ Ok None → Waits seen (take have buf) false) → IfOk e (λ e. ReadsFrom t had left₁ held holds ws buf e)
 input-ended t had left left₁ held holds ws buf seen have total (Err x) e q read room c w = subst (λ r. IfOk r (λ e. ReadsFrom t had left₁ held holds ws buf e)) (sym q) tt
@@ -301,7 +302,7 @@ bad-not-full Full e = absurd (false≢true e)
 
 -- a bad entry has stopped it
 pub piece-ended : (t : Wanted) (had left held holds : Option (List ℕ)) (ws buf : List ℕ) (total : ℕ) (p : Piece) (stopped : Bool) (sent : Result (Unit {0}) Failed)
-    (e : Result End Failed) → stopped ≡ met_bad p.end → e ≡ end_of_piece (record { seen = p.seen; stopped = stopped; left = p.left; total = total }) sent
+    (e : Result End Unfinished) → stopped ≡ met_bad p.end → e ≡ end_of_piece (record { seen = p.seen; stopped = stopped; left = p.left; total = total }) sent
     → (is_err sent ≡ false → Reading t had left held holds ws buf p.seen p.left total)
     → (had_no_room p.end ≡ false → Waits p.seen (take p.left buf) (met_bad p.end)) → (is_err sent || stopped) ≡ true
     → IfOk e (λ e. ReadsFrom t had left held holds ws buf e)
@@ -343,9 +344,9 @@ read-failed t (Some input) left held holds ws buf seen have total x =
     first_more held holds holds (written_of t 0 first_book x.done) [] f.0 _ x.wrote (0, omega arith, Appends-nil holds) f.1
 
 -- the reading ended: all that is asked for of them was written, or, where it failed, the first of it
-pub written-by : (t : Wanted) (known left held holds : Option (List ℕ)) (ws buf : List ℕ) (e : Result End Failed)
+pub written-by : (t : Wanted) (known left held holds : Option (List ℕ)) (ws buf : List ℕ) (e : Result End Unfinished)
     → IfOk e (λ e. ReadsFrom t known left held holds ws buf e)
-    → ((f : Failed) → e ≡ Err f → IfSome known (λ input. AppendsFirst (written_of t 0 first_book (parse 0 input).entries) held holds))
+    → ((f : Unfinished) → e ≡ Err f → IfSome known (λ input. AppendsFirst (written_of t 0 first_book (parse 0 input).entries) held holds))
     → IfSome known (λ input. Writes e (written_of t 0 first_book (parse 0 input).entries) held holds)
 written-by t None left held holds ws buf e r w = tt
 written-by t (Some input) left held holds ws buf (Err f) r w = w f refl
@@ -360,8 +361,8 @@ grows (Some xs) bs = refl
 pub send-failed : (t : Wanted) (known left held holds : Option (List ℕ)) (ws buf : List ℕ) (seen have total : ℕ)
     → (x : Reading t known left held holds ws buf seen have total) (n : ℕ) (h : have ≤ n) (out₀ ws₁ buf₁ out₁ : List ℕ) (p : Piece)
     → PieceLeaves seen t n ws buf out₀ ws₁ buf₁ out₁ p → (left₁ holds₂ : Option (List ℕ)) → Consumes left left₁ (drop have (take n buf))
-    → (r : Result (Unit {0}) Failed) (e : Result End Failed) (end : End) → e ≡ end_of_piece end r → Writes r (take p.written out₁) holds holds₂
-    → (f : Failed) → e ≡ Err f → IfSome known (λ input. AppendsFirst (written_of t 0 first_book (parse 0 input).entries) held holds₂)
+    → (r : Result (Unit {0}) Failed) (e : Result End Unfinished) (end : End) → e ≡ end_of_piece end r → Writes r (take p.written out₁) holds holds₂
+    → (f : Unfinished) → e ≡ Err f → IfSome known (λ input. AppendsFirst (written_of t 0 first_book (parse 0 input).entries) held holds₂)
 unfolding reading-more
 send-failed t None left held holds ws buf seen have total x n h out₀ ws₁ buf₁ out₁ p m left₁ holds₂ c r e end q w f z = tt
 send-failed t (Some input) left held holds ws buf seen have total x n h out₀ ws₁ buf₁ out₁ p m left₁ holds₂ c (Ok u) e end q w f z =

@@ -5,6 +5,7 @@ use Rattle.fields.specs.Put.{put}
 use Rattle.table.specs.Table.{stop_line}
 use Rattle.journal.specs.Journal.{parse, first_book, ends_bad, is_bad}
 use Rattle.streams.specs.declared.pieces.End.{End}
+use Rattle.streams.specs.declared.pieces.Unfinished.{Unfinished}
 use Rattle.streams.specs.declared.output.Failed.{Failed}
 use Rattle.streams.specs.declared.output.Stream.{Stream}
 use Rattle.streams.specs.declared.output.Stream.TheVariants.{Stdout, Stderr}
@@ -14,12 +15,12 @@ use Rattle.replay.specs.declared.Wanted.{Wanted}
 use Rattle.replay.specs.declared.Wanted.TheVariants.{Nothing, Notices, Lines}
 
 -- the line `stopped,13` where the reading ended bad and nothing failed
-abbrev pub stop_by : Result End Failed → List ℕ
+abbrev pub stop_by : Result End Unfinished → List ℕ
 stop_by (Ok e) = stop_line (ends_bad e.stopped e.left e.seen)
 stop_by (Err x) = stop_line false
 
 -- it is put at the start of the output, n bytes
-pub record StopLine (e : Result End Failed) (before after : List ℕ) (n : ℕ) : Type 0 where
+pub record StopLine (e : Result End Unfinished) (before after : List ℕ) (n : ℕ) : Type 0 where
   pub bytes : after ≡ put before 0 (stop_by e)
   pub size : n ≡ length (stop_by e)
   pub within : n ≤ length after

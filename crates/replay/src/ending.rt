@@ -6,11 +6,11 @@ ghost use Rattle.table.specs.Table.{stop_size};
 use crate::{Buffers, Wanted};
 use entries::run;
 use std::io::{Read, Write};
-use streams::output::{Failed, Output, Stream, Streams};
-use streams::pieces::End;
+use streams::output::{Output, Stream, Streams};
+use streams::pieces::{End, Unfinished};
 
 // Puts the line that says that a bad entry stopped the reading, if one did and nothing failed; answers its length.
-fn stop_line(out: &mut [u8], e: Result<End, Failed>) -> usize
+fn stop_line(out: &mut [u8], e: Result<End, Unfinished>) -> usize
     requires { stop_size ≤ length out.old }
     ensures { StopLine e out.old out.new result }
 {

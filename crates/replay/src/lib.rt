@@ -21,7 +21,7 @@ use std::io;
 use std::io::{Read, Write};
 use streams::output::{Failed, Output, Streams};
 use streams::pieces;
-use streams::pieces::End;
+use streams::pieces::{End, Unfinished};
 
 pub mod ending;
 
@@ -124,7 +124,7 @@ pub fn read_all<R: Read, O: Write, E: Write>(
     buf: &mut [u8],
     out: &mut [u8],
     wanted: Wanted,
-) -> Result<End, Failed>
+) -> Result<End, Unfinished>
     requires { (ledger_of ws.old ≡ first_ledger) × (length buf.old ≡ piece_size) × (length out.old ≤ piece_size) }
     ensures reads { IfOk result (λ e. Reads wanted ws.new buf.new e) }
     ensures bytes { IfOk result (λ e. ReadsFrom wanted (R.remaining streams.old.input) (R.remaining streams.new.input)
@@ -158,5 +158,13 @@ pub fn read_all<R: Read, O: Write, E: Write>(
         left = p.left;
         full = p.end.is_full();
     }
-    Err(Failed::Read)
+    Err(Unfinished {
+        end: End {
+            seen,
+            stopped: false,
+            left,
+            total,
+        },
+        failed: Failed::Read,
+    })
 }

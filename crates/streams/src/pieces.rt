@@ -16,31 +16,44 @@ pub struct End {
     pub total: usize,
 }
 
-// How the reading ends where a read brought no bytes: the input has ended, or the read failed.
+// A reading that failed: where it had come to, as an `End` says it, and what failed.
+#[derive(Clone, Copy)]
+pub struct Unfinished {
+    pub end: End,
+    pub failed: Failed,
+}
+
+// How the reading ends where a read brought no bytes: the input has ended, or the read failed. Either way it says where.
 pub fn end_of_input<E: Write>(
     error: &mut E,
     f: io::Result<Option<usize>>,
     seen: u64,
     left: usize,
     total: usize,
-) -> Result<End, Failed>
+) -> Result<End, Unfinished>
     ensures { result ≡ end_of_input f seen left total }
 {
-    if input::unread(error, f) {
-        return Err(Failed::Read);
-    }
-    Ok(End {
+    let end = End {
         seen,
         stopped: false,
         left,
         total,
-    })
+    };
+    if input::unread(error, f) {
+        return Err(Unfinished {
+            end,
+            failed: Failed::Read,
+        });
+    }
+    Ok(end)
 }
 
-// How the reading ends after a piece: at a bad entry, or since its bytes could not be written.
-pub fn end_of_piece(end: End, written: Result<(), Failed>) -> Result<End, Failed>
+// How the reading ends after a piece: at a bad entry, or since its bytes could not be written. Either way it says where.
+pub fn end_of_piece(end: End, written: Result<(), Failed>) -> Result<End, Unfinished>
     ensures { result ≡ end_of_piece end written }
 {
-    written?;
-    Ok(end)
+    match written {
+        Ok(()) => Ok(end),
+        Err(failed) => Err(Unfinished { end, failed }),
+    }
 }
