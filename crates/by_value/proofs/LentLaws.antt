@@ -14,7 +14,7 @@ use Rattle.calls.specs.Machine.{called, step_in}
 use Rattle.calls.proofs.CallLaws.{cause-unsound, stopped, stopped-called}
 
 module _ (c : Call) (l : Ledger) where
-  -- a ledger that is not sound
-  pub unsound-called : sound_ledger l ≡ false → (r : Called) → r ≡ record { ledger = l; answer = Err BadArgument } → (out : List ℕ)
+  -- a ledger that is not sound, by the test of the slice that holds it
+  pub unsound-called : (m : Ledger) → m ≡ l → sound_ledger m ≡ false → (r : Called) → r ≡ record { ledger = l; answer = Err BadArgument } → (out : List ℕ)
       → (r ≡ called l c) × (out ≡ put out 0 (step_in l c).written)
-  unsound-called u r e out = rw e (stopped-called (stopped l c BadArgument (cause-unsound l c u)) out)
+  unsound-called m f u r e out = rw e (stopped-called (stopped l c BadArgument (cause-unsound l c (rw f at u))) out)

@@ -1,35 +1,32 @@
 // The calls on a ledger by value: each lends the ledger to the engine, if it is sound, and hands back what that left.
 #![tactic(auto)]
 
-ghost use Rattle.std.specs.Prelude.{◌≡◌, true, length};
+ghost use Rattle.std.specs.Prelude.{◌≡◌, true, length, Err};
 ghost use Rattle.fields.specs.Put.{put};
 ghost use Rattle.places.specs.parts.OneLedger.{holds_one, one_ledger};
 ghost use Rattle.causes.specs.Causes.{request, calendar, file, cancel, close, removal};
 ghost use Rattle.causes.specs.parts.Decisions.{as_call};
 ghost use Rattle.calls.specs.Machine.{step_in, called};
 ghost use Rattle.calls.specs.Days.{fresh_called};
-ghost use Rattle.by_value.specs.parts.Lent.{LentIfSound};
+ghost use Rattle.lookups.specs.Lookups.{open_in, amounts_in};
 
-use calls::{Called, Returned};
-use causes::{AccountRemoval, BillCall, CalendarRequest, Request, Start};
+use calls::{Called, Returned, carried_out};
+use causes::{AccountRemoval, BillCall, CalendarRequest, Request, Start, by_calendar};
 use engine::call;
 use ledger::{Identity, Ledger};
+use lookups::Amounts;
 use places::{checks, one_ledger};
 use rules::Cause;
 use units::Date;
 
-// The ledger lent for a call; where it is not sound the call is refused with 2, and the ledger is as it was.
-fn lend_sound(l: Ledger) -> Result<[Ledger; 1], Called>
-    ensures { LentIfSound l result }
+// "Returned is the number alone": the ledger is as it was.
+fn refused(l: Ledger, cause: Cause) -> Called
+    ensures { result ≡ record { ledger = l; answer = Err cause } }
 {
-    let lent = one_ledger::lend(l);
-    if !checks::sound(&lent) {
-        return Err(Called {
-            ledger: l,
-            answer: Err(Cause::BadArgument),
-        });
+    Called {
+        ledger: l,
+        answer: Err(cause),
     }
-    Ok(lent)
 }
 
 // The ledger that a call left, and what it answered.
@@ -43,24 +40,28 @@ fn left(lent: &[Ledger; 1], answer: Result<Returned, Cause>) -> Called
     }
 }
 
-// Begins a history: whatever the ledger held is gone.
+// Begins a history: whatever the ledger held is gone. Nothing of it is read, so none is lent: the empty one goes straight into what is handed back.
 pub fn fresh(l: Ledger, s: Start) -> Called
     ensures { result ≡ fresh_called l s }
 {
-    let mut lent = one_ledger::lend(l);
-    let answer = call::fresh_in(&mut lent, s);
-    left(&lent, answer)
+    match causes::checks::fresh_check(s) {
+        Err(cause) => refused(l, cause),
+        Ok(()) => Called {
+            ledger: Ledger::empty(s.today, s.tracking, s.confirmation),
+            answer: carried_out::quiet(0),
+        },
+    }
 }
 
-// Sets today to a later date. The lines that lend the ledger stand in each of the five calls: a function over the call as an `FnOnce` has no clause for what the
-// call leaves in an output that it captures (an `FnOnce` has no `step`), and three of the five write one.
+// Sets today to a later date. The lines that lend the ledger stand in each of the calls: a function over the call as an `FnOnce` has no clause for what the
+// call leaves in an output that it captures (an `FnOnce` has no `step`), and two of the four write one.
 pub fn close_day(l: Ledger, d: Date) -> Called
     ensures { result ≡ called l (close d) }
 {
-    let mut lent = match lend_sound(l) {
-        Ok(lent) => lent,
-        Err(refused) => return refused,
-    };
+    let mut lent = one_ledger::lend(l);
+    if !checks::sound(&lent) {
+        return refused(l, Cause::BadArgument);
+    }
     let answer = call::close_in(&mut lent, d);
     left(&lent, answer)
 }
@@ -69,10 +70,10 @@ pub fn close_day(l: Ledger, d: Date) -> Called
 pub fn remove_account(l: Ledger, a: AccountRemoval) -> Called
     ensures { result ≡ called l (removal a) }
 {
-    let mut lent = match lend_sound(l) {
-        Ok(lent) => lent,
-        Err(refused) => return refused,
-    };
+    let mut lent = one_ledger::lend(l);
+    if !checks::sound(&lent) {
+        return refused(l, Cause::BadArgument);
+    }
     let answer = call::removal_in(&mut lent, a);
     left(&lent, answer)
 }
@@ -81,10 +82,10 @@ pub fn remove_account(l: Ledger, a: AccountRemoval) -> Called
 pub fn take_file(l: Ledger, out: &mut [u8], s: &[u8]) -> Called
     ensures { (result ≡ called l (file s.now (length out.old))) × (out.new ≡ put out.old 0 (step_in l (file s.now (length out.old))).written) }
 {
-    let mut lent = match lend_sound(l) {
-        Ok(lent) => lent,
-        Err(refused) => return refused,
-    };
+    let mut lent = one_ledger::lend(l);
+    if !checks::sound(&lent) {
+        return refused(l, Cause::BadArgument); // 2, before 11
+    }
     let room = out.len();
     let answer = call::file_in(&mut lent, out, true, room, s);
     left(&lent, answer)
@@ -94,10 +95,10 @@ pub fn take_file(l: Ledger, out: &mut [u8], s: &[u8]) -> Called
 fn bill_call(l: Ledger, out: &mut [u8], c: BillCall) -> Called
     ensures { (result ≡ called l (as_call c (length out.old))) × (out.new ≡ put out.old 0 (step_in l (as_call c (length out.old))).written) }
 {
-    let mut lent = match lend_sound(l) {
-        Ok(lent) => lent,
-        Err(refused) => return refused,
-    };
+    let mut lent = one_ledger::lend(l);
+    if !checks::sound(&lent) {
+        return refused(l, Cause::BadArgument);
+    }
     let room = out.len();
     let answer = call::bill_call_in(&mut lent, out, true, room, c);
     left(&lent, answer)
@@ -110,7 +111,7 @@ pub fn request_bill(l: Ledger, out: &mut [u8], r: Request) -> Called
     bill_call(l, out, BillCall::Request(r))
 }
 
-// The call request that leaves its Scheduled Date to the calendar. That the ledger is sound comes before 14 and 15.
+// The call request that leaves its Scheduled Date to the calendar: the request with the date worked out. That the ledger is sound comes before 14 and 15.
 pub fn request_by_calendar(
     l: Ledger,
     out: &mut [u8],
@@ -119,13 +120,20 @@ pub fn request_by_calendar(
 ) -> Called
     ensures { (result ≡ called l (calendar q holidays.now (length out.old))) × (out.new ≡ put out.old 0 (step_in l (calendar q holidays.now (length out.old))).written) }
 {
-    let mut lent = match lend_sound(l) {
-        Ok(lent) => lent,
-        Err(unsound) => return unsound,
-    };
-    let room = out.len();
-    let answer = call::calendar_in(&mut lent, out, true, room, q, holidays);
-    left(&lent, answer)
+    let day = by_calendar::due_day(q, holidays, l.today);
+    match day {
+        Ok(d) => {
+            let r = by_calendar::on_date(q.request, d);
+            request_bill(l, out, r)
+        }
+        Err(cause) => {
+            let lent = one_ledger::lend(l);
+            if !checks::sound(&lent) {
+                return refused(l, Cause::BadArgument); // 2, before 14 and 15
+            }
+            refused(l, cause)
+        }
+    }
 }
 
 // The call cancel.
@@ -133,4 +141,18 @@ pub fn cancel_bill(l: Ledger, out: &mut [u8], id: Identity) -> Called
     ensures { (result ≡ called l (cancel id (length out.old))) × (out.new ≡ put out.old 0 (step_in l (cancel id (length out.old))).written) }
 {
     bill_call(l, out, BillCall::Cancel(id))
+}
+
+// The place of the open bill of an account that is due first; of equals it is the one first requested.
+pub fn open_bill_of(l: Ledger, account: u64) -> Result<usize, Cause>
+    ensures { result ≡ open_in l account }
+{
+    lookups::open_bill_of(&one_ledger::lend(l), account)
+}
+
+// The amounts of the bill with this identity.
+pub fn amounts_of(l: Ledger, id: Identity) -> Result<Amounts, Cause>
+    ensures { result ≡ amounts_in l id }
+{
+    lookups::amounts_of(&one_ledger::lend(l), id)
 }

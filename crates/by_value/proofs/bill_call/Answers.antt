@@ -1,6 +1,7 @@
 -- `by_value::bill_call` meets its contract: a ledger that is not sound is refused with 2.
+use mathlib.Core.Path.{sym, ◌∙◌}
 use Rattle.by_value.proofs.LentLaws.{unsound-called}
 use Rattle.by_value.proofs.bill_call.Goals as goal
 
-pub returns-in-Err : goal.returns-in-Err
-returns-in-Err c = unsound-called _ c.args.l c.in-Err.ensures.0 _ c.in-Err.ensures.1 _
+pub returns-then-not-sound : goal.returns-then-not-sound
+returns-then-not-sound c = unsound-called _ c.args.l _ c.lend-lent.ensures.1 (sym c.sound.ensures ∙ c.if-not-sound.true) _ c.refused.ensures _

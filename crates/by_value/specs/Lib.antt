@@ -1,2 +1,0 @@
--- For the calls by value.
-pub mod parts
