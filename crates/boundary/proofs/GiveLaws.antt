@@ -27,7 +27,7 @@ use Rattle.journal.specs.declared.Body.{Body}
 use Rattle.journal.specs.declared.Body.TheVariants as body
 use Rattle.journal.specs.declared.Head.{Head}
 use Rattle.journal.specs.declared.Head.TheVariants.{Cut, Bad, Whole}
-use Rattle.journal.specs.Entries.{head_of}
+use Rattle.journal.specs.Entries.{head_of, head_number}
 use Rattle.journal.specs.EntryCalls.{entry_called, entry_written}
 use Rattle.journal.proofs.MadeLaws.{Taken}
 use Rattle.engine.specs.parts.Calls.{CalledIn, FreshLeaves}
@@ -207,10 +207,10 @@ module _ (room seen : ℕ) (src ws : List ℕ) (x : ℤ) (ks out : List ℕ) whe
   refused : Gives (record { ledger = ledger_of ws; answer = Err BadEntry }) ws x ks ws x ks 13
   refused = record { number = refl; words = refl; ledger = refl; change = refl; counts = refl }
 
-  pub entry-cut : head_of seen src ≡ Cut → Headed (head_of seen src) ws x ks out (0 ∷ 1 ∷ []) 13
+  pub entry-cut : head_of seen src ≡ Cut → Headed (head_of seen src) ws x ks out (0 ∷ 1 ∷ []) (head_number Cut)
   entry-cut e = rw e (refused, (put-nil out 0, refl))
 
-  pub entry-bad : head_of seen src ≡ Bad → Headed (head_of seen src) ws x ks out (0 ∷ 0 ∷ []) 13
+  pub entry-bad : head_of seen src ≡ Bad → Headed (head_of seen src) ws x ks out (0 ∷ 0 ∷ []) (head_number Bad)
   entry-bad e = rw e (refused, (put-nil out 0, refl))
 
   pub entry_whole : (b : Body) (n : ℕ) → head_of seen src ≡ Whole b n → (ws₁ : List ℕ) (x₁ : ℤ) (ks₁ out₁ : List ℕ) (k : ℕ)

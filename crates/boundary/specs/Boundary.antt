@@ -17,13 +17,14 @@ use Rattle.journal.specs.declared.Body.{Body}
 use Rattle.journal.specs.declared.Body.TheVariants as body
 use Rattle.journal.specs.declared.Head.{Head}
 use Rattle.journal.specs.declared.Head.TheVariants.{Cut, Bad, Whole}
+use Rattle.journal.specs.Entries.{head_cause}
 use Rattle.journal.specs.EntryCalls.{entry_called, entry_written}
 use Rattle.table.specs.Table.{printed_by, printed}
 use Rattle.units.specs.declared.Date.{Date}
 use Rattle.rules.specs.declared.Cause.{Cause}
 use Rattle.rules.specs.Numbers.{cause_number}
 use Rattle.calls.specs.declared.Returned.{Returned}
-use Rattle.rules.specs.declared.Cause.TheVariants.{BadArgument, BadEntry}
+use Rattle.rules.specs.declared.Cause.TheVariants.{BadArgument}
 
 -- ---- the calls' arguments from numbers
 abbrev pub start_of : ℕ → ℕ → ℕ → Start
@@ -116,8 +117,8 @@ pub record Leaves (c : Called) (ys ws out₀ ws₁ out : List ℕ) (a : Result R
 -- ---- the entry at the start of a journal
 -- its call; no whole good entry stands there: 13
 abbrev pub head_called : ℕ → List ℕ → List ℕ → Head → Called
-head_called room ws src Cut = record { ledger = ledger_of ws; answer = Err BadEntry }
-head_called room ws src Bad = record { ledger = ledger_of ws; answer = Err BadEntry }
+head_called room ws src Cut = record { ledger = ledger_of ws; answer = Err (head_cause Cut) }
+head_called room ws src Bad = record { ledger = ledger_of ws; answer = Err (head_cause Bad) }
 head_called room ws src (Whole b n) = entry_in room ws b (part src 3 (n - 3))
 
 -- the bytes that it writes

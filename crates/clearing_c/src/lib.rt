@@ -250,14 +250,15 @@ pub fn clearing_entry(
     ensures told { found.new ≡ head_found (head_of seen journal.now) }
 {
     let h = journal::head_at(journal, seen);
+    let no_entry = u64::from(Cause::BadEntry);
     match h {
         Head::Cut => {
             *found = [0, 1];
-            u64::from(Cause::BadEntry)
+            no_entry
         }
         Head::Bad => {
             *found = [0, 0];
-            u64::from(Cause::BadEntry)
+            no_entry
         }
         Head::Whole(body, n) => {
             *found = [n as u64, 0];

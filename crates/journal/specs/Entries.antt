@@ -12,6 +12,8 @@ use Rattle.journal.specs.declared.Head.TheVariants.{Cut, Bad, Whole}
 use Rattle.journal.specs.declared.Frame.{Frame}
 use Rattle.records.specs.Limits.{file_size}
 use Rattle.rules.specs.declared.Cause.{Cause}
+use Rattle.rules.specs.declared.Cause.TheVariants.{BadEntry}
+use Rattle.rules.specs.Numbers.{cause_number}
 
 -- ---- the bodies: a field of digits is a number; a body with another field there is refused (2)
 -- the bytes at positions a to b hold digits only
@@ -131,8 +133,14 @@ frame_of s =
     let n = get_or s 1 0 * 256 + get_or s 2 0 in
     cond (good_length tag n && leb (n + 3) (length s)) (Some (record { tag = tag; length = n })) None
 
--- "journal entry bad | 13": document 01's number for each case of what stands there; for a whole entry its call answers
+-- "journal entry bad | 13": the cause where no whole good entry stands. (A whole one's call answers for itself: nothing asks its clause.)
+abbrev pub head_cause : Head → Cause
+head_cause Cut = BadEntry
+head_cause Bad = BadEntry
+head_cause (Whole b n) = BadEntry
+
+-- document 01's number for each case of what stands there; for a whole entry its call answers
 abbrev pub head_number : Head → ℕ
-head_number Cut = 13
-head_number Bad = 13
+head_number Cut = cause_number (head_cause Cut)
+head_number Bad = cause_number (head_cause Bad)
 head_number (Whole b n) = 0

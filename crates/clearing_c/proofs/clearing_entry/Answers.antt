@@ -19,10 +19,10 @@ slice_bounds-call-end c =
     omega (arith, whole-fits _ _ _ _ (sym c.head_at-h.ensures ∙ c.in-Whole.is))
 
 pub returns-in-Cut : goal.returns-in-Cut
-returns-in-Cut c = let e = entry-cut (length c.args.out.now) c.args.seen c.args.journal.now c.args.ledger.now _ _ c.args.out.now (sym c.head_at-h.ensures ∙ c.in-Cut.is) in rw c.from.ensures record { gives = e.0; written = e.1.0; told = e.1.1 }
+returns-in-Cut c = let e = entry-cut (length c.args.out.now) c.args.seen c.args.journal.now c.args.ledger.now _ _ c.args.out.now (sym c.head_at-h.ensures ∙ c.in-Cut.is) in rw c.from-no_entry.ensures record { gives = e.0; written = e.1.0; told = e.1.1 }
 
 pub returns-in-Bad : goal.returns-in-Bad
-returns-in-Bad c = let e = entry-bad (length c.args.out.now) c.args.seen c.args.journal.now c.args.ledger.now _ _ c.args.out.now (sym c.head_at-h.ensures ∙ c.in-Bad.is) in rw c.from-in-Bad.ensures record { gives = e.0; written = e.1.0; told = e.1.1 }
+returns-in-Bad c = let e = entry-bad (length c.args.out.now) c.args.seen c.args.journal.now c.args.ledger.now _ _ c.args.out.now (sym c.head_at-h.ensures ∙ c.in-Bad.is) in rw c.from-no_entry.ensures record { gives = e.0; written = e.1.0; told = e.1.1 }
 
 pub returns-in-Whole : goal.returns-in-Whole
 returns-in-Whole c = let e = entry_whole (length c.args.out.now) c.args.seen c.args.journal.now c.args.ledger.now _ _ c.args.out.now _ _ (sym c.head_at-h.ensures ∙ c.in-Whole.is) _ _ _ _ _ c.call.ensures.gives c.call.ensures.written in record { gives = e.0; written = e.1.0; told = e.1.1 }
