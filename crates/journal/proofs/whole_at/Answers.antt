@@ -1,28 +1,58 @@
--- `journal::whole_at` meets its contract: the body is read off the bytes behind tag and length.
-use mathlib.Core.Path.{◌≡◌, sym, ap, ap₂, ◌∙◌}
-use Prim.Native.Nat.{ℕ, ◌+◌, ◌-◌}
-use mathlib.Core.List.{List}
-use lib.ListN.{take, drop}
+-- `journal::whole_at` meets its contract: the tag's length is the one that its body asks for.
+use native.Mathlib.Omega.{arith}
 use borrow.Author.Tests.{ne_eqb}
-use Rattle.fields.specs.Put.{part}
-use Rattle.journal.specs.declared.Body.{Body}
-use Rattle.journal.specs.declared.Head.TheVariants.{Whole}
-use Rattle.journal.specs.Entries.{body_of, whole_of}
-use Rattle.journal.proofs.BodyLaws.{lent_length, lent-part}
+use Rattle.journal.specs.Entries.{body_of}
+use Rattle.journal.proofs.BodyLaws.{fresh-length, request-length, cancel-length, close-length, removal-length, lent_length, lent-part}
 use Rattle.journal.proofs.whole_at.Goals as goal
 
-body-is : (s : List ℕ) (tag n : ℕ) (read body : Body) → body ≡ read → read ≡ body_of tag (take (n + 3 - 3) (drop 3 s)) → body ≡ body_of tag (part s 3 n)
-body-is s tag n read body e f = e ∙ f ∙ ap (body_of tag) (lent-part s n)
+pub fresh_body-requires : goal.fresh_body-requires
+fresh_body-requires c =
+    let a = c.args in
+    omega (arith, fresh-length a.tag a.n c.in-0.is c.requires.0, lent_length a.s.now a.n c.requires.1)
 
-pub body_at-requires : goal.body_at-requires
-body_at-requires c = rw (lent_length c.args.s.now c.args.n c.requires.1) c.requires.0
+pub request_body-requires : goal.request_body-requires
+request_body-requires c =
+    let a = c.args in
+    omega (arith, request-length a.tag a.n c.in-1.is c.requires.0, lent_length a.s.now a.n c.requires.1)
 
-pub returns-then-tag-eq0 : goal.returns-then-tag-eq0
-returns-then-tag-eq0 c =
-    c.fresh_head.ensures
-    ∙ ap₂ (λ (t : ℕ) (b : Body). whole_of t b (c.args.n + 3)) (sym c.if-tag-eq0.true) (body-is c.args.s.now c.args.tag c.args.n _ _ c.unwrap_or-body.ensures c.body_at.ensures)
+pub cancel_body-requires : goal.cancel_body-requires
+cancel_body-requires c =
+    let a = c.args in
+    omega (arith, cancel-length a.tag a.n c.in-3.is c.requires.0, lent_length a.s.now a.n c.requires.1)
 
-pub returns : goal.returns
-returns c =
-    rw (ne_eqb _ _ c.if-tag-eq0.false)
-    (ap (λ (b : Body). Whole b (c.args.n + 3)) (body-is c.args.s.now c.args.tag c.args.n _ _ c.unwrap_or-body.ensures c.body_at.ensures))
+pub close_body-requires : goal.close_body-requires
+close_body-requires c =
+    let a = c.args in
+    omega (arith, close-length a.tag a.n c.in-4.is c.requires.0, lent_length a.s.now a.n c.requires.1)
+
+pub removal_body-requires : goal.removal_body-requires
+removal_body-requires c =
+    let a = c.args in
+    let r = c.in_default.in_default-own.rest in
+    omega (arith, removal-length a.tag a.n r.0.0.0.0.1 r.0.0.0.1 r.0.0.1 r.0.1 r.1 c.requires.0, lent_length a.s.now a.n c.requires.1)
+
+pub returns-in-0 : goal.returns-in-0
+unfolding body_of
+returns-in-0 c = rw (c.in-0.is, c.fresh_head.ensures, c.unwrap_or.ensures, c.fresh_body.ensures, lent-part)
+
+pub returns-in-1 : goal.returns-in-1
+unfolding body_of
+returns-in-1 c = rw (c.in-1.is, c.unwrap_or-in-1.ensures, c.request_body.ensures, lent-part)
+
+pub returns-in-2 : goal.returns-in-2
+unfolding body_of
+returns-in-2 c = rw c.in-2.is
+
+pub returns-in-3 : goal.returns-in-3
+unfolding body_of
+returns-in-3 c = rw (c.in-3.is, c.unwrap_or-in-3.ensures, c.cancel_body.ensures, lent-part)
+
+pub returns-in-4 : goal.returns-in-4
+unfolding body_of
+returns-in-4 c = rw (c.in-4.is, c.unwrap_or-in-4.ensures, c.close_body.ensures, lent-part)
+
+pub returns-in_default : goal.returns-in_default
+unfolding body_of
+returns-in_default c =
+    let r = c.in_default.in_default-own.rest in
+    rw (ne_eqb _ _ r.0.0.0.0.1, ne_eqb _ _ r.0.0.0.1, ne_eqb _ _ r.0.0.1, ne_eqb _ _ r.0.1, ne_eqb _ _ r.1, c.unwrap_or-in_default.ensures, c.removal_body.ensures, lent-part)
