@@ -59,9 +59,14 @@ pub fn calendar_in<T: Holder>(
     ensures { CalledIn T.holds T.held writes (calendar q holidays.now room) lent.old out.old lent.new out.new result }
 {
     let h = T::header(lent);
-    let day = by_calendar::due_day(q, holidays, h.today)?;
-    let r = by_calendar::on_date(q.request, day);
-    bill_call_in(lent, out, writes, room, BillCall::Request(r))
+    // No `?`: the must-fail edit that answers 15 to bad holidays changes the value of a line here.
+    match by_calendar::due_day(q, holidays, h.today) {
+        Ok(day) => {
+            let r = by_calendar::on_date(q.request, day);
+            bill_call_in(lent, out, writes, room, BillCall::Request(r))
+        }
+        Err(cause) => Err(cause),
+    }
 }
 
 // The file call.
@@ -114,7 +119,7 @@ pub fn removal_in<T: Holder>(lent: &mut [T], a: AccountRemoval) -> Result<Return
     let held = accounts::has_account(lent, count, a.account);
     checks::removal_check(a, held)?;
     accounts::remove(lent, count, a.account, a.date);
-    calls::carried_out::quiet(0)
+    calls::carried_out::quiet(0) // no bill is closed
 }
 
 // Fresh: whatever was held is gone; a fresh that is refused leaves everything as it was.
