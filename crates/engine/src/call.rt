@@ -4,12 +4,12 @@
 ghost use Rattle.std.specs.Prelude.{◌≡◌, true, ◌+◌, ◌≤◌, length, take};
 ghost use Rattle.rules.specs.Lists.{count};
 ghost use Rattle.ledger.specs.Sound.{sound_ledger};
-ghost use Rattle.causes.specs.Causes.{calendar, close, removal, file};
+ghost use Rattle.causes.specs.Causes.{request, calendar, close, removal, file};
 ghost use Rattle.causes.specs.Requests.{closes};
 ghost use Rattle.causes.specs.parts.Decisions.{as_call};
 ghost use Rattle.calls.specs.Machine.{called};
 ghost use Rattle.calls.specs.Days.{fresh_called};
-ghost use Rattle.engine.specs.parts.Calls.{CalledIn, FreshLeaves};
+ghost use Rattle.engine.specs.parts.Calls.{CalledIn, FreshLeaves, answered};
 ghost use Rattle.ledger.specs.Limits.{ledger_places};
 
 use crate::file_groups;
@@ -22,16 +22,18 @@ use places::{accounts, place};
 use rules::Cause;
 use units::Date;
 
-// A request or a cancel: its bill found, the call decided, and what that leaves stored.
-pub fn bill_call_in<T: Holder>(
+// What a request or a cancel does, and the change that it makes: its bill found, the call decided, and what that leaves stored. (A function of its own, which returns
+// the change alone: LLVM keeps the answer of each entry in memory where one is told by a function that it does not inline, and a close then counts its bills
+// where no one reads how many.)
+fn changed_in<T: Holder>(
     lent: &mut [T],
     out: &mut [u8],
     writes: bool,
     room: usize,
     c: BillCall,
-) -> Result<Returned, Cause>
+) -> Result<i64, Cause>
     requires { (sound_ledger (T.held lent.old) ≡ true) × (writes ≡ true → room ≤ length out.old) }
-    ensures { CalledIn T.holds T.held writes (as_call c room) lent.old out.old lent.new out.new result }
+    ensures { CalledIn T.holds T.held writes (as_call c room) lent.old out.old lent.new out.new (answered result) }
 {
     let h = T::header(lent);
     let count = h.count;
@@ -43,6 +45,36 @@ pub fn bill_call_in<T: Holder>(
     let k = u.bill;
     notice::put(out, writes, c, h, f, b, k);
     place::update(lent, p, u);
+    Ok(change)
+}
+
+// A request or a cancel.
+pub fn bill_call_in<T: Holder>(
+    lent: &mut [T],
+    out: &mut [u8],
+    writes: bool,
+    room: usize,
+    c: BillCall,
+) -> Result<Returned, Cause>
+    requires { (sound_ledger (T.held lent.old) ≡ true) × (writes ≡ true → room ≤ length out.old) }
+    ensures { CalledIn T.holds T.held writes (as_call c room) lent.old out.old lent.new out.new result }
+{
+    let change = changed_in(lent, out, writes, room, c)?;
+    calls::carried_out::noticed(change)
+}
+
+// A request.
+pub fn request_in<T: Holder>(
+    lent: &mut [T],
+    out: &mut [u8],
+    writes: bool,
+    room: usize,
+    r: Request,
+) -> Result<Returned, Cause>
+    requires { (sound_ledger (T.held lent.old) ≡ true) × (writes ≡ true → room ≤ length out.old) }
+    ensures { CalledIn T.holds T.held writes (request r room) lent.old out.old lent.new out.new result }
+{
+    let change = changed_in(lent, out, writes, room, BillCall::Request(r))?;
     calls::carried_out::noticed(change)
 }
 

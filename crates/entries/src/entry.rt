@@ -58,18 +58,15 @@ pub fn entry(
     requires has_room { writes ≡ true → room ≤ length out.old }
     ensures { EntryCalledIn writes room 0 body s.now ws.old out.old ws.new out.new result }
 {
-    // One call for the two bodies of a bill's call: with two LLVM kept the function and, for its sake, each entry's answer in memory, and a close counted its bills
-    // where no one reads how many (posted, closes of 128 bills: 12 times as long).
-    let c = match body {
-        Body::Request(r) => BillCall::Request(r),
-        Body::Cancel(id) => BillCall::Cancel(id),
-        Body::File => return call::file_in(ws, out, writes, room, s),
-        Body::Close(d) => return call::close_in(ws, d),
-        Body::Removal(a) => return call::removal_in(ws, a),
-        Body::Fresh(x) => return call::fresh_in(ws, x),
-        Body::Unread => return Err(Cause::BadArgument),
-    };
-    call::bill_call_in(ws, out, writes, room, c)
+    match body {
+        Body::Request(r) => call::request_in(ws, out, writes, room, r),
+        Body::File => call::file_in(ws, out, writes, room, s),
+        Body::Cancel(id) => call::bill_call_in(ws, out, writes, room, BillCall::Cancel(id)),
+        Body::Close(d) => call::close_in(ws, d),
+        Body::Removal(a) => call::removal_in(ws, a),
+        Body::Fresh(x) => call::fresh_in(ws, x),
+        Body::Unread => Err(Cause::BadArgument),
+    }
 }
 
 // Makes the entry at the start of src, after so many entries: "Each call's output there is 64,200 bytes".

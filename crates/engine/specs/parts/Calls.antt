@@ -1,9 +1,10 @@
 -- What a call leaves of a lent ledger. Assumes nothing.
-use Rattle.std.specs.Prelude.{ℕ, ◌≡◌, Bool, true, List, Result, Ok, Err}
+use Rattle.std.specs.Prelude.{ℕ, ℤ, ◌≡◌, Bool, true, List, Result, Ok, Err}
 use Rattle.fields.specs.Put.{put}
 use Rattle.group.specs.parts.Turns.{if_written}
 use Rattle.causes.specs.Causes.{Call}
 use Rattle.calls.specs.Machine.{called, step_in}
+use Rattle.calls.specs.parts.Answers.{noticed}
 use Rattle.ledger.specs.declared.Ledger.{Ledger}
 use Rattle.rules.specs.declared.Cause.{Cause}
 use Rattle.calls.specs.declared.Returned.{Returned}
@@ -21,3 +22,8 @@ pub record CalledIn {A : Type 0} (fits : List A → Bool) (held : List A → Led
 abbrev pub FreshLeaves : {A : Type 0} → (List A → Bool) → List A → List A → Result Returned Cause → Type 0
 FreshLeaves holds xs₀ xs (Ok r) = holds xs ≡ true
 FreshLeaves holds xs₀ xs (Err n) = xs ≡ xs₀
+
+-- the answer of a request or a cancel, by the change that it makes or the cause against it
+abbrev pub answered : Result ℤ Cause → Result Returned Cause
+answered (Ok change) = noticed change
+answered (Err n) = Err n

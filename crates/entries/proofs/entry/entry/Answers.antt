@@ -6,14 +6,21 @@ use Rattle.journal.proofs.MadeLaws.{Taken}
 use Rattle.engine.proofs.LentCalls.{said-none}
 use Rattle.entries.proofs.MadeParts.{made_by, made-unread}
 use Rattle.entries.proofs.entry.entry.Goals as goal
-use Rattle.entries.proofs.entry.entry.Goals.{in-Request, in-Cancel}
 
 pub fresh_in-requires : goal.fresh_in-requires
 fresh_in-requires c = eq-eqb _ _ (words_long _ (sound-holds _ c.requires.is_sound.0))
 
+pub returns-in-Request : goal.returns-in-Request
+returns-in-Request c =
+    rw c.in-Request.is (made_by c.args.writes c.args.room c.args.ws.now c.args.out.now c.requires.is_sound.0 c.args.s.now _ tt _ _ _ c.request_in.ensures.ledger c.request_in.ensures.answer c.request_in.ensures.bytes)
+
 pub returns-in-File : goal.returns-in-File
 returns-in-File c =
     rw c.in-File.is (made_by c.args.writes c.args.room c.args.ws.now c.args.out.now c.requires.is_sound.0 c.args.s.now _ tt _ _ _ c.file_in.ensures.ledger c.file_in.ensures.answer c.file_in.ensures.bytes)
+
+pub returns-in-Cancel : goal.returns-in-Cancel
+returns-in-Cancel c =
+    rw c.in-Cancel.is (made_by c.args.writes c.args.room c.args.ws.now c.args.out.now c.requires.is_sound.0 c.args.s.now _ tt _ _ _ c.bill_call_in.ensures.ledger c.bill_call_in.ensures.answer c.bill_call_in.ensures.bytes)
 
 pub returns-in-Close : goal.returns-in-Close
 returns-in-Close c =
@@ -29,15 +36,3 @@ returns-in-Fresh c =
 
 pub returns-in-Unread : goal.returns-in-Unread
 returns-in-Unread c = rw c.in-Unread.is (made-unread c.args.writes c.args.room c.args.ws.now c.args.out.now c.requires.is_sound.0 c.args.s.now)
-
-pub returns : goal.returns
-returns c =
-    let made = made_by c.args.writes c.args.room c.args.ws.now c.args.out.now c.requires.is_sound.0 c.args.s.now in
-    elim c.match-body.branch [
-      | in-Request w ↦
-          let e = rw w.c-is at c.bill_call_in.ensures in
-          rw w.in-Request.is (made _ tt _ _ _ e.ledger e.answer e.bytes)
-      | in-Cancel w ↦
-          let e = rw w.c-is at c.bill_call_in.ensures in
-          rw w.in-Cancel.is (made _ tt _ _ _ e.ledger e.answer e.bytes)
-    ]
