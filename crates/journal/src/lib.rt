@@ -1,11 +1,11 @@
 // Journal entries: what stands at the start of some bytes.
 #![tactic(auto)]
 
-ghost use Rattle.std.specs.Prelude.{◌≡◌, true, ◌+◌, ◌-◌, ◌*◌, ◌≤◌, ◌<◌, length, get_or, unwrap_or};
+ghost use Rattle.std.specs.Prelude.{◌≡◌, true, ◌+◌, ◌-◌, ◌*◌, ◌≤◌, ◌<◌, length, get_or};
 ghost use Rattle.fields.specs.Put.{part, put};
-ghost use Rattle.journal.specs.declared.Body.TheVariants.{Unread};
+ghost use Rattle.journal.specs.declared.Body.TheVariants as body;
 ghost use Rattle.journal.specs.Journal.{ends_bad};
-ghost use Rattle.journal.specs.parts.Fields.{identity_field_of};
+ghost use Rattle.journal.specs.parts.Fields.{identity_field_of, body_or};
 ghost use Rattle.journal.specs.Entries.{fresh_body, request_body, cancel_body, close_body, removal_body, body_of, good_length, in_turn, whole_of, head_by, head_of, frame_of};
 
 use causes::{AccountRemoval, Request, Start};
@@ -53,32 +53,33 @@ fn read_identity(s: &[u8], at: usize) -> Option<Identity>
     Some(Identity { account, key })
 }
 
-// The body of a fresh: today, Tracking, Confirmation; none, here and below, where a field that should be digits is not.
-fn fresh_body(s: &[u8]) -> Option<Body>
+// What the body of a fresh holds: today, Tracking, Confirmation; none, here and below, where a field that should be digits is not. (No Option of a `Body`: what is
+// taken out of one is moved as the largest body is, its padding too, and a load waits for the stores that it spans.)
+fn fresh_body(s: &[u8]) -> Option<Start>
     requires { 26 ≤ length s.now }
-    ensures { unwrap_or result Unread ≡ fresh_body s.now }
+    ensures { body_or body.Fresh result ≡ fresh_body s.now }
 {
     let today = fields::read_field(s, 0, 8)?;
     let tracking = fields::read_field(s, 8, 9)?;
     let confirmation = fields::read_field(s, 17, 9)?;
-    Some(Body::Fresh(Start {
+    Some(Start {
         today: Date(today),
         tracking,
         confirmation,
-    }))
+    })
 }
 
-// The body of a request: code, account, key, B or P, Billing, From, consumption, Scheduled.
-fn request_body(s: &[u8]) -> Option<Body>
+// That of a request: code, account, key, B or P, Billing, From, consumption, Scheduled.
+fn request_body(s: &[u8]) -> Option<Request>
     requires { 56 ≤ length s.now }
-    ensures { unwrap_or result Unread ≡ request_body s.now }
+    ensures { body_or body.Request result ≡ request_body s.now }
 {
     let identity = read_identity(s, 5)?;
     let billing = fields::read_field(s, 22, 8)?;
     let from = fields::read_field(s, 30, 8)?;
     let consumption = fields::read_field(s, 38, 10)?;
     let scheduled = fields::read_field(s, 48, 8)?;
-    Some(Body::Request(Request {
+    Some(Request {
         code: causes::code_field(s),
         identity,
         product: s[21],
@@ -86,38 +87,37 @@ fn request_body(s: &[u8]) -> Option<Body>
         from: Date(from),
         consumption: Ccf(consumption),
         scheduled: Date(scheduled),
-    }))
+    })
 }
 
-// The body of a cancel: account, key.
-fn cancel_body(s: &[u8]) -> Option<Body>
+// That of a cancel: account, key.
+fn cancel_body(s: &[u8]) -> Option<Identity>
     requires { 16 ≤ length s.now }
-    ensures { unwrap_or result Unread ≡ cancel_body s.now }
+    ensures { body_or body.Cancel result ≡ cancel_body s.now }
 {
-    let identity = read_identity(s, 0)?;
-    Some(Body::Cancel(identity))
+    read_identity(s, 0)
 }
 
-// The body of a close: the new today.
-fn close_body(s: &[u8]) -> Option<Body>
+// That of a close: the new today.
+fn close_body(s: &[u8]) -> Option<Date>
     requires { 8 ≤ length s.now }
-    ensures { unwrap_or result Unread ≡ close_body s.now }
+    ensures { body_or body.Close result ≡ close_body s.now }
 {
     let today = fields::read_field(s, 0, 8)?;
-    Some(Body::Close(Date(today)))
+    Some(Date(today))
 }
 
-// The body of a removal: account, date.
-fn removal_body(s: &[u8]) -> Option<Body>
+// That of a removal: account, date.
+fn removal_body(s: &[u8]) -> Option<AccountRemoval>
     requires { 20 ≤ length s.now }
-    ensures { unwrap_or result Unread ≡ removal_body s.now }
+    ensures { body_or body.Removal result ≡ removal_body s.now }
 {
     let account = fields::read_field(s, 0, layout::ACCOUNT.width)?;
     let date = fields::read_field(s, layout::ACCOUNT.width, 8)?;
-    Some(Body::Removal(AccountRemoval {
+    Some(AccountRemoval {
         account,
         date: Date(date),
-    }))
+    })
 }
 
 // Whether an entry with this tag may have this length.
@@ -161,8 +161,7 @@ fn fresh_head(b: Body, end: usize) -> Head
     }
 }
 
-// An entry with this tag and length whose bytes are all there. Each head is made where its body is read: LLVM copied a body that was chosen first and put into a head
-// after four times more, each time by loads that span two stores. (An entry with no body took 30 ns; by this, and by the one call in entries `entry`, 5.)
+// An entry with this tag and length whose bytes are all there. Each head is made where its body is read.
 fn whole_at(s: &[u8], tag: u8, n: usize) -> Head
     requires { (good_length tag n ≡ true) × (n + 3 ≤ length s.now) }
     ensures { result ≡ whole_of tag (body_of tag (part s.now 3 n)) (n + 3) }
@@ -170,12 +169,12 @@ fn whole_at(s: &[u8], tag: u8, n: usize) -> Head
     let end = n + 3;
     let body = &s[3..end];
     match tag {
-        0 => fresh_head(fresh_body(body).unwrap_or(Body::Unread), end),
-        1 => Head::Whole(request_body(body).unwrap_or(Body::Unread), end),
+        0 => fresh_head(fresh_body(body).map_or(Body::Unread, Body::Fresh), end),
+        1 => Head::Whole(request_body(body).map_or(Body::Unread, Body::Request), end),
         2 => Head::Whole(Body::File, end),
-        3 => Head::Whole(cancel_body(body).unwrap_or(Body::Unread), end),
-        4 => Head::Whole(close_body(body).unwrap_or(Body::Unread), end),
-        _ => Head::Whole(removal_body(body).unwrap_or(Body::Unread), end),
+        3 => Head::Whole(cancel_body(body).map_or(Body::Unread, Body::Cancel), end),
+        4 => Head::Whole(close_body(body).map_or(Body::Unread, Body::Close), end),
+        _ => Head::Whole(removal_body(body).map_or(Body::Unread, Body::Removal), end),
     }
 }
 
