@@ -73,11 +73,13 @@ pub fn code_field(s: &[u8]) -> CodeField
 }
 
 // What a request takes: the rate code in five bytes, the product as B or P (a byte and no Product, since that it is one of the two is asked of the call by cause 2).
+// The product stands behind the code: alone before a word it had seven bytes of padding behind it, which were moved with each entry of a journal as two words that
+// overlap, and each load of them waited for both stores.
 #[derive(Clone, Copy)]
 pub struct Request {
     pub code: CodeField,
-    pub identity: Identity,
     pub product: u8,
+    pub identity: Identity,
     pub billing: Date,
     pub from: Date,
     pub consumption: Ccf,
